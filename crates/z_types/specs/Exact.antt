@@ -2,7 +2,7 @@
 use Rattle.std.specs.Prelude.{◌≡◌, ℕ, Bool, true, false, ◌&&◌, ◌==◌, List, [], ◌∷◌, refl, None, Some}
 use Rattle.std.specs.List.{AllZip}
 use Rattle.std.specs.Option.{option_eq}
-use Rattle.std.proofs.Common.{subst, sym, ap}
+use Rattle.std.proofs.Common.{subst, sym, ◌∙◌, ap}
 use Rattle.std.proofs.lemmas.Bool.{eqb-true}
 use Rattle.std.proofs.lemmas.Bool.Decides.{Decides-int_eq}
 use Rattle.std.specs.Ordering.{int_eq}
@@ -74,3 +74,12 @@ bools_exact false true h = cc
 
 pub ints_exact : EqIsExact int_eq
 ints_exact a b h = (Decides-int_eq a b).0 h
+
+-- a value that is one with its parts is tested by them
+pub exact_by : {S A : Type 0} {eq : A → A → Bool} (parts : S → A) (made : A → S) → ((s : S) → made (parts s) ≡ s) → EqIsExact eq → EqIsExact (λ (s t : S). eq (parts s) (parts t))
+exact_by parts made again e s t h = sym (again s) ∙ ap made (e (parts s) (parts t) h) ∙ again t
+
+-- a pair is tested by its halves
+pub exact_both : {A B : Type 0} {eq : A → A → Bool} {test : B → B → Bool} → EqIsExact eq → EqIsExact test → EqIsExact (λ (p q : A × B). eq p.0 q.0 && test p.1 q.1)
+exact_both {A} {B} {eq} {test} e d p q h =
+    let w = both_true (eq p.0 q.0) (test p.1 q.1) h in λ i. (e p.0 q.0 w.0 i, d p.1 q.1 w.1 i)

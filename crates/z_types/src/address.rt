@@ -1,0 +1,12 @@
+//! Where a target is.
+
+use crate::Text;
+
+/// The address of a target.
+#[derive(PartialEq, Eq, Clone, Drop)]
+pub enum Address {
+    /// The built-in test target of a number, 0 to 999999.
+    Test(u32),
+    /// A host, of 1 to 64 octets, and a TCP port.
+    Tcp(Text, u16),
+}

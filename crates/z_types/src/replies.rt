@@ -1,0 +1,34 @@
+//! Replies of a target (ANSI/NISO Z39.50-2003, InitializeResponse, SearchResponse and Close).
+
+use crate::{Body, Close, Init, Text};
+
+/// A unit that a target sends. Its numbers are 0 to 2147483647.
+#[derive(PartialEq, Eq, Clone, Drop)]
+pub enum Reply {
+    /// An InitializeResponse.
+    Init {
+        /// What is answered to the versions, options and sizes asked for.
+        init: Init,
+        /// Whether the session is accepted.
+        result: bool,
+    },
+    /// A SearchResponse.
+    Search {
+        /// The referenceId of the request.
+        ref_id: Option<Text>,
+        /// The resultCount.
+        count: u32,
+        /// The numberOfRecordsReturned.
+        returned: u32,
+        /// The nextResultSetPosition.
+        next: u32,
+        /// The searchStatus.
+        ok: bool,
+        /// The presentStatus.
+        status: Option<u32>,
+        /// The records.
+        body: Body,
+    },
+    /// A Close.
+    Close(Close),
+}

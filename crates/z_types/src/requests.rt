@@ -1,0 +1,71 @@
+//! Requests of an origin (ANSI/NISO Z39.50-2003, InitializeRequest, SearchRequest and Close).
+
+use crate::{Diag, List, Oid, RpnQuery, Text};
+
+/// What a request asks for, or the diagnostic of a form that the gateway reads and does not serve.
+#[derive(PartialEq, Eq, Clone, Drop)]
+pub enum Asked<T> {
+    Good(T),
+    Bad(Diag),
+}
+
+/// An Init, asked or answered. Bit k of `versions` and `options` is the protocol's bit k.
+#[derive(PartialEq, Eq, Clone, Drop)]
+pub struct Init {
+    /// The referenceId.
+    pub ref_id: Option<Text>,
+    /// The protocol versions: bit 0 is version 1.
+    pub versions: u32,
+    /// The options: 0 search, 1 present, 7 scan, 14 named result sets.
+    pub options: u32,
+    /// The preferred message size in octets, 0 to 2147483647.
+    pub preferred: u32,
+    /// The exceptional record size in octets, 0 to 2147483647.
+    pub exceptional: u32,
+}
+
+/// A Search. Its numbers are 0 to 2147483647.
+#[derive(PartialEq, Eq, Clone, Drop)]
+pub struct Search {
+    /// The referenceId.
+    pub ref_id: Option<Text>,
+    /// The small-set upper bound.
+    pub small: u32,
+    /// The large-set lower bound.
+    pub large: u32,
+    /// The medium-set present number.
+    pub medium: u32,
+    /// The replace indicator.
+    pub replace: bool,
+    /// The name of the result set.
+    pub set_name: Text,
+    /// The databases, in the order named.
+    pub dbs: List<Text>,
+    /// The element set name of a small set.
+    pub small_element: Option<Text>,
+    /// The element set name of a medium set.
+    pub medium_element: Option<Text>,
+    /// The preferred record syntax.
+    pub syntax: Option<Oid>,
+    /// The query.
+    pub query: Asked<RpnQuery>,
+}
+
+/// A Close, of either side.
+#[derive(PartialEq, Eq, Clone, Drop)]
+pub struct Close {
+    /// The referenceId.
+    pub ref_id: Option<Text>,
+    /// The close reason, 0 to 2147483647: 0 finished, 4 cost limit, 6 protocol error.
+    pub reason: u32,
+    /// Diagnostic information.
+    pub info: Option<Text>,
+}
+
+/// A unit that an origin sends.
+#[derive(PartialEq, Eq, Clone, Drop)]
+pub enum Request {
+    Init(Init),
+    Search(Search),
+    Close(Close),
+}

@@ -1,0 +1,38 @@
+//! What a scan asks and answers (ANSI/NISO Z39.50-2003, ScanRequest and ListEntries).
+
+use crate::{Attr, List, Oid, Term};
+
+/// What a scan asks for.
+#[derive(PartialEq, Eq, Clone, Drop)]
+pub struct ScanAsk {
+    /// The attribute set of the attributes that name none.
+    pub attr_set: Option<Oid>,
+    /// The attributes of the index.
+    pub attrs: List<Attr>,
+    /// The term to begin at.
+    pub term: Term,
+    /// How many terms are passed over between two entries, 0 to 2147483647.
+    pub step: Option<u32>,
+    /// How many entries are asked for, 0 to 2147483647.
+    pub number: u32,
+    /// The place that the asked term is to have, 0 to 2147483647.
+    pub position: Option<u32>,
+}
+
+/// A term of an index (TermInfo).
+#[derive(PartialEq, Eq, Clone, Drop)]
+pub struct ScanEntry {
+    /// The term.
+    pub term: Term,
+    /// In how many records it occurs, 0 to 2147483647.
+    pub occurrences: Option<u32>,
+}
+
+/// The entries that a scan found.
+#[derive(PartialEq, Eq, Clone, Drop)]
+pub struct ScanAnswer {
+    /// The place of the asked term among the entries, from 1.
+    pub position: Option<u32>,
+    /// The entries in order.
+    pub entries: List<ScanEntry>,
+}
