@@ -1,0 +1,37 @@
+//! Files that are read whole.
+
+ghost use Rattle.std.specs.Prelude.{◌≡◌, ◌≤◌, ℕ, List, Option};
+ghost use Rattle.gw_outside.specs.Counts.{Rose};
+ghost use Rattle.gw_outside.specs.Files.{FileFits};
+
+use std::alloc::Global;
+use z_types::Text;
+
+/// What the read of a file gave.
+#[derive(Drop)]
+pub enum FileGot {
+    /// Its octets, at most as many as the limit.
+    Whole(Text),
+    /// It is longer than the limit.
+    Longer,
+    /// It could not be read, and the count of faults rose.
+    Failed,
+    /// No memory could be had.
+    Memory,
+}
+
+/// Files by their names.
+pub trait Files {
+    /// How many reads failed. It never falls.
+    ghost faults: { Self → ℕ };
+
+    /// The octets of the file of a name, where they are told. Reading changes none.
+    ghost told: { Self → List ℕ → Option (List ℕ) };
+
+    /// Reads the file of that name whole, unless it is longer than `limit` octets.
+    fn read_all(&mut self, alloc: Global, name: &Text, limit: usize) -> FileGot
+        ensures fits { FileFits (told self.old name.now) limit result }
+        ensures failed { result ≡ FileGot.Failed → Rose (faults self.old) (faults self.new) }
+        ensures told { (other : List ℕ) → told self.new other ≡ told self.old other }
+        ensures faults { faults self.old ≤ faults self.new };
+}
