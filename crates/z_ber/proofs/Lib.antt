@@ -1,0 +1,3 @@
+pub mod DigitSteps
+pub mod IntOctets
+pub mod Kept

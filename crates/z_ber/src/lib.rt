@@ -1,0 +1,11 @@
+//! The Basic Encoding Rules (X.690:2021) over octets in memory: headers, frames, lent elements, and
+//! the one written form of each element. What elements mean is left to the crates above.
+#![tactic(auto)]
+
+mod digits;
+mod put;
+mod spell;
+mod tag;
+
+pub use put::{put_bits, put_bool, put_bytes, put_int, put_oid, put_tree};
+pub use tag::Tag;

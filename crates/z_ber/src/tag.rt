@@ -1,0 +1,75 @@
+//! The tag of an element (X.690:2021, 8.1.2).
+
+ghost use Rattle.std.specs.Prelude.{◌≡◌, ◌^◌, ◌<◌, true, false};
+
+/// Class, form and number (X.690, 8.1.2.2). A valid tag has a class from 0 to 3 and a number from 0
+/// to 2147483647.
+#[derive(Clone, Copy, Debug, PartialEq, Eq)]
+pub struct Tag {
+    /// 0 universal, 1 application, 2 context, 3 private.
+    pub class: u8,
+    /// Whether the contents are elements.
+    pub constructed: bool,
+    /// From 0 to 2147483647.
+    pub number: u32,
+}
+
+impl Tag {
+    ghost use Rattle.z_ber.specs.Written.{IsTag};
+
+    /// A primitive tag of the universal class, such as 2 for INTEGER.
+    pub const fn universal(number: u32) -> Tag
+        requires { number < 2 ^ 31 }
+        ensures value { result ≡ record { class = 0; constructed = false; number = number } }
+        ensures valid { IsTag result }
+        ensures form { result.constructed ≡ false }
+    {
+        Tag {
+            class: 0,
+            constructed: false,
+            number,
+        }
+    }
+
+    /// A constructed tag of the universal class, such as 16 for SEQUENCE.
+    pub const fn constructed_universal(number: u32) -> Tag
+        requires { number < 2 ^ 31 }
+        ensures value { result ≡ record { class = 0; constructed = true; number = number } }
+        ensures valid { IsTag result }
+        ensures form { result.constructed ≡ true }
+    {
+        Tag {
+            class: 0,
+            constructed: true,
+            number,
+        }
+    }
+
+    /// A primitive tag of the context class.
+    pub const fn context(number: u32) -> Tag
+        requires { number < 2 ^ 31 }
+        ensures value { result ≡ record { class = 2; constructed = false; number = number } }
+        ensures valid { IsTag result }
+        ensures form { result.constructed ≡ false }
+    {
+        Tag {
+            class: 2,
+            constructed: false,
+            number,
+        }
+    }
+
+    /// A constructed tag of the context class.
+    pub const fn constructed_context(number: u32) -> Tag
+        requires { number < 2 ^ 31 }
+        ensures value { result ≡ record { class = 2; constructed = true; number = number } }
+        ensures valid { IsTag result }
+        ensures form { result.constructed ≡ true }
+    {
+        Tag {
+            class: 2,
+            constructed: true,
+            number,
+        }
+    }
+}
