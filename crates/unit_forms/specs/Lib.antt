@@ -1,0 +1,5 @@
+pub mod Fields
+pub mod Query
+pub mod Requests
+pub mod Replies
+pub mod Served

@@ -1,0 +1,8 @@
+//! The units of Z39.50 in their written form (ANSI/NISO Z39.50-2003), and a plain writer and reader
+//! of them.
+#![tactic(auto)]
+
+mod fields;
+mod replies;
+
+pub use replies::write_reply;
