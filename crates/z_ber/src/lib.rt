@@ -3,9 +3,11 @@
 #![tactic(auto)]
 
 mod digits;
+mod laws;
 mod put;
 mod spell;
 mod tag;
 
+pub use laws::{one_bits, one_bool, one_element, one_int, one_oid};
 pub use put::{put_bits, put_bool, put_bytes, put_int, put_oid, put_tree};
 pub use tag::Tag;

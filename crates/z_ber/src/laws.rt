@@ -1,0 +1,33 @@
+//! What is true of every written form: it stands for one value, and begins no other element. These
+//! functions do nothing; what they ensure is the law.
+
+ghost use Rattle.std.specs.Prelude.{◌≡◌, ℕ, ℤ, Bool, List, ◌++◌, IsTrue};
+ghost use Rattle.z_types.specs.Oid.{is_oid};
+ghost use Rattle.z_ber.specs.declared.tag.Tag.{Tag};
+ghost use Rattle.z_ber.specs.Written.{element, bool_octets, int_octets, bits_octets, oid_octets};
+
+/// An element that is written begins no other one, and its octets have one tag and one value of
+/// contents octets.
+pub fn one_element()
+    ensures { (s t : Tag) (a b x y : List ℕ) → element s a ++ x ≡ element t b ++ y → (s ≡ t) × (a ≡ b) × (x ≡ y) }
+{}
+
+/// The contents of a BOOLEAN stand for one value (X.690, 8.2).
+pub fn one_bool()
+    ensures { (a b : Bool) → bool_octets a ≡ bool_octets b → a ≡ b }
+{}
+
+/// The contents of an INTEGER stand for one number (X.690, 8.3).
+pub fn one_int()
+    ensures { (a b : ℤ) → int_octets a ≡ int_octets b → a ≡ b }
+{}
+
+/// The contents of a BIT STRING stand for one set of bits (X.690, 8.6).
+pub fn one_bits()
+    ensures { (a b : ℕ) → bits_octets a ≡ bits_octets b → a ≡ b }
+{}
+
+/// The contents of an OBJECT IDENTIFIER stand for one list of numbers (X.690, 8.19).
+pub fn one_oid()
+    ensures { (a b : List ℕ) → IsTrue (is_oid a) → IsTrue (is_oid b) → oid_octets a ≡ oid_octets b → a ≡ b }
+{}
