@@ -1,0 +1,13 @@
+//! The route: which databases there are, and where their searches go. Of configurations only the
+//! smallest is read so far.
+#![tactic(auto)]
+
+mod faults;
+mod lookup;
+mod route;
+mod smallest;
+
+pub use faults::RouteFault;
+pub use lookup::{database_named, first_address};
+pub use route::{Class, Database, Group, Index, PoolNumbers, Route, RouteLeg, Target};
+pub use smallest::read_route;

@@ -1,0 +1,102 @@
+//! The route and its parts. A number that names a target, database, leg or class is its place in
+//! the route's list of that kind, counted from 0.
+
+use z_types::{Address, Limits, List, Schema, Text};
+
+/// A target.
+#[derive(PartialEq, Eq, Clone, Drop)]
+pub struct Target {
+    /// Its name, 1 to 64 octets.
+    pub name: Text,
+    /// Where it is.
+    pub address: Address,
+}
+
+/// Targets that stand for one another.
+#[derive(PartialEq, Eq, Clone, Drop)]
+pub struct Group {
+    /// Its name, 1 to 64 octets.
+    pub name: Text,
+    /// The places of its 1 to 16 targets.
+    pub targets: List<u32>,
+}
+
+/// A virtual database, which clients name.
+#[derive(PartialEq, Eq, Clone, Drop)]
+pub struct Database {
+    /// Its name, 1 to 64 octets, which clients may write in any case of ASCII letters.
+    pub name: Text,
+    /// Whether a leg that refuses a search counts as one that finds nothing.
+    pub hide_errors: bool,
+    /// The places of its 1 to 16 legs.
+    pub legs: List<u32>,
+}
+
+/// A part of a virtual database: databases of a target.
+#[derive(PartialEq, Eq, Clone, Drop)]
+pub struct RouteLeg {
+    /// The place of the virtual database.
+    pub database: u32,
+    /// The place of the class.
+    pub class: u32,
+    /// The 1 to 16 databases, as the target names them.
+    pub databases: List<Text>,
+}
+
+/// A target or group that legs go to.
+#[derive(PartialEq, Eq, Clone, Drop)]
+pub struct Class {
+    /// Its name.
+    pub name: Text,
+    /// The addresses of its members.
+    pub addresses: List<Address>,
+}
+
+/// The numbers of the pool of sessions.
+#[derive(Clone, Copy, PartialEq, Eq, Debug)]
+pub struct PoolNumbers {
+    /// The most sessions open at a time for a class, 1 to 1000.
+    pub max_sessions: u32,
+    /// The most result sets of a session, 1 to 100.
+    pub sets_max: u32,
+    /// How long a session stays idle, 1 to 86400 seconds.
+    pub session_ttl: u64,
+    /// How long a result set stays unused, 1 to 86400 seconds.
+    pub set_ttl: u64,
+    /// How often a request searches again for a deleted set, 0 to 10.
+    pub repeats: u32,
+    /// How often a target is looked at for a reply, 1 to 1000000.
+    pub patience: u32,
+}
+
+/// A CQL index.
+#[derive(PartialEq, Eq, Clone, Drop)]
+pub struct Index {
+    /// Its name, with its prefix.
+    pub name: Text,
+    /// The Use attribute of bib-1, 0 to 2147483647.
+    pub value: u32,
+}
+
+/// Where searches go.
+#[derive(PartialEq, Eq, Clone, Drop)]
+pub struct Route {
+    /// The targets, in file order.
+    pub targets: List<Target>,
+    /// The groups, in file order.
+    pub groups: List<Group>,
+    /// The virtual databases, in file order.
+    pub databases: List<Database>,
+    /// The legs, in file order, database by database.
+    pub legs: List<RouteLeg>,
+    /// The classes, in the order in which the legs first name them.
+    pub classes: List<Class>,
+    /// The numbers of the pool.
+    pub pool: PoolNumbers,
+    /// What one connection may use.
+    pub limits: Limits,
+    /// The CQL indexes.
+    pub indexes: List<Index>,
+    /// The record schemas of SRU.
+    pub schemas: List<Schema>,
+}

@@ -1,0 +1,152 @@
+//! The smallest configuration: one target, and one database that is the target's own.
+
+ghost use Rattle.std.specs.Prelude.{◌≡◌, ◌↔◌, IfOk, IsTrue, [], ◌∷◌};
+ghost use Rattle.route_config.specs.Smallest.{smallest_text, smallest_route, IsConfiguration};
+
+use crate::{Class, Database, Index, PoolNumbers, Route, RouteFault, RouteLeg, Target};
+use std::alloc::Global;
+use z_types::{Address, Limits, List, Memory, Schema, Text};
+
+/// The text of the smallest configuration, each line ended by LF.
+const SMALLEST_TEXT: &[u8] = b"[[target]]\nname = \"alpha\"\naddress = \"test:0\"\n\n[[database]]\nname = \"Default\"\n\n[[database.leg]]\nvia = \"alpha\"\ndatabases = [\"Default\"]\n";
+
+/// The route of a configuration's octets. So far only the smallest configuration is read, and
+/// every other is refused as `Stage`.
+pub fn read_route(alloc: Global, text: &[u8]) -> Result<Route, RouteFault>
+    ensures { IsConfiguration text.now result }
+{
+    if is_smallest(text) {
+        Ok(Route::smallest(alloc)?)
+    } else {
+        Err(RouteFault::Stage)
+    }
+}
+
+/// Whether these are the octets of the smallest configuration.
+fn is_smallest(text: &[u8]) -> bool
+    ensures { IsTrue result ↔ (text.now ≡ smallest_text) }
+{
+    text == SMALLEST_TEXT
+}
+
+impl Route {
+    /// The route of the smallest configuration.
+    pub fn smallest(alloc: Global) -> Result<Route, Memory>
+        ensures { IfOk result (λ route. route ≡ smallest_route) }
+    {
+        Ok(Route {
+            targets: one(alloc, smallest_target(alloc)?)?,
+            groups: List::new(alloc),
+            databases: one(alloc, smallest_database(alloc)?)?,
+            legs: one(alloc, smallest_leg(alloc)?)?,
+            classes: one(alloc, smallest_class(alloc)?)?,
+            pool: default_pool(),
+            limits: default_limits(),
+            indexes: default_indexes(alloc)?,
+            schemas: one(alloc, default_schema(alloc)?)?,
+        })
+    }
+}
+
+/// The list of one item.
+fn one<T: Drop>(alloc: Global, item: T) -> Result<List<T>, Memory>
+    ensures { IfOk result (λ list. list ≡ item ∷ []) }
+{
+    let mut list = List::new(alloc);
+    list.push(item)?;
+    Ok(list)
+}
+
+fn smallest_target(alloc: Global) -> Result<Target, Memory>
+    ensures { IfOk result (λ target. target ∷ [] ≡ smallest_route.targets) }
+{
+    Ok(Target {
+        name: Text::copy_of(alloc, b"alpha")?,
+        address: Address::Test(0),
+    })
+}
+
+fn smallest_database(alloc: Global) -> Result<Database, Memory>
+    ensures { IfOk result (λ database. database ∷ [] ≡ smallest_route.databases) }
+{
+    Ok(Database {
+        name: Text::copy_of(alloc, b"Default")?,
+        hide_errors: false,
+        legs: one(alloc, 0)?,
+    })
+}
+
+fn smallest_leg(alloc: Global) -> Result<RouteLeg, Memory>
+    ensures { IfOk result (λ leg. leg ∷ [] ≡ smallest_route.legs) }
+{
+    Ok(RouteLeg {
+        database: 0,
+        class: 0,
+        databases: one(alloc, Text::copy_of(alloc, b"Default")?)?,
+    })
+}
+
+fn smallest_class(alloc: Global) -> Result<Class, Memory>
+    ensures { IfOk result (λ class. class ∷ [] ≡ smallest_route.classes) }
+{
+    Ok(Class {
+        name: Text::copy_of(alloc, b"alpha")?,
+        addresses: one(alloc, Address::Test(0))?,
+    })
+}
+
+fn default_pool() -> PoolNumbers
+    ensures { result ≡ smallest_route.pool }
+{
+    PoolNumbers {
+        max_sessions: 64,
+        sets_max: 10,
+        session_ttl: 300,
+        set_ttl: 60,
+        repeats: 2,
+        patience: 1000,
+    }
+}
+
+fn default_limits() -> Limits
+    ensures { result ≡ smallest_route.limits }
+{
+    Limits {
+        units: 100000,
+        searches: 10000,
+        records: 100000,
+        sets: 32,
+    }
+}
+
+fn default_indexes(alloc: Global) -> Result<List<Index>, Memory>
+    ensures { IfOk result (λ indexes. indexes ≡ smallest_route.indexes) }
+{
+    let mut indexes = List::new(alloc);
+    indexes.push(index(alloc, b"dc.title", 4)?)?;
+    indexes.push(index(alloc, b"dc.creator", 1003)?)?;
+    indexes.push(index(alloc, b"dc.subject", 21)?)?;
+    indexes.push(index(alloc, b"bath.isbn", 7)?)?;
+    indexes.push(index(alloc, b"bath.issn", 8)?)?;
+    indexes.push(index(alloc, b"cql.anywhere", 1016)?)?;
+    Ok(indexes)
+}
+
+fn index(alloc: Global, name: &[u8], value: u32) -> Result<Index, Memory>
+    ensures { IfOk result (λ index. index ≡ record { name = name.now; value = value }) }
+{
+    Ok(Index {
+        name: Text::copy_of(alloc, name)?,
+        value,
+    })
+}
+
+fn default_schema(alloc: Global) -> Result<Schema, Memory>
+    ensures { IfOk result (λ schema. schema ∷ [] ≡ smallest_route.schemas) }
+{
+    Ok(Schema {
+        name: Text::copy_of(alloc, b"dc")?,
+        uri: Text::copy_of(alloc, b"info:srw/schema/1/dc-v1.1")?,
+        element: Text::copy_of(alloc, b"dc")?,
+    })
+}

@@ -1,0 +1,14 @@
+//! What one connection may use (this project's own).
+
+/// The most that one connection may use.
+#[derive(Clone, Copy, PartialEq, Eq, Debug)]
+pub struct Limits {
+    /// Units, 1 to 1000000.
+    pub units: u32,
+    /// Searches, 1 to 1000000.
+    pub searches: u32,
+    /// Records, 1 to 1000000.
+    pub records: u32,
+    /// Result sets at a time, 1 to 1000.
+    pub sets: u32,
+}

@@ -1,0 +1,14 @@
+//! Record schemas of SRU (SRU 1.2, recordSchema).
+
+use crate::Text;
+
+/// A schema that an SRU client can ask for. Its texts have 1 to 128 octets.
+#[derive(PartialEq, Eq, Clone, Drop)]
+pub struct Schema {
+    /// Its short name.
+    pub name: Text,
+    /// Its identifier.
+    pub uri: Text,
+    /// The element set name that targets give its records under.
+    pub element: Text,
+}
