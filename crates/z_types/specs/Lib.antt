@@ -1,3 +1,4 @@
+pub mod Bib1
 pub mod Exact
 pub mod Oid
 pub mod Tree

@@ -1,6 +1,9 @@
 //! Diagnostics (ANSI/NISO Z39.50-2003, DefaultDiagFormat).
 
-use crate::{Oid, Text};
+ghost use Rattle.std.specs.Prelude.{◌≡◌, IfOk};
+
+use crate::{Memory, Oid, Text};
+use std::alloc::Global;
 
 /// What went wrong, as a target or the gateway tells it.
 #[derive(PartialEq, Eq, Clone, Drop)]
@@ -11,4 +14,19 @@ pub struct Diag {
     pub condition: u32,
     /// What the condition is about, as a name; it may be empty.
     pub addinfo: Text,
+}
+
+impl Diag {
+    ghost use Rattle.z_types.specs.Bib1.{bib1};
+
+    /// The diagnostic of a condition of the bib-1 set (ANSI/NISO Z39.50-2003, Appendix 4 ERR).
+    pub fn bib1(alloc: Global, condition: u32, addinfo: Text) -> Result<Diag, Memory>
+        ensures { IfOk result (λ diag. diag ≡ bib1 condition addinfo) }
+    {
+        Ok(Diag {
+            set: Oid::copy_of(alloc, &[1, 2, 840, 10003, 4, 1])?,
+            condition,
+            addinfo,
+        })
+    }
 }

@@ -1,0 +1,8 @@
+pub mod Stub
+pub mod Init
+pub mod State
+pub mod Marks
+pub mod Search
+pub mod Session
+pub mod Ending
+pub mod Answers

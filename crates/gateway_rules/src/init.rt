@@ -1,0 +1,33 @@
+//! The Init service (ANSI/NISO Z39.50-2003, 3.2.1.1).
+
+ghost use Rattle.std.specs.Prelude.{◌≡◌, IfOk};
+ghost use Rattle.gateway_rules.specs.Init.{init_reply};
+ghost use Rattle.gateway_rules.specs.Answers.{Answers};
+
+use z_types::{Init, Memory, Reply, copy};
+
+/// Versions 1 to 3.
+const OWN_VERSIONS: u32 = 0b111;
+
+/// Search, present, scan and named result sets.
+const OWN_OPTIONS: u32 = 1 << 0 | 1 << 1 | 1 << 7 | 1 << 14;
+
+/// The most octets of a message and of a record.
+const OWN_SIZE: u32 = 1048576;
+
+/// The reply to an Init.
+pub fn init_reply(init: &Init) -> Result<Reply, Memory>
+    ensures { IfOk result (λ reply. reply ≡ init_reply init.now) }
+{
+    let versions = init.versions & OWN_VERSIONS;
+    Ok(Reply::Init {
+        init: Init {
+            ref_id: copy(&init.ref_id)?,
+            versions,
+            options: init.options & OWN_OPTIONS,
+            preferred: init.preferred.min(OWN_SIZE),
+            exceptional: init.exceptional.min(OWN_SIZE),
+        },
+        result: versions != 0,
+    })
+}

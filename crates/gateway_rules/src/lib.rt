@@ -1,0 +1,7 @@
+//! What the gateway answers: the rules of a client's session, as definitions, and the plain ones
+//! of them as functions.
+#![tactic(auto)]
+
+mod init;
+
+pub use init::init_reply;

@@ -1,0 +1,9 @@
+//! Replays: the octets that a script feeds to each client are answered, and a report of it is
+//! printed.
+#![tactic(auto)]
+
+mod page;
+mod reports;
+
+pub use page::print;
+pub use reports::{ClientReport, Report};
