@@ -1,5 +1,9 @@
 pub mod DigitSteps
+pub mod ElementLaws
+pub mod HeaderReading
 pub mod IntOctets
 pub mod Kept
-pub mod ElementLaws
+pub mod LengthReading
+pub mod Room
+pub mod TagReading
 pub mod ValueLaws

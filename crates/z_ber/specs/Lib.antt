@@ -1,1 +1,4 @@
+pub mod Header
+pub mod HeaderAnswer
+pub mod Reading
 pub mod Written

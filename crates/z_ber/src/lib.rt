@@ -3,11 +3,17 @@
 #![tactic(auto)]
 
 mod digits;
+mod fault;
+mod frame;
 mod laws;
 mod put;
+mod read;
 mod spell;
 mod tag;
 
+pub use fault::BerFault;
+pub use frame::FRAME_MAX;
 pub use laws::{one_bits, one_bool, one_element, one_int, one_oid};
 pub use put::{put_bits, put_bool, put_bytes, put_int, put_oid, put_tree};
-pub use tag::Tag;
+pub use read::header;
+pub use tag::{Header, Tag};

@@ -1,4 +1,4 @@
-//! The tag of an element (X.690:2021, 8.1.2).
+//! The tag and the header of an element (X.690:2021, 8.1.2, 8.1.3).
 
 ghost use Rattle.std.specs.Prelude.{◌≡◌, ◌^◌, ◌<◌, true, false};
 
@@ -72,4 +72,15 @@ impl Tag {
             number,
         }
     }
+}
+
+/// A tag and a length (X.690, 8.1.2, 8.1.3).
+#[derive(Clone, Copy, Debug, PartialEq, Eq)]
+pub struct Header {
+    /// The tag, valid.
+    pub tag: Tag,
+    /// How many octets the header takes itself.
+    pub size: usize,
+    /// How many octets the contents take; `None` for the indefinite form.
+    pub length: Option<u64>,
 }

@@ -1,0 +1,96 @@
+-- Headers from left to right, with the first fault that is met. The readers in src/ go this way; public contracts do not cite it (X.690:2021, 8.1.2, 8.1.3).
+use Rattle.std.specs.Prelude.{◌≡◌, ℕ, zero, suc, ◌+◌, ◌-◌, ◌*◌, ◌/◌, ◌%◌, ◌^◌, List, [], ◌∷◌, length, take, drop, Bool, Option, Some, None, Result, Ok, Err, nat_lt, nat_le, min, true, ◌==◌, ◌||◌, if◌then◌else◌}
+use Rattle.std.specs.Int.Digits.{number_from_digits}
+use Rattle.z_ber.specs.declared.fault.BerFault.{BerFault}
+use Rattle.z_ber.specs.declared.fault.BerFault.TheVariants.{Short, BadTag, BadLength, TooLarge}
+use Rattle.z_ber.specs.declared.tag.Tag.{Tag}
+
+infixl 10 ◌>>=◌
+abbrev pub ◌>>=◌ : {A B : Type 0} → Result A BerFault → (A → Result B BerFault) → Result B BerFault
+(Ok x) >>= f = f x
+(Err e) >>= f = Err e
+
+-- what a function returned, seen by view, is what reading gives
+abbrev pub Gives : {X Y : Type 0} → (X → Y) → Result X BerFault → Result Y BerFault → Type 0
+Gives view (Ok x) read = read ≡ Ok (view x)
+Gives view (Err e) read = read ≡ Err e
+
+-- a number that ends here
+abbrev pub number_end : ℕ → List ℕ → Result (ℕ × List ℕ) BerFault
+number_end number rest = if nat_lt number 31 then Err BadTag else Ok (number, rest)
+
+-- a number at seven bits an octet, of which the high part is known
+abbrev pub septets_at : ℕ → List ℕ → Result (ℕ × List ℕ) BerFault
+septets_at high [] = Err Short
+septets_at high (octet ∷ rest) =
+    if nat_lt octet 128 then number_end (high * 128 + octet) rest
+    else (if (high * 128 + (octet - 128) == 0) || nat_lt 16777215 (high * 128 + (octet - 128)) then Err BadTag else septets_at (high * 128 + (octet - 128)) rest)
+
+-- the tag that a lead octet and a number make
+abbrev pub tag_of : ℕ → ℕ → Tag
+tag_of lead number = record { class = lead / 64; constructed = lead / 32 % 2 == 1; number = number }
+
+-- the identifier octets
+unfoldable pub tag_at : List ℕ → Result (Tag × List ℕ) BerFault
+tag_at [] = Err Short
+tag_at (lead ∷ rest) =
+    if nat_lt (lead % 32) 31 then Ok (tag_of lead (lead % 32), rest) else (septets_at 0 rest >>= λ n. Ok (tag_of lead n.0, n.1))
+
+-- so many octets, with zeros for those that have not come
+abbrev pub padded : ℕ → List ℕ → List ℕ
+padded zero bytes = []
+padded (suc count) [] = 0 ∷ padded count []
+padded (suc count) (octet ∷ bytes) = octet ∷ padded count bytes
+
+-- a long form of so many octets
+abbrev pub long_at : ℕ → List ℕ → Result (Option ℕ × List ℕ) BerFault
+long_at count rest =
+    if nat_lt (length rest) count then Err Short else Ok (Some (number_from_digits 256 (padded count rest)), drop count rest)
+
+-- the indefinite form
+abbrev pub indefinite_at : Bool → List ℕ → Result (Option ℕ × List ℕ) BerFault
+indefinite_at constructed rest = if constructed then Ok (None, rest) else Err BadLength
+
+-- the length octets
+unfoldable pub length_at : Bool → List ℕ → Result (Option ℕ × List ℕ) BerFault
+length_at constructed [] = Err Short
+length_at constructed (lead ∷ rest) =
+    if nat_lt lead 128 then Ok (Some lead, rest)
+    else (if lead == 128 then indefinite_at constructed rest
+    else (if nat_lt 136 lead then Err BadLength else long_at (lead - 128) rest))
+
+-- tag, length and what follows them
+unfoldable pub header_at : List ℕ → Result (Tag × Option ℕ × List ℕ) BerFault
+header_at bytes = do
+  tag ← tag_at bytes
+  len ← length_at tag.0.constructed tag.1
+  Ok (tag.0, len.0, len.1)
+
+-- a frame whose length has come in part, behind a tag of so many octets, may still be small enough
+abbrev pub has_room_after : ℕ → List ℕ → Bool
+has_room_after size [] = true
+has_room_after size (lead ∷ digits) =
+    let count = min (lead - 128) 8 in
+    nat_le (size + 1 + count + number_from_digits 256 (padded count digits)) 1048576
+
+-- the same for a header that has come in part
+abbrev pub has_room_behind : List ℕ → Result (Tag × List ℕ) BerFault → Bool
+has_room_behind bytes (Ok tag) = has_room_after (length bytes - length tag.1) tag.1
+has_room_behind bytes (Err _) = true
+
+-- a definite header of so many octets, and a length
+abbrev pub body_at : ℕ → ℕ → List ℕ → Result ℕ BerFault
+body_at size len body =
+    if nat_lt 1048576 (size + len) then Err (TooLarge (min (size + len) (2 ^ 64 - 1)))
+    else (if nat_lt (length body) len then Err Short else Ok (size + len))
+
+-- a definite frame, behind its header
+abbrev pub frame_behind : List ℕ → Result (Tag × Option ℕ × List ℕ) BerFault → Result ℕ BerFault
+frame_behind bytes (Ok (tag, None, body)) = Err BadLength
+frame_behind bytes (Ok (tag, Some len, body)) = body_at (length bytes - length body) len body
+frame_behind bytes (Err Short) = if has_room_behind bytes (tag_at bytes) then Err Short else Err BadLength
+frame_behind bytes (Err fault) = Err fault
+
+-- a definite frame
+unfoldable pub frame_at : List ℕ → Result ℕ BerFault
+frame_at bytes = frame_behind bytes (header_at bytes)

@@ -1,0 +1,75 @@
+//! Frames of a definite length at the front of octets (X.690:2021, 8.1.3.4, 8.1.3.5).
+
+ghost use Rattle.std.specs.Prelude.{◌≡◌, ◌↔◌, ℕ, ◌+◌, ◌-◌, ◌*◌, ◌^◌, ◌<◌, ◌≤◌, List, length, take, drop, nat_le, IfOk, IfErr, Ok, Err};
+ghost use Rattle.z_ber.specs.Reading.{Gives, tag_at, header_at, has_room_after, has_room_behind, body_at, frame_behind, frame_at};
+
+use crate::read::{padded_number, read_header, read_tag};
+use crate::{BerFault, Tag};
+
+/// No frame takes more octets than these.
+pub const FRAME_MAX: u64 = 1_048_576;
+
+/// Whether so many octets, and so many more, are no more than a frame may have.
+fn is_small(size: u64, more: u64) -> bool
+    ensures { result ≡ nat_le (size + more) 1048576 }
+{
+    size <= FRAME_MAX && more <= FRAME_MAX && size + more <= FRAME_MAX
+}
+
+/// Whether a frame whose length has come in part, behind a tag of so many octets, may still be
+/// small enough.
+fn has_room_after(size: usize, rest: &[u8]) -> bool
+    requires { size < 2 ^ 63 }
+    ensures { result ≡ has_room_after size rest.now }
+{
+    match rest {
+        [] => true,
+        [lead, digits @ ..] => {
+            let count = lead.saturating_sub(128).min(8);
+            let least = padded_number(0, count, digits);
+            is_small(size as u64 + 1 + u64::from(count), least)
+        }
+    }
+}
+
+/// Whether a frame whose header has come in part may still be small enough.
+fn has_room_behind(bytes: &[u8]) -> bool
+    ensures { result ≡ has_room_behind bytes.now (tag_at bytes.now) }
+{
+    match read_tag(bytes) {
+        Ok((_, rest)) => has_room_after(bytes.len() - rest.len(), rest),
+        Err(_) => true,
+    }
+}
+
+/// The octets of a frame, behind a definite header of so many octets.
+fn body(size: usize, len: u64, body: &[u8]) -> Result<usize, BerFault>
+    ensures { result ≡ body_at size len body.now }
+{
+    if !is_small(size as u64, len) {
+        return Err(BerFault::TooLarge((size as u64).saturating_add(len)));
+    }
+    if (body.len() as u64) < len {
+        return Err(BerFault::Short);
+    }
+    Ok(size + len as usize)
+}
+
+/// A definite frame at the front.
+#[tactic(auto, unfolding(crate::specs::Reading::frame_at))]
+fn read_frame(bytes: &[u8]) -> Result<usize, BerFault>
+    ensures { result ≡ frame_at bytes.now }
+{
+    match read_header(bytes) {
+        Ok((_, None, _)) => Err(BerFault::BadLength),
+        Ok((_, Some(len), rest)) => body(bytes.len() - rest.len(), len, rest),
+        Err(BerFault::Short) => {
+            if has_room_behind(bytes) {
+                Err(BerFault::Short)
+            } else {
+                Err(BerFault::BadLength)
+            }
+        }
+        Err(fault) => Err(fault),
+    }
+}
