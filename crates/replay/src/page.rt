@@ -1,9 +1,9 @@
 //! The printed page of a report.
 
-ghost use Rattle.std.specs.Prelude.{◌≡◌, ◌∷◌, ◌++◌, ℕ, length, IfOk, OnOk};
+ghost use Rattle.std.specs.Prelude.{◌≡◌, ◌∷◌, ◌++◌, ℕ, length, IfOk, OnOk, codes};
 ghost use Rattle.std.specs.List.{flat_map};
 ghost use Rattle.std.specs.Fmt.{decimal};
-ghost use Rattle.replay.specs.Page.{page, client_lines, sums_line, requests, mark_text, marks_text, octets_text, end_text};
+ghost use Rattle.replay.specs.Page.{page, client_lines, sums_line, requests, mark_text, marks_text, octets_text, end_text, line};
 
 use crate::{ClientReport, Report};
 use std::alloc::Global;
@@ -38,17 +38,45 @@ fn put_clients(
 fn put_client(alloc: Global, out: &mut Text, client: &ClientReport) -> Result<(), Memory>
     ensures { OnOk result (out.new ≡ out.old ++ client_lines client.now) }
 {
+    put_client_line(alloc, out, client.number)?;
+    put_bytes_line(alloc, out, &client.bytes)?;
+    put_marks_line(alloc, out, client.marks.as_slice())?;
+    put_end_line(alloc, out, client.end)
+}
+
+/// The line of a client's number.
+fn put_client_line(alloc: Global, out: &mut Text, number: u32) -> Result<(), Memory>
+    ensures { OnOk result (out.new ≡ out.old ++ line (codes "client ") (decimal number)) }
+{
     out.append(b"client ")?;
-    put_number(alloc, out, u128::from(client.number))?;
-    out.append(b"\n")?;
+    put_number(alloc, out, u128::from(number))?;
+    out.append(b"\n")
+}
+
+/// The line of what was written to a client.
+fn put_bytes_line(alloc: Global, out: &mut Text, octets: &Text) -> Result<(), Memory>
+    ensures { OnOk result (out.new ≡ out.old ++ line (codes "bytes ") (octets_text octets.now)) }
+{
     out.append(b"bytes ")?;
-    put_octets(alloc, out, &client.bytes)?;
-    out.append(b"\n")?;
+    put_octets(alloc, out, octets)?;
+    out.append(b"\n")
+}
+
+/// The line of a client's marks.
+fn put_marks_line(alloc: Global, out: &mut Text, marks: &[Mark]) -> Result<(), Memory>
+    ensures { OnOk result (out.new ≡ out.old ++ line (codes "marks ") (marks_text marks.now)) }
+{
     out.append(b"marks ")?;
-    put_marks(alloc, out, client.marks.as_slice())?;
-    out.append(b"\n")?;
+    put_marks(alloc, out, marks)?;
+    out.append(b"\n")
+}
+
+/// The line of a client's end.
+fn put_end_line(alloc: Global, out: &mut Text, end: End) -> Result<(), Memory>
+    ensures { OnOk result (out.new ≡ out.old ++ line (codes "end ") (end_text end)) }
+{
     out.append(b"end ")?;
-    put_end(alloc, out, client.end)?;
+    put_end(alloc, out, end)?;
     out.append(b"\n")
 }
 
