@@ -150,3 +150,35 @@ length_at-again c ends (Some n) rest (inr h) =
     let back : 128 + length h.digits - 128 ≡ length h.digits = omega arith in
     let come : ltb (length (h.digits ++ rest)) (length h.digits) ≡ false = le-ltb _ _ (omega (arith, length-append h.digits rest)) in
     ap (λ o. length_at c (o ++ rest)) h.spelled ∙ length_at-long c (128 + length h.digits) (h.digits ++ rest) (omega (arith, h.some)) (omega (arith, h.few)) ∙ rw (back, come, padded-again h.digits rest, drop-again h.digits rest, ← (h.number)) refl
+
+-- a fault is not a good answer, and not another fault
+short_not_ok : {A P : Type 0} (r : Result A BerFault) (x : A) → r ≡ Err Short → r ≡ Ok x → P
+short_not_ok r x p q = absurd cc
+
+short_not_bad : {A P : Type 0} (r : Result A BerFault) → r ≡ Err Short → r ≡ Err BadLength → P
+short_not_bad r p q = absurd cc
+
+indefinite_whole : {P : Type 0} (c : Bool) (rest : List ℕ) → indefinite_at c rest ≡ Err Short → P
+indefinite_whole true rest e = short_not_ok (indefinite_at true rest) (None, rest) e refl
+indefinite_whole false rest e = short_not_bad (indefinite_at false rest) e refl
+
+-- length octets of which some have come and not all
+pub length_at-part : (c : Bool) (lead : ℕ) (rest : List ℕ) → length_at c (lead ∷ rest) ≡ Err Short → (128 < lead) × (lead ≤ 136) × (length rest < lead - 128)
+length_at-part c lead rest e =
+    elim (cases_lt lead 128) [
+      | inl low ↦ short_not_ok _ _ e (length_at-short c lead rest low)
+      | inr big ↦ elim (cases_eq lead 128) [
+        | inl same ↦ indefinite_whole c rest (sym (length_at-indefinite c lead rest same) ∙ e)
+        | inr other ↦ elim (cases_lt 136 lead) [
+          | inl many ↦ short_not_bad _ e (length_at-many c lead rest many)
+          | inr few ↦ elim (cases_lt (length rest) (lead - 128)) [
+            | inl short ↦ (omega arith, few, short)
+            | inr come ↦
+                short_not_ok _ _ e (length_at-long c lead rest (omega arith) few ∙ long_at-whole (lead - 128) rest come)
+          ]
+        ]
+      ]
+    ]
+  where
+    long_at-whole : (count : ℕ) (rest : List ℕ) → count ≤ length rest → long_at count rest ≡ Ok (Some (number_from_digits 256 (padded count rest)), drop count rest)
+    long_at-whole count rest le = rw (le-ltb (length rest) count le) refl

@@ -1,5 +1,6 @@
 pub mod DigitSteps
 pub mod ElementLaws
+pub mod FrameReading
 pub mod HeaderReading
 pub mod IntOctets
 pub mod Kept

@@ -1,3 +1,4 @@
+pub mod Frames
 pub mod Header
 pub mod HeaderAnswer
 pub mod Reading

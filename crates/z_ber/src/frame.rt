@@ -2,6 +2,7 @@
 
 ghost use Rattle.std.specs.Prelude.{◌≡◌, ◌↔◌, ℕ, ◌+◌, ◌-◌, ◌*◌, ◌^◌, ◌<◌, ◌≤◌, List, length, take, drop, nat_le, IfOk, IfErr, Ok, Err};
 ghost use Rattle.z_ber.specs.Reading.{Gives, tag_at, header_at, has_room_after, has_room_behind, body_at, frame_behind, frame_at};
+ghost use Rattle.z_ber.specs.Frames.{IsDefiniteFrame, IsFrameAnswer};
 
 use crate::read::{padded_number, read_header, read_tag};
 use crate::{BerFault, Tag};
@@ -72,4 +73,11 @@ fn read_frame(bytes: &[u8]) -> Result<usize, BerFault>
         }
         Err(fault) => Err(fault),
     }
+}
+
+/// The size of the definite frame that octets begin with.
+pub fn definite_frame(bytes: &[u8]) -> Result<usize, BerFault>
+    ensures { IsFrameAnswer IsDefiniteFrame bytes.now result }
+{
+    read_frame(bytes)
 }

@@ -12,7 +12,7 @@ mod spell;
 mod tag;
 
 pub use fault::BerFault;
-pub use frame::FRAME_MAX;
+pub use frame::{FRAME_MAX, definite_frame};
 pub use laws::{one_bits, one_bool, one_element, one_int, one_oid};
 pub use put::{put_bits, put_bool, put_bytes, put_int, put_oid, put_tree};
 pub use read::header;

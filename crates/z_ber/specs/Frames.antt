@@ -1,0 +1,35 @@
+-- Frames: elements as a stream is cut into them, without a look into definite contents (X.690:2021, 8.1.1, 8.1.3). The bound of 1048576 octets is this project's own.
+use Rattle.std.specs.Prelude.{◌≡◌, ℕ, ◌+◌, ◌-◌, ◌^◌, ◌<◌, ◌≤◌, List, ◌++◌, length, take, Some, min, Result, Ok, Err}
+use Rattle.z_ber.specs.declared.fault.BerFault.{BerFault}
+use Rattle.z_ber.specs.declared.fault.BerFault.TheVariants.{Short, BadTag, BadLength, TooLarge, TooDeep}
+use Rattle.z_ber.specs.declared.tag.Tag.{Tag}
+use Rattle.z_ber.specs.Header.{IsHeader, Begins, Opens}
+
+-- 8.1.3.4, 8.1.3.5: a definite header and exactly its contents octets, whatever they are
+pub record IsDefiniteFrame (frame : List ℕ) : Type 0 where
+  pub tag : Tag
+  pub head : List ℕ
+  pub body : List ℕ
+  pub header : IsHeader head tag (Some (length body))
+  pub spelled : frame ≡ head ++ body
+  pub small : length frame ≤ 1048576
+
+-- a definite header that with its contents would take n octets, more than a frame may
+pub record IsTooLarge (bytes : List ℕ) (n : ℕ) : Type 0 where
+  pub tag : Tag
+  pub len : ℕ
+  pub head : List ℕ
+  pub rest : List ℕ
+  pub header : IsHeader head tag (Some len)
+  pub spelled : bytes ≡ head ++ rest
+  pub over : 1048576 < length head + len
+  pub number : n ≡ min (length head + len) (2 ^ 64 - 1)
+
+-- what reading a frame answers: the frame that the octets begin with; or they are open; or no continuation begins with one
+abbrev pub IsFrameAnswer : (List ℕ → Type 0) → List ℕ → Result ℕ BerFault → Type 0
+IsFrameAnswer P bytes (Ok size) = (size ≤ length bytes) × P (take size bytes)
+IsFrameAnswer P bytes (Err Short) = ¬ Begins P bytes × Opens P bytes
+IsFrameAnswer P bytes (Err BadTag) = ¬ Opens P bytes
+IsFrameAnswer P bytes (Err BadLength) = ¬ Opens P bytes
+IsFrameAnswer P bytes (Err (TooLarge n)) = IsTooLarge bytes n × ¬ Opens P bytes
+IsFrameAnswer P bytes (Err TooDeep) = ¬ Opens P bytes
