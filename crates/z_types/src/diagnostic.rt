@@ -1,6 +1,8 @@
 //! Diagnostics (ANSI/NISO Z39.50-2003, DefaultDiagFormat).
 
-use crate::{Oid, Text};
+ghost use Rattle.z_types.specs.Diagnostic.{diag_exact, diag_cloned};
+
+use crate::{Exact, Oid, Text};
 
 /// What went wrong, as a target or the gateway tells it.
 #[derive(PartialEq, Eq, Clone, Drop)]
@@ -11,4 +13,10 @@ pub struct Diag {
     pub condition: u32,
     /// What the condition is about, as a name; it may be empty.
     pub addinfo: Text,
+}
+
+impl Exact for Diag {
+    ghost exact_eq = { diag_exact };
+
+    ghost exact_clone = { diag_cloned };
 }
