@@ -15,6 +15,8 @@ mod records;
 mod replies;
 mod requests;
 mod scan;
+#[cfg(test)]
+mod tests;
 mod text;
 mod world;
 
