@@ -1,5 +1,5 @@
 -- Tests and copies that are exact (this project's own): an `==` that says whether two values are one, and a clone that is its source.
-use Rattle.std.specs.Prelude.{◌≡◌, ℕ, Bool, true, false, ◌&&◌, ◌==◌, List, [], ◌∷◌, refl, None, Some}
+use Rattle.std.specs.Prelude.{◌≡◌, ℕ, Bool, true, false, ◌&&◌, ◌==◌, List, [], ◌∷◌, refl, Option, None, Some}
 use Rattle.std.specs.List.{AllZip}
 use Rattle.std.specs.Option.{option_eq}
 use Rattle.std.proofs.Common.{subst, sym, ◌∙◌, ap}
@@ -83,3 +83,28 @@ exact_by parts made again e s t h = sym (again s) ∙ ap made (e (parts s) (part
 pub exact_both : {A B : Type 0} {eq : A → A → Bool} {test : B → B → Bool} → EqIsExact eq → EqIsExact test → EqIsExact (λ (p q : A × B). eq p.0 q.0 && test p.1 q.1)
 exact_both {A} {B} {eq} {test} e d p q h =
     let w = both_true (eq p.0 q.0) (test p.1 q.1) h in λ i. (e p.0 q.0 w.0 i, d p.1 q.1 w.1 i)
+
+-- a copy that is said to be its source is exact
+pub itself_cloned : {T : Type 0} → CloneIsExact (λ (a b : T). b ≡ a)
+itself_cloned a b h = h
+
+-- a value that is one with its parts is copied by them
+pub cloned_by : {S A : Type 0} {copied : A → A → Type 0} (parts : S → A) (made : A → S) → ((s : S) → made (parts s) ≡ s) → CloneIsExact copied → CloneIsExact (λ (s t : S). copied (parts s) (parts t))
+cloned_by parts made again e s t h = sym (again t) ∙ ap made (e (parts s) (parts t) h) ∙ again s
+
+-- a pair is copied by its halves
+pub cloned_both : {A B : Type 0} {copied : A → A → Type 0} {taken : B → B → Type 0} → CloneIsExact copied → CloneIsExact taken → CloneIsExact (λ (p q : A × B). copied p.0 q.0 × taken p.1 q.1)
+cloned_both e d p q h = λ i. (e p.0 q.0 h.0 i, d p.1 q.1 h.1 i)
+
+-- an option is copied as its value is
+abbrev pub option_copied : {T : Type 0} → (T → T → Type 0) → Option T → Option T → Type 0
+option_copied copied None None = Unit {0}
+option_copied copied None (Some y) = ⊥
+option_copied copied (Some x) None = ⊥
+option_copied copied (Some x) (Some y) = copied x y
+
+pub options_cloned : {T : Type 0} {copied : T → T → Type 0} → CloneIsExact copied → CloneIsExact (option_copied copied)
+options_cloned e None None h = refl
+options_cloned e None (Some y) h = absurd h
+options_cloned e (Some x) None h = absurd h
+options_cloned e (Some x) (Some y) h = ap Some (e x y h)

@@ -5,3 +5,14 @@ pub mod Tree
 pub mod TreeOf
 pub mod TreeFalls
 pub mod Query
+pub mod WholeQuery
+pub mod Diagnostic
+pub mod Address
+pub mod Key
+pub mod Scan
+pub mod Marks
+pub mod Memory
+pub mod Records
+pub mod Asked
+pub mod Requests
+pub mod Replies

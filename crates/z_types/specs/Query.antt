@@ -3,13 +3,15 @@ use Rattle.std.specs.Prelude.{◌≡◌, refl, Bool, true, false, ◌&&◌, ◌=
 use Rattle.std.specs.Cmp.{IsEquivalence, IsPartialEquivalence, partial_equiv_from_equiv}
 use Rattle.std.proofs.Common.{ap}
 use lib.Pointwise.{pointwise}
-use Rattle.z_types.specs.Exact.{EqIsExact, lists_exact, options_exact, both_true, exact_equiv, text_exact, numbers_exact, ints_exact, exact_by, exact_both}
+use Rattle.z_types.specs.Exact.{EqIsExact, lists_exact, options_exact, both_true, exact_equiv, text_exact, numbers_exact, ints_exact, exact_by, exact_both, CloneIsExact, options_cloned, itself_cloned, cloned_by, cloned_both}
 use Rattle.z_types.specs.Tree.{Tree, leaf, operand, and, or, and_not}
 use Rattle.z_types.specs.declared.query.Attr.{Attr}
 use Rattle.z_types.specs.declared.query.Term.{Term}
 use Rattle.z_types.specs.declared.query.Term.TheVariants.{General, Number, Words}
 use Rattle.z_types.specs.contracts.query.TermPartialEq.TheImpl as term_test
 use Rattle.z_types.specs.contracts.query.AttrPartialEq.TheImpl as attr_test
+use Rattle.z_types.specs.contracts.query.TermClone.TheImpl as term_copy
+use Rattle.z_types.specs.contracts.query.AttrClone.TheImpl as attr_copy
 use Rattle.z_types.specs.contracts.query.AttrEq.TheImpl.Laws as attr_law
 use Rattle.z_types.specs.contracts.query.TermEq.TheImpl.Laws as term_law
 use Rattle.std.proofs.lemmas.Cmp.{lists_equiv, nat_list_eq_equiv}
@@ -73,3 +75,13 @@ tree_equiv = exact_equiv tree_exact tree_itself
 
 pub tree_per : IsPartialEquivalence tree_eq
 tree_per = partial_equiv_from_equiv tree_equiv
+
+pub attr_cloned : CloneIsExact (attr_copy.ghosts).is_clone
+attr_cloned =
+    cloned_by (λ (a : Attr). (a.set, (a.kind, a.value))) (λ p. record { set = p.0; kind = p.1.0; value = p.1.1 }) (λ _. refl) (cloned_both (options_cloned itself_cloned) (cloned_both itself_cloned itself_cloned))
+
+pub term_cloned : CloneIsExact (term_copy.ghosts).is_clone
+term_cloned (General a) (General b) h = ap General h
+term_cloned (Number a) (Number b) h = ap Number h
+term_cloned (Words a) (Words b) h = ap Words h
+term_cloned a b h = absurd h

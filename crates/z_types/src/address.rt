@@ -1,6 +1,8 @@
 //! Where a target is.
 
-use crate::Text;
+ghost use Rattle.z_types.specs.Address.{address_exact, address_cloned};
+
+use crate::{Exact, Text};
 
 /// The address of a target.
 #[derive(PartialEq, Eq, Clone, Drop)]
@@ -9,4 +11,10 @@ pub enum Address {
     Test(u32),
     /// A host, of 1 to 64 octets, and a TCP port.
     Tcp(Text, u16),
+}
+
+impl Exact for Address {
+    ghost exact_eq = { address_exact };
+
+    ghost exact_clone = { address_cloned };
 }

@@ -1,8 +1,9 @@
 //! Diagnostics (ANSI/NISO Z39.50-2003, DefaultDiagFormat).
 
 ghost use Rattle.std.specs.Prelude.{◌≡◌, IfOk};
+ghost use Rattle.z_types.specs.Diagnostic.{diag_exact, diag_cloned};
 
-use crate::{Memory, Oid, Text};
+use crate::{Exact, Memory, Oid, Text};
 use std::alloc::Global;
 
 /// What went wrong, as a target or the gateway tells it.
@@ -29,4 +30,10 @@ impl Diag {
             addinfo,
         })
     }
+}
+
+impl Exact for Diag {
+    ghost exact_eq = { diag_exact };
+
+    ghost exact_clone = { diag_cloned };
 }

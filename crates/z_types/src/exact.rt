@@ -2,9 +2,7 @@
 //! are one, and a clone is its source.
 
 ghost use Rattle.std.specs.Prelude.{◌≡◌, ◌↔◌, IfOk, IsTrue};
-ghost use Rattle.z_types.specs.Exact.{EqIsExact, CloneIsExact, numbers_exact, bools_exact, ints_exact, options_exact};
-ghost use Rattle.std.specs.Prelude.{None, Some, refl};
-ghost use Rattle.std.proofs.Common.{ap};
+ghost use Rattle.z_types.specs.Exact.{EqIsExact, CloneIsExact, numbers_exact, bools_exact, ints_exact, options_exact, options_cloned};
 
 use crate::Memory;
 
@@ -56,5 +54,5 @@ impl Exact for i64 {
 impl<T: Exact> Exact for Option<T> {
     ghost exact_eq = { options_exact T.exact_eq };
 
-    ghost exact_clone = { elim [ None ↦ elim [ None ↦ λ h. refl | Some y ↦ λ h. absurd h ] | Some x ↦ elim [ None ↦ λ h. absurd h | Some y ↦ λ h. ap Some (T.exact_clone x y h) ] ] };
+    ghost exact_clone = { options_cloned T.exact_clone };
 }

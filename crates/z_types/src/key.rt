@@ -1,6 +1,8 @@
 //! What a result set is of: databases and a query.
 
-use crate::{List, RpnQuery, Text};
+ghost use Rattle.z_types.specs.Key.{key_exact, key_cloned};
+
+use crate::{Exact, List, RpnQuery, Text};
 
 /// The databases and the query of a result set. Two searches with one key find the same records.
 #[derive(PartialEq, Eq, Clone, Drop)]
@@ -9,4 +11,10 @@ pub struct SetKey {
     pub dbs: List<Text>,
     /// The query.
     pub query: RpnQuery,
+}
+
+impl Exact for SetKey {
+    ghost exact_eq = { key_exact };
+
+    ghost exact_clone = { key_cloned };
 }

@@ -17,6 +17,8 @@ mod replies;
 mod requests;
 mod scan;
 mod schemas;
+#[cfg(test)]
+mod tests;
 mod text;
 mod world;
 

@@ -1,5 +1,9 @@
 //! Under which mark a request was answered, and how a connection ended (this project's own).
 
+ghost use Rattle.z_types.specs.Marks.{mark_exact, end_exact};
+
+use crate::Exact;
+
 /// Under which mark a request was answered.
 #[derive(Clone, Copy, PartialEq, Eq, Debug)]
 pub enum Mark {
@@ -34,4 +38,16 @@ pub enum End {
     WriteFault,
     /// No memory could be had.
     Memory,
+}
+
+impl Exact for Mark {
+    ghost exact_eq = { mark_exact };
+
+    ghost exact_clone = { λ a b h. h };
+}
+
+impl Exact for End {
+    ghost exact_eq = { end_exact };
+
+    ghost exact_clone = { λ a b h. h };
 }

@@ -3,9 +3,9 @@
 
 ghost use Rattle.std.specs.Prelude.{◌≡◌, IfOk};
 ghost use Rattle.z_types.specs.Tree.{leaf, operand, and, or, and_not};
-ghost use Rattle.z_types.specs.Query.{tree_eq, tree_equiv, tree_per};
+ghost use Rattle.z_types.specs.Query.{tree_eq, tree_equiv, tree_per, tree_exact, attr_exact, attr_cloned, term_exact, term_cloned};
 
-use crate::{List, Memory, Oid, Text};
+use crate::{Exact, List, Memory, Oid, Text};
 use std::alloc::{AllocError, Global};
 use std::marker::Model;
 
@@ -206,4 +206,30 @@ impl Clone for Rpn {
             }
         }
     }
+}
+
+impl Exact for Attr {
+    ghost exact_eq = { attr_exact };
+
+    ghost exact_clone = { attr_cloned };
+}
+
+impl Exact for Term {
+    ghost exact_eq = { term_exact };
+
+    ghost exact_clone = { term_cloned };
+}
+
+impl Exact for RpnQuery {
+    ghost use Rattle.z_types.specs.WholeQuery.{query_exact, query_cloned};
+
+    ghost exact_eq = { query_exact };
+
+    ghost exact_clone = { query_cloned };
+}
+
+impl Exact for Rpn {
+    ghost exact_eq = { tree_exact };
+
+    ghost exact_clone = { λ a b h. h };
 }

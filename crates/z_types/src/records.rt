@@ -1,6 +1,8 @@
 //! Records and what a response has in their place (ANSI/NISO Z39.50-2003, Records and NamePlusRecord).
 
-use crate::{Diag, List, Oid, Text};
+ghost use Rattle.z_types.specs.Records.{form_exact, item_exact, named_exact, body_exact, item_cloned, named_cloned, body_cloned};
+
+use crate::{Diag, Exact, List, Oid, Text};
 
 /// The encoding of an EXTERNAL's value (X.690:2021, 8.18).
 #[derive(Clone, Copy, PartialEq, Eq, Debug)]
@@ -49,4 +51,28 @@ pub enum Body {
     Diag(Diag),
     /// Several diagnostics (multipleNonSurDiagnostics).
     Diags(List<Diag>),
+}
+
+impl Exact for Form {
+    ghost exact_eq = { form_exact };
+
+    ghost exact_clone = { λ a b h. h };
+}
+
+impl Exact for Item {
+    ghost exact_eq = { item_exact };
+
+    ghost exact_clone = { item_cloned };
+}
+
+impl Exact for NamedRecord {
+    ghost exact_eq = { named_exact };
+
+    ghost exact_clone = { named_cloned };
+}
+
+impl Exact for Body {
+    ghost exact_eq = { body_exact };
+
+    ghost exact_clone = { body_cloned };
 }

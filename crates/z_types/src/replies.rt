@@ -1,6 +1,8 @@
 //! Replies of a target (ANSI/NISO Z39.50-2003, InitializeResponse, SearchResponse and Close).
 
-use crate::{Body, Close, Init, Text};
+ghost use Rattle.z_types.specs.Replies.{reply_exact, reply_cloned};
+
+use crate::{Body, Close, Exact, Init, Text};
 
 /// A unit that a target sends. Its numbers are 0 to 2147483647.
 #[derive(PartialEq, Eq, Clone, Drop)]
@@ -31,4 +33,10 @@ pub enum Reply {
     },
     /// A Close.
     Close(Close),
+}
+
+impl Exact for Reply {
+    ghost exact_eq = { reply_exact };
+
+    ghost exact_clone = { reply_cloned };
 }

@@ -1,9 +1,11 @@
 //! Requests of an origin (ANSI/NISO Z39.50-2003, InitializeRequest, SearchRequest and Close).
 
-use crate::{Diag, List, Oid, RpnQuery, Text};
+ghost use Rattle.z_types.specs.Asked.{asked_eq, asked_per, asked_equiv, asked_exact, asked_cloned};
+
+use crate::{Diag, Exact, List, Oid, RpnQuery, Text};
 
 /// What a request asks for, or the diagnostic of a form that the gateway reads and does not serve.
-#[derive(PartialEq, Eq, Clone, Drop)]
+#[derive(Clone, Drop)]
 pub enum Asked<T> {
     Good(T),
     Bad(Diag),
@@ -68,4 +70,60 @@ pub enum Request {
     Init(Init),
     Search(Search),
     Close(Close),
+}
+
+impl<T: PartialEq> PartialEq for Asked<T> {
+    ghost eq = { asked_eq T.eq };
+
+    ghost laws = { asked_per T.laws };
+
+    fn eq(&self, other: &Asked<T>) -> bool {
+        match (self, other) {
+            (Asked::Good(asked), Asked::Good(other)) => *asked == *other,
+            (Asked::Bad(diagnostic), Asked::Bad(other)) => *diagnostic == *other,
+            _ => false,
+        }
+    }
+}
+
+impl<T: Eq> Eq for Asked<T> {
+    ghost laws = { asked_equiv T.Eq.laws };
+}
+
+impl<T: Exact> Exact for Asked<T> {
+    ghost exact_eq = { asked_exact T.exact_eq };
+
+    ghost exact_clone = { asked_cloned T.exact_clone };
+}
+
+impl Exact for Init {
+    ghost use Rattle.z_types.specs.Requests.{init_exact, init_cloned};
+
+    ghost exact_eq = { init_exact };
+
+    ghost exact_clone = { init_cloned };
+}
+
+impl Exact for Search {
+    ghost use Rattle.z_types.specs.Requests.{search_exact, search_cloned};
+
+    ghost exact_eq = { search_exact };
+
+    ghost exact_clone = { search_cloned };
+}
+
+impl Exact for Close {
+    ghost use Rattle.z_types.specs.Requests.{close_exact, close_cloned};
+
+    ghost exact_eq = { close_exact };
+
+    ghost exact_clone = { close_cloned };
+}
+
+impl Exact for Request {
+    ghost use Rattle.z_types.specs.Requests.{request_exact, request_cloned};
+
+    ghost exact_eq = { request_exact };
+
+    ghost exact_clone = { request_cloned };
 }

@@ -1,6 +1,8 @@
 //! What a scan asks and answers (ANSI/NISO Z39.50-2003, ScanRequest and ListEntries).
 
-use crate::{Attr, List, Oid, Term};
+ghost use Rattle.z_types.specs.Scan.{ask_exact, entry_exact, answer_exact, ask_cloned, entry_cloned, answer_cloned};
+
+use crate::{Attr, Exact, List, Oid, Term};
 
 /// What a scan asks for.
 #[derive(PartialEq, Eq, Clone, Drop)]
@@ -35,4 +37,22 @@ pub struct ScanAnswer {
     pub position: Option<u32>,
     /// The entries in order.
     pub entries: List<ScanEntry>,
+}
+
+impl Exact for ScanAsk {
+    ghost exact_eq = { ask_exact };
+
+    ghost exact_clone = { ask_cloned };
+}
+
+impl Exact for ScanEntry {
+    ghost exact_eq = { entry_exact };
+
+    ghost exact_clone = { entry_cloned };
+}
+
+impl Exact for ScanAnswer {
+    ghost exact_eq = { answer_exact };
+
+    ghost exact_clone = { answer_cloned };
 }
