@@ -1,0 +1,4 @@
+pub mod Words
+pub mod Repeating
+pub mod Sure
+pub mod Finding

@@ -1,0 +1,7 @@
+pub mod Tree
+pub mod TreeOf
+pub mod TreeFalls
+pub mod Classes
+pub mod Lexemes
+pub mod Grammar
+pub mod Answers

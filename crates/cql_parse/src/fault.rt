@@ -1,0 +1,37 @@
+//! Why tokens are no query that is taken.
+
+ghost use Rattle.std.specs.Prelude.{◌≡◌};
+ghost use Rattle.cql_parse.specs.declared.fault.Stop.TheVariants.{Memory as no_memory};
+
+use z_types::Memory;
+
+/// Why tokens are no query that is taken. Nothing was changed.
+#[derive(Clone, Copy, Debug, PartialEq, Eq)]
+pub enum ParseFault {
+    /// The tokens are no query. The first token such that no query begins with the tokens up to and
+    /// with it starts at this offset of the text; the text's length where there is no such token.
+    Syntax(usize),
+    /// A query whose brackets are nested deeper than 48, or whose tree is.
+    TooDeep,
+    /// No memory could be had.
+    Memory,
+}
+
+/// Why a part of the parser stopped.
+#[derive(Clone, Copy, Debug, PartialEq, Eq)]
+pub enum Stop {
+    /// The tokens are no query.
+    NoQuery,
+    /// Where the tokens are a query, it is nested too deep.
+    Deep,
+    /// No memory could be had.
+    Memory,
+}
+
+impl From<Memory> for Stop {
+    ghost from_gives = { λ _ e. e ≡ no_memory };
+
+    fn from(_: Memory) -> Stop {
+        Stop::Memory
+    }
+}

@@ -1,0 +1,11 @@
+//! The grammar of CQL (CQL 1.2, its BNF): the tree of a query's tokens, and the text of a tree. What
+//! a query means is left to the crates above.
+#![tactic(auto)]
+
+mod clauses;
+mod fault;
+mod lexeme;
+mod tree;
+
+pub use fault::ParseFault;
+pub use tree::{Cql, Head, Modifier, Node, SortKey};
