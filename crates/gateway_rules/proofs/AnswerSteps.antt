@@ -11,7 +11,7 @@ use Rattle.z_types.specs.declared.world.World as world
 use Rattle.route_config.specs.declared.route.Route.{Route}
 use Rattle.unit_forms.specs.Replies.{spell_reply}
 use Rattle.unit_forms.specs.Served.{Reads, IsReading}
-use Rattle.gateway_rules.specs.Stub.{IsDefiniteFrame}
+use Rattle.z_ber.specs.Frames.{IsDefiniteFrame}
 use Rattle.gateway_rules.specs.Marks.{Cause, plain}
 use Rattle.gateway_rules.specs.Session.{replies, Fits, reply_to, protocol_error}
 use Rattle.gateway_rules.specs.Ending.{HasEnded, RestEnds, IsOpen, IsBad}

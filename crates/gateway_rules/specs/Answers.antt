@@ -9,7 +9,7 @@ use Rattle.z_types.specs.declared.world.World as world
 use Rattle.route_config.specs.declared.route.Route.{Route}
 use Rattle.unit_forms.specs.Replies.{spell_reply}
 use Rattle.unit_forms.specs.Served.{IsReading}
-use Rattle.gateway_rules.specs.Stub.{IsDefiniteFrame}
+use Rattle.z_ber.specs.Frames.{IsDefiniteFrame}
 use Rattle.gateway_rules.specs.Marks.{Cause}
 use Rattle.gateway_rules.specs.Session.{replies, Fits}
 use Rattle.gateway_rules.specs.Ending.{HasEnded}

@@ -4,7 +4,8 @@ use Rattle.z_types.specs.declared.marks.End.{End}
 use Rattle.z_types.specs.declared.marks.End.TheVariants.{Closed, Finished, Malformed, Cut}
 use Rattle.z_types.specs.declared.requests.Request.{Request}
 use Rattle.z_types.specs.declared.replies.Reply.{Reply}
-use Rattle.gateway_rules.specs.Stub.{IsDefiniteFrame, Begins, Opens}
+use Rattle.z_ber.specs.Header.{Begins, Opens}
+use Rattle.z_ber.specs.Frames.{IsDefiniteFrame}
 use Rattle.gateway_rules.specs.Session.{protocol_error}
 use Rattle.gateway_rules.specs.State.{ClientState, is_in_place, state_after, is_close}
 

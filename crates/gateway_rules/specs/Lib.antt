@@ -1,4 +1,3 @@
-pub mod Stub
 pub mod Init
 pub mod State
 pub mod Marks
