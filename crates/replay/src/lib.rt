@@ -4,6 +4,7 @@
 
 mod page;
 mod reports;
+mod search;
 
 pub use page::print;
 pub use reports::{ClientReport, Report};
