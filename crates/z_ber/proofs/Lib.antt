@@ -7,4 +7,5 @@ pub mod Kept
 pub mod LengthReading
 pub mod Room
 pub mod TagReading
+pub mod StrictReading
 pub mod ValueLaws

@@ -1,6 +1,6 @@
 -- Headers from left to right, with the first fault that is met. The readers in src/ go this way; public contracts do not cite it (X.690:2021, 8.1.2, 8.1.3).
 use Rattle.std.specs.Prelude.{◌≡◌, ℕ, zero, suc, ◌+◌, ◌-◌, ◌*◌, ◌/◌, ◌%◌, ◌^◌, List, [], ◌∷◌, length, take, drop, Bool, Option, Some, None, Result, Ok, Err, nat_lt, nat_le, min, true, ◌==◌, ◌||◌, if◌then◌else◌}
-use Rattle.std.specs.Int.Digits.{number_from_digits}
+use Rattle.std.specs.Int.Digits.{digits_of, number_from_digits}
 use Rattle.z_ber.specs.declared.fault.BerFault.{BerFault}
 use Rattle.z_ber.specs.declared.fault.BerFault.TheVariants.{Short, BadTag, BadLength, TooLarge}
 use Rattle.z_ber.specs.declared.tag.Tag.{Tag}
@@ -94,3 +94,29 @@ frame_behind bytes (Err fault) = Err fault
 -- a definite frame
 unfoldable pub frame_at : List ℕ → Result ℕ BerFault
 frame_at bytes = frame_behind bytes (header_at bytes)
+
+-- how many octets the fewest length octets are
+abbrev pub fewest_size : ℕ → ℕ
+fewest_size n = if nat_lt n 128 then 1 else 1 + length (digits_of 256 n)
+
+-- so many contents octets, and what follows them
+abbrev pub contents_at : Tag → ℕ → List ℕ → Option (Tag × List ℕ × List ℕ)
+contents_at tag n body = if nat_lt (length body) n then None else Some (tag, take n body, drop n body)
+
+-- the same behind length octets of which there are so many, which have to be the fewest
+abbrev pub fewest_at : Tag → ℕ → Option ℕ → List ℕ → Option (Tag × List ℕ × List ℕ)
+fewest_at tag size None body = None
+fewest_at tag size (Some n) body = if size == fewest_size n then contents_at tag n body else None
+
+-- the same behind a tag
+abbrev pub written_behind : Tag → ℕ → Result (Option ℕ × List ℕ) BerFault → Option (Tag × List ℕ × List ℕ)
+written_behind tag size (Ok len) = fewest_at tag (size - length len.1) len.0 len.1
+written_behind tag size (Err fault) = None
+
+abbrev pub written_from : Result (Tag × List ℕ) BerFault → Option (Tag × List ℕ × List ℕ)
+written_from (Ok tag) = written_behind tag.0 (length tag.1) (length_at tag.0.constructed tag.1)
+written_from (Err fault) = None
+
+-- an element in its written form
+unfoldable pub written_at : List ℕ → Option (Tag × List ℕ × List ℕ)
+written_at bytes = written_from (tag_at bytes)

@@ -9,6 +9,7 @@ mod laws;
 mod put;
 mod read;
 mod spell;
+mod strict;
 mod tag;
 
 pub use fault::BerFault;
@@ -16,4 +17,5 @@ pub use frame::{FRAME_MAX, definite_frame};
 pub use laws::{one_bits, one_bool, one_element, one_int, one_oid};
 pub use put::{put_bits, put_bool, put_bytes, put_int, put_oid, put_tree};
 pub use read::header;
-pub use tag::{Header, Tag};
+pub use strict::{bool_of, written};
+pub use tag::{Header, Tag, Written};

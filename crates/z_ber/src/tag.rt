@@ -84,3 +84,14 @@ pub struct Header {
     /// How many octets the contents take; `None` for the indefinite form.
     pub length: Option<u64>,
 }
+
+/// An element in its written form at the front of octets (X.690, 10.1), lent.
+#[derive(Clone, Copy, Debug)]
+pub struct Written<'a> {
+    /// The tag, valid.
+    pub tag: Tag,
+    /// The contents octets.
+    pub contents: &'a [u8],
+    /// What follows the element.
+    pub rest: &'a [u8],
+}
