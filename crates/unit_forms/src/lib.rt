@@ -2,6 +2,7 @@
 //! of them.
 #![tactic(auto)]
 
+mod elements;
 mod fields;
 mod replies;
 

@@ -1,0 +1,24 @@
+-- tags that are tested as equal are one
+use Rattle.std.proofs.Common.{◌≡◌, ◌≢◌, ◌&&◌, ◌==◌, ◌∙◌, ℕ, Bool, true, false, refl, sym, subst}
+use Rattle.std.proofs.lemmas.Bool.{eqb-true, eq-eqb}
+use mathlib.Core.Bool.{beq}
+use Rattle.z_types.specs.Exact.{EqIsExact, exact_by, exact_both, numbers_exact, bools_exact}
+use Rattle.z_ber.specs.declared.tag.Tag.{Tag}
+
+abbrev pub tag_eq : Tag → Tag → Bool
+tag_eq a b = (a.class == b.class) && (beq a.constructed b.constructed && (a.number == b.number))
+
+pub tag_exact : EqIsExact tag_eq
+tag_exact =
+    exact_by (λ (t : Tag). (t.class, (t.constructed, t.number))) (λ p. record { class = p.0; constructed = p.1.0; number = p.1.1 }) (λ _. refl) (exact_both numbers_exact (exact_both bools_exact numbers_exact))
+
+beq_itself : (b : Bool) → beq b b ≡ true
+beq_itself true = refl
+beq_itself false = refl
+
+tag_itself : (t : Tag) → tag_eq t t ≡ true
+tag_itself t = rw (eq-eqb t.class t.class refl, beq_itself t.constructed, eq-eqb t.number t.number refl) refl
+
+pub tag_other : (a b : Tag) → tag_eq a b ≡ false → a ≢ b
+tag_other a b h e =
+    let one : tag_eq a b ≡ true = subst (λ (t : Tag). tag_eq a t ≡ true) e (tag_itself a) in cc

@@ -1,0 +1,51 @@
+//! Elements of a known tag, read in their written form.
+
+ghost use Rattle.std.specs.Prelude.{◌≡◌, ℕ, List, ◌++◌, ◌<◌, ◌^◌, IfSome, IfNone, true, false, ◌≢◌};
+ghost use Rattle.z_ber.specs.Written.{IsTag, element, bits_octets, int_octets};
+ghost use Rattle.unit_forms.specs.Fields.{bits_at, number_at};
+
+use z_ber::{Tag, written};
+
+/// The contents of the element of this tag that octets begin with, and what follows it.
+pub(crate) fn field(tag: Tag, bytes: &[u8]) -> Option<(&[u8], &[u8])>
+    requires { IsTag tag }
+    ensures found { IfSome result (λ x. bytes.now ≡ element tag x.0.now ++ x.1.now) }
+    ensures none { IfNone result ((contents rest : List ℕ) → bytes.now ≡ element tag contents ++ rest → ⊥) }
+{
+    match written(bytes) {
+        Some(found) => {
+            if is_same_tag(found.tag, tag) {
+                Some((found.contents, found.rest))
+            } else {
+                None
+            }
+        }
+        None => None,
+    }
+}
+
+/// The contents of the element of this tag that octets are.
+pub(crate) fn only(tag: Tag, bytes: &[u8]) -> Option<&[u8]>
+    requires { IsTag tag }
+    ensures found { IfSome result (λ contents. bytes.now ≡ element tag contents.now) }
+    ensures none { IfNone result ((contents : List ℕ) → bytes.now ≡ element tag contents → ⊥) }
+{
+    match field(tag, bytes) {
+        Some((contents, rest)) => {
+            if rest.is_empty() {
+                Some(contents)
+            } else {
+                None
+            }
+        }
+        None => None,
+    }
+}
+
+/// Whether two tags are one.
+fn is_same_tag(a: Tag, b: Tag) -> bool
+    ensures same { result ≡ true → a ≡ b }
+    ensures other { result ≡ false → a ≢ b }
+{
+    a == b
+}
