@@ -3,6 +3,7 @@ pub mod ElementLaws
 pub mod FrameReading
 pub mod HeaderReading
 pub mod IntOctets
+pub mod IntReading
 pub mod Kept
 pub mod LengthReading
 pub mod Room
