@@ -1,3 +1,4 @@
+pub mod BitsReading
 pub mod DigitSteps
 pub mod ElementLaws
 pub mod FrameReading

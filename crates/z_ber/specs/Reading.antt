@@ -151,8 +151,13 @@ abbrev pub mirrored_number : List ℕ → ℕ
 mirrored_number [] = 0
 mirrored_number (octet ∷ rest) = mirrored_number rest * 256 + mirror octet
 
+-- the bits, where the count of unused bits and the count of octets are theirs
+abbrev pub bits_behind : ℕ → ℕ → ℕ → Option ℕ
+bits_behind unused count value =
+    if (unused == unused_bits value) && (count == length (digits_of 256 value)) then Some value else None
+
 -- the contents of a BIT STRING of up to 32 bits
 unfoldable pub bits_at : List ℕ → Option ℕ
 bits_at [] = None
 bits_at (unused ∷ octets) =
-    if nat_le (length octets) 4 && (unused == unused_bits (mirrored_number octets) && length octets == length (digits_of 256 (mirrored_number octets))) then Some (mirrored_number octets) else None
+    if nat_lt 4 (length octets) then None else bits_behind unused (length octets) (mirrored_number octets)

@@ -20,4 +20,4 @@ pub use put::{put_bits, put_bool, put_bytes, put_int, put_oid, put_tree};
 pub use read::header;
 pub use strict::written;
 pub use tag::{Header, Tag, Written};
-pub use values::{bool_of, int_of};
+pub use values::{bits_of, bool_of, int_of};

@@ -3,7 +3,7 @@
 ghost use Rattle.std.specs.Prelude.{◌≡◌, ℕ, ℤ, ◌+◌, ◌-◌, ◌*◌, ◌^◌, ◌<◌, ◌≤◌, Bool, List, length, map, FitsSigned, IfSome, IfNone};
 ghost use Rattle.std.specs.Int.{w64};
 ghost use Rattle.std.specs.Int.Digits.{number_from_digits_after};
-ghost use Rattle.z_ber.specs.Reading.{padded, is_fewest, positive_at, negative_at, signed_at, int_at, mirrored_number, bits_at};
+ghost use Rattle.z_ber.specs.Reading.{padded, is_fewest, positive_at, negative_at, signed_at, int_at, mirrored_number, bits_behind, bits_at};
 ghost use Rattle.z_ber.specs.Written.{bool_octets, int_octets, bits_octets};
 
 use crate::digits::{count_digits, mirrored};
@@ -101,6 +101,56 @@ pub fn int_of(contents: &[u8]) -> Option<i64>
     ensures none { IfNone result ((value : ℤ) → FitsSigned w64 value → contents.now ≡ int_octets value → ⊥) }
 {
     match read_int(contents) {
+        Some(value) => Some(value),
+        None => None,
+    }
+}
+
+/// The number whose octets stand from the last to the first, with their bits in turned order.
+fn mirrored_number(octets: &[u8]) -> u64
+    requires { length octets.now ≤ 4 }
+    ensures value { result ≡ mirrored_number octets.now }
+    ensures small { result < 256 ^ length octets.now }
+{
+    match octets {
+        [] => 0,
+        [octet, rest @ ..] => mirrored_number(rest) * 256 + u64::from(mirrored(*octet)),
+    }
+}
+
+/// The contents of a BIT STRING of up to 32 bits.
+#[tactic(auto, unfolding(crate::specs::Reading::bits_at))]
+fn read_bits(contents: &[u8]) -> Option<u32>
+    ensures { result ≡ bits_at contents.now }
+{
+    match contents {
+        [] => None,
+        [unused, octets @ ..] => {
+            if octets.len() > 4 {
+                return None;
+            }
+            bits(*unused, octets.len(), mirrored_number(octets) as u32)
+        }
+    }
+}
+
+/// The bits, where the count of unused bits and the count of octets are theirs.
+fn bits(unused: u8, count: usize, value: u32) -> Option<u32>
+    ensures { result ≡ bits_behind unused count value }
+{
+    if unused == unused_bits(value) && count == count_digits(256, u64::from(value)) {
+        Some(value)
+    } else {
+        None
+    }
+}
+
+/// The bits whose written form contents of a BIT STRING are (8.6), exactly where there are some.
+pub fn bits_of(contents: &[u8]) -> Option<u32>
+    ensures found { IfSome result (λ value. contents.now ≡ bits_octets value) }
+    ensures none { IfNone result ((value : ℕ) → value < 2 ^ 32 → contents.now ≡ bits_octets value → ⊥) }
+{
+    match read_bits(contents) {
         Some(value) => Some(value),
         None => None,
     }
