@@ -21,7 +21,7 @@ pub ok_is : {A : Type 0} (r : Result A BerFault) (x y : A) → r ≡ Ok x → r 
 ok_is r x y p q = cc
 
 -- the header of a frame, as it is read
-framed : (bytes : List ℕ) (b : Begins IsDefiniteFrame bytes) → header_at bytes ≡ Ok (b.2.tag, Some (length b.2.body), b.2.body ++ b.1)
+pub framed : (bytes : List ℕ) (b : Begins IsDefiniteFrame bytes) → header_at bytes ≡ Ok (b.2.tag, Some (length b.2.body), b.2.body ++ b.1)
 framed bytes b =
     ap header_at (b.3 ∙ ap (λ o. o ++ b.1) b.2.spelled ∙ append_assoc b.2.head b.2.body b.1) ∙ header_at-again b.2.head b.2.tag (Some (length b.2.body)) (b.2.body ++ b.1) b.2.header
 
@@ -50,7 +50,7 @@ same_size bytes more t l body w b =
     in
     (len, rest, omega (arith, n, ap length rest, ap length b.2.spelled, length-append b.2.head b.2.body))
 
-some_is : (m n : ℕ) (l : Option ℕ) → l ≡ Some m → l ≡ Some n → m ≡ n
+pub some_is : (m n : ℕ) (l : Option ℕ) → l ≡ Some m → l ≡ Some n → m ≡ n
 some_is m n l p q = cc
 
 -- no frame stands behind an indefinite header

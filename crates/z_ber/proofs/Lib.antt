@@ -1,10 +1,13 @@
+pub mod BitsReading
 pub mod DigitSteps
 pub mod ElementLaws
 pub mod FrameReading
 pub mod HeaderReading
 pub mod IntOctets
+pub mod IntReading
 pub mod Kept
 pub mod LengthReading
+pub mod OneSplit
 pub mod Room
 pub mod TagReading
 pub mod StrictReading

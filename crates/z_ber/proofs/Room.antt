@@ -29,3 +29,7 @@ room_now n high k octet pos lt h =
 -- eight octets fit
 pub room_first : (k : ℕ) → k ≤ 8 → (0 + 1) * 256 ^ k ≤ 2 ^ 64
 room_first k le = omega (arith, pow-le-pow_right {n = 256} (lit< tt) {i = k} {j = 8} le)
+
+-- a number of few octets is small
+pub room_of : (r k n : ℕ) → r < 256 ^ k → k ≤ n → r < 256 ^ n
+room_of r k n lt le = omega (arith, pow-le-pow_right {n = 256} (lit< tt) {i = k} {j = n} le)

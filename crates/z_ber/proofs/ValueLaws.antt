@@ -101,7 +101,7 @@ pub mirror_twice : (o : ℕ) → o < 256 → mirror (mirror o) ≡ o
 unfolding mirror
 mirror_twice o lt = eqb-true _ _ (all_below-at 256 o (λ k. mirror (mirror k) == k) refl lt)
 
-mirrors_twice : (ds : List ℕ) → AllByRecursion (λ d. d < 256) ds → map mirror (map mirror ds) ≡ ds
+pub mirrors_twice : (ds : List ℕ) → AllByRecursion (λ d. d < 256) ds → map mirror (map mirror ds) ≡ ds
 mirrors_twice [] h = refl
 mirrors_twice (d ∷ ds) h =
     let r = mirrors_twice ds h.1 in
@@ -110,11 +110,11 @@ mirrors_twice (d ∷ ds) h =
 mirrored-one : (xs ys : List ℕ) → AllByRecursion (λ d. d < 256) xs → AllByRecursion (λ d. d < 256) ys → map mirror xs ≡ map mirror ys → xs ≡ ys
 mirrored-one xs ys hx hy e = sym (mirrors_twice xs hx) ∙ ap (map mirror) e ∙ mirrors_twice ys hy
 
-all-append : (xs ys : List ℕ) → AllByRecursion (λ d. d < 256) xs → AllByRecursion (λ d. d < 256) ys → AllByRecursion (λ d. d < 256) (xs ++ ys)
+pub all-append : (xs ys : List ℕ) → AllByRecursion (λ d. d < 256) xs → AllByRecursion (λ d. d < 256) ys → AllByRecursion (λ d. d < 256) (xs ++ ys)
 all-append [] ys hx hy = hy
 all-append (x ∷ xs) ys hx hy = (hx.0, all-append xs ys hx.1 hy)
 
-all-reverse : (xs : List ℕ) → AllByRecursion (λ d. d < 256) xs → AllByRecursion (λ d. d < 256) (reverse xs)
+pub all-reverse : (xs : List ℕ) → AllByRecursion (λ d. d < 256) xs → AllByRecursion (λ d. d < 256) (reverse xs)
 all-reverse [] h = tt
 all-reverse (x ∷ xs) h = rw (reverse-append (x ∷ []) xs) (all-append (reverse xs) (x ∷ []) (all-reverse xs h.1) (h.0, tt))
 

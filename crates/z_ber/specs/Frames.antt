@@ -1,5 +1,6 @@
 -- Frames: elements as a stream is cut into them, without a look into definite contents (X.690:2021, 8.1.1, 8.1.3). The bound of 1048576 octets is this project's own.
 use Rattle.std.specs.Prelude.{◌≡◌, ℕ, ◌+◌, ◌-◌, ◌^◌, ◌<◌, ◌≤◌, List, ◌++◌, length, take, Some, min, Result, Ok, Err}
+use Rattle.std.specs.List.{flat_map, AllByRecursion}
 use Rattle.z_ber.specs.declared.fault.BerFault.{BerFault}
 use Rattle.z_ber.specs.declared.fault.BerFault.TheVariants.{Short, BadTag, BadLength, TooLarge, TooDeep}
 use Rattle.z_ber.specs.declared.tag.Tag.{Tag}
@@ -33,3 +34,9 @@ IsFrameAnswer P bytes (Err BadTag) = ¬ Opens P bytes
 IsFrameAnswer P bytes (Err BadLength) = ¬ Opens P bytes
 IsFrameAnswer P bytes (Err (TooLarge n)) = IsTooLarge bytes n × ¬ Opens P bytes
 IsFrameAnswer P bytes (Err TooDeep) = ¬ Opens P bytes
+
+-- a stream is these frames one after another, and a rest that begins with none
+pub record Splits (P : List ℕ → Type 0) (stream : List ℕ) (frames : List (List ℕ)) (rest : List ℕ) : Type 0 where
+  pub whole : stream ≡ flat_map (λ frame. frame) frames ++ rest
+  pub each : AllByRecursion P frames
+  pub ended : ¬ Begins P rest

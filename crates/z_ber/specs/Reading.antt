@@ -1,9 +1,10 @@
 -- Headers from left to right, with the first fault that is met. The readers in src/ go this way; public contracts do not cite it (X.690:2021, 8.1.2, 8.1.3).
-use Rattle.std.specs.Prelude.{◌≡◌, ℕ, zero, suc, ◌+◌, ◌-◌, ◌*◌, ◌/◌, ◌%◌, ◌^◌, List, [], ◌∷◌, length, take, drop, Bool, Option, Some, None, Result, Ok, Err, nat_lt, nat_le, min, true, ◌==◌, ◌||◌, if◌then◌else◌}
+use Rattle.std.specs.Prelude.{◌≡◌, ℕ, zero, suc, ◌+◌, ◌-◌, ◌*◌, ◌/◌, ◌%◌, ◌^◌, List, [], ◌∷◌, length, take, drop, Bool, Option, Some, None, Result, Ok, Err, nat_lt, nat_le, min, true, false, ◌==◌, ◌||◌, ◌&&◌, ℤ, pos, negsuc, map, slice_index_or, if◌then◌else◌}
 use Rattle.std.specs.Int.Digits.{digits_of, number_from_digits}
 use Rattle.z_ber.specs.declared.fault.BerFault.{BerFault}
 use Rattle.z_ber.specs.declared.fault.BerFault.TheVariants.{Short, BadTag, BadLength, TooLarge}
 use Rattle.z_ber.specs.declared.tag.Tag.{Tag}
+use Rattle.z_ber.specs.Written.{mirror, unused_bits}
 
 infixl 10 ◌>>=◌
 abbrev pub ◌>>=◌ : {A B : Type 0} → Result A BerFault → (A → Result B BerFault) → Result B BerFault
@@ -120,3 +121,43 @@ written_from (Err fault) = None
 -- an element in its written form
 unfoldable pub written_at : List ℕ → Option (Tag × List ℕ × List ℕ)
 written_at bytes = written_from (tag_at bytes)
+
+-- 8.3.2: the first nine bits are not all alike
+abbrev pub is_fewest : List ℕ → Bool
+is_fewest [] = false
+is_fewest (first ∷ []) = true
+is_fewest (first ∷ second ∷ rest) =
+    if first == 0 then nat_le 128 second else (if first == 255 then nat_lt second 128 else true)
+
+-- the number of the bits as they are, or of the turned bits, where it fits
+abbrev pub positive_at : ℕ → Option ℤ
+positive_at n = if nat_lt n (2 ^ 63) then Some (pos n) else None
+
+abbrev pub negative_at : ℕ → Option ℤ
+negative_at n = if nat_lt n (2 ^ 63) then Some (negsuc n) else None
+
+-- two's complement
+abbrev pub signed_at : List ℕ → Option ℤ
+signed_at contents =
+    if nat_lt (slice_index_or contents 0 0) 128 then positive_at (number_from_digits 256 (padded (length contents) contents))
+    else negative_at (number_from_digits 256 (padded (length contents) (map (λ octet. 255 - octet) contents)))
+
+-- the contents of an INTEGER of up to 8 octets
+unfoldable pub int_at : List ℕ → Option ℤ
+int_at contents = if is_fewest contents && nat_le (length contents) 8 then signed_at contents else None
+
+-- the number whose octets stand from the last to the first, with their bits in turned order
+abbrev pub mirrored_number : List ℕ → ℕ
+mirrored_number [] = 0
+mirrored_number (octet ∷ rest) = mirrored_number rest * 256 + mirror octet
+
+-- the bits, where the count of unused bits and the count of octets are theirs
+abbrev pub bits_behind : ℕ → ℕ → ℕ → Option ℕ
+bits_behind unused count value =
+    if (unused == unused_bits value) && (count == length (digits_of 256 value)) then Some value else None
+
+-- the contents of a BIT STRING of up to 32 bits
+unfoldable pub bits_at : List ℕ → Option ℕ
+bits_at [] = None
+bits_at (unused ∷ octets) =
+    if nat_lt 4 (length octets) then None else bits_behind unused (length octets) (mirrored_number octets)

@@ -4,6 +4,7 @@
 ghost use Rattle.std.specs.Prelude.{◌≡◌, ℕ, ℤ, Bool, List, ◌++◌, IsTrue};
 ghost use Rattle.z_types.specs.Oid.{is_oid};
 ghost use Rattle.z_ber.specs.declared.tag.Tag.{Tag};
+ghost use Rattle.z_ber.specs.Frames.{IsDefiniteFrame, Splits};
 ghost use Rattle.z_ber.specs.Written.{element, bool_octets, int_octets, bits_octets, oid_octets};
 
 /// An element that is written begins no other one, and its octets have one tag and one value of
@@ -31,3 +32,9 @@ pub fn one_bits()
 pub fn one_oid()
     ensures { (a b : List ℕ) → IsTrue (is_oid a) → IsTrue (is_oid b) → oid_octets a ≡ oid_octets b → a ≡ b }
 {}
+
+/// A stream is one list of frames of definite length, with one rest, however it is cut.
+pub fn one_split()
+    ensures { (stream rest tail : List ℕ) (frames others : List (List ℕ)) → Splits IsDefiniteFrame stream frames rest → Splits IsDefiniteFrame stream others tail → (frames ≡ others) × (rest ≡ tail) }
+{
+}

@@ -11,11 +11,13 @@ mod read;
 mod spell;
 mod strict;
 mod tag;
+mod values;
 
 pub use fault::BerFault;
 pub use frame::{FRAME_MAX, definite_frame};
-pub use laws::{one_bits, one_bool, one_element, one_int, one_oid};
+pub use laws::{one_bits, one_bool, one_element, one_int, one_oid, one_split};
 pub use put::{put_bits, put_bool, put_bytes, put_int, put_oid, put_tree};
 pub use read::header;
-pub use strict::{bool_of, written};
+pub use strict::written;
 pub use tag::{Header, Tag, Written};
+pub use values::{bits_of, bool_of, int_of};

@@ -146,7 +146,7 @@ pub fn bits_len(value: u32) -> usize
 
 /// The count of unused bits (8.6.2.2).
 #[tactic(auto, unfolding(crate::specs::Written::unused_bits))]
-fn unused_bits(value: u32) -> u8
+pub fn unused_bits(value: u32) -> u8
     ensures { result ≡ unused_bits value }
 {
     ((8 - count_digits(2, u64::from(value)) % 8) % 8) as u8

@@ -1,10 +1,10 @@
-//! Elements and contents that stand in their written form, and in no other (X.690:2021, 10.1).
+//! Elements that stand in their written form, and in no other (X.690:2021, 10.1).
 
-ghost use Rattle.std.specs.Prelude.{◌≡◌, ℕ, ◌+◌, ◌^◌, ◌<◌, ◌≤◌, Bool, List, ◌++◌, length, IfSome, IfNone};
+ghost use Rattle.std.specs.Prelude.{◌≡◌, ℕ, ◌+◌, ◌^◌, ◌<◌, ◌≤◌, List, ◌++◌, length, IfSome, IfNone};
 ghost use Rattle.std.specs.Option.{option_map};
 ghost use Rattle.z_ber.specs.declared.tag.Tag.{Tag as TagValue};
 ghost use Rattle.z_ber.specs.Reading.{fewest_size, contents_at, fewest_at, written_at};
-ghost use Rattle.z_ber.specs.Written.{IsTag, element, bool_octets};
+ghost use Rattle.z_ber.specs.Written.{IsTag, element};
 
 use crate::digits::count_digits;
 use crate::read::{read_length, read_tag};
@@ -75,18 +75,5 @@ pub fn written(bytes: &[u8]) -> Option<Written<'_>>
             rest,
         }),
         None => None,
-    }
-}
-
-/// The value of the contents of a BOOLEAN in written form (8.2, 11.1), exactly where there is one.
-#[tactic(auto, unfolding(crate::specs::Written::bool_octets))]
-pub fn bool_of(contents: &[u8]) -> Option<bool>
-    ensures found { IfSome result (λ value. contents.now ≡ bool_octets value) }
-    ensures none { IfNone result ((value : Bool) → contents.now ≡ bool_octets value → ⊥) }
-{
-    match contents {
-        [0] => Some(false),
-        [255] => Some(true),
-        _ => None,
     }
 }
