@@ -1,8 +1,8 @@
 //! Elements of a known tag, read in their written form.
 
 ghost use Rattle.std.specs.Prelude.{◌≡◌, ℕ, List, ◌++◌, ◌<◌, ◌^◌, IfSome, IfNone, true, false, ◌≢◌};
-ghost use Rattle.z_ber.specs.Written.{IsTag, element, bits_octets, int_octets};
-ghost use Rattle.unit_forms.specs.Fields.{bits_at, number_at};
+ghost use Rattle.z_ber.specs.Written.{IsTag, element};
+ghost use Rattle.unit_forms.specs.Fields.{constructed, text_at};
 
 use z_ber::{Tag, written};
 
@@ -48,4 +48,40 @@ fn is_same_tag(a: Tag, b: Tag) -> bool
     ensures other { result ≡ false → a ≢ b }
 {
     a == b
+}
+
+/// The contents of the primitive field of a number that octets begin with, and what follows it.
+pub(crate) fn primitive_field(number: u32, bytes: &[u8]) -> Option<(&[u8], &[u8])>
+    requires { number < 2 ^ 31 }
+    ensures found { IfSome result (λ x. bytes.now ≡ text_at number x.0.now ++ x.1.now) }
+    ensures none { IfNone result ((contents rest : List ℕ) → bytes.now ≡ text_at number contents ++ rest → ⊥) }
+{
+    field(Tag::context(number), bytes)
+}
+
+/// The contents of the constructed field of a number that octets begin with, and what follows it.
+pub(crate) fn constructed_field(number: u32, bytes: &[u8]) -> Option<(&[u8], &[u8])>
+    requires { number < 2 ^ 31 }
+    ensures found { IfSome result (λ x. bytes.now ≡ element (constructed number) x.0.now ++ x.1.now) }
+    ensures none { IfNone result ((contents rest : List ℕ) → bytes.now ≡ element (constructed number) contents ++ rest → ⊥) }
+{
+    field(Tag::constructed_context(number), bytes)
+}
+
+/// The contents of the primitive field of a number that octets are.
+pub(crate) fn only_primitive(number: u32, bytes: &[u8]) -> Option<&[u8]>
+    requires { number < 2 ^ 31 }
+    ensures found { IfSome result (λ contents. bytes.now ≡ text_at number contents.now) }
+    ensures none { IfNone result ((contents : List ℕ) → bytes.now ≡ text_at number contents → ⊥) }
+{
+    only(Tag::context(number), bytes)
+}
+
+/// The contents of the constructed field of a number that octets are.
+pub(crate) fn only_constructed(number: u32, bytes: &[u8]) -> Option<&[u8]>
+    requires { number < 2 ^ 31 }
+    ensures found { IfSome result (λ contents. bytes.now ≡ element (constructed number) contents.now) }
+    ensures none { IfNone result ((contents : List ℕ) → bytes.now ≡ element (constructed number) contents → ⊥) }
+{
+    only(Tag::constructed_context(number), bytes)
 }

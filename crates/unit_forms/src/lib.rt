@@ -5,5 +5,6 @@
 mod elements;
 mod fields;
 mod replies;
+mod values;
 
 pub use replies::write_reply;
