@@ -3,3 +3,4 @@ pub mod Query
 pub mod Requests
 pub mod Replies
 pub mod Served
+pub mod Read

@@ -5,6 +5,7 @@
 mod elements;
 mod fields;
 mod replies;
+mod requests;
 mod values;
 
 pub use replies::write_reply;

@@ -4,7 +4,7 @@ ghost use Rattle.std.specs.Prelude.{◌≡◌, ℕ, pos, List, ◌++◌, ◌<◌
 ghost use Rattle.z_ber.specs.Written.{int_octets, bits_octets};
 ghost use Rattle.unit_forms.specs.Fields.{number_at, bits_at};
 
-use crate::elements::primitive_field;
+use crate::elements::{only_primitive, primitive_field};
 use z_ber::{bits_of, int_of};
 
 /// The greatest number of a field.
@@ -50,10 +50,25 @@ pub(crate) fn number_field(number: u32, bytes: &[u8]) -> Option<(u32, &[u8])>
     }
 }
 
+/// The number of the field that octets are.
+pub(crate) fn only_number(number: u32, bytes: &[u8]) -> Option<u32>
+    requires { number < 2 ^ 31 }
+    ensures found { IfSome result (λ value. (value < 2 ^ 31) × (bytes.now ≡ number_at number value)) }
+    ensures none { IfNone result ((value : ℕ) → value < 2 ^ 31 → bytes.now ≡ number_at number value → ⊥) }
+{
+    match only_primitive(number, bytes) {
+        Some(contents) => match number_of(contents) {
+            Some(value) => Some(value),
+            None => None,
+        },
+        None => None,
+    }
+}
+
 /// The bits of the field that octets begin with, and what follows it.
 pub(crate) fn bits_field(number: u32, bytes: &[u8]) -> Option<(u32, &[u8])>
     requires { number < 2 ^ 31 }
-    ensures found { IfSome result (λ x. bytes.now ≡ bits_at number x.0 ++ x.1.now) }
+    ensures found { IfSome result (λ x. (x.0 < 2 ^ 32) × (bytes.now ≡ bits_at number x.0 ++ x.1.now)) }
     ensures none { IfNone result ((value : ℕ) (rest : List ℕ) → value < 2 ^ 32 → bytes.now ≡ bits_at number value ++ rest → ⊥) }
 {
     match primitive_field(number, bytes) {
