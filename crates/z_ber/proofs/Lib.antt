@@ -11,4 +11,5 @@ pub mod OneSplit
 pub mod Room
 pub mod TagReading
 pub mod StrictReading
+pub mod TreeLaws
 pub mod ValueLaws

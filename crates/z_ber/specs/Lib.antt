@@ -1,3 +1,4 @@
+pub mod Element
 pub mod Frames
 pub mod Header
 pub mod HeaderAnswer

@@ -4,6 +4,7 @@
 ghost use Rattle.std.specs.Prelude.{◌≡◌, ℕ, ℤ, Bool, List, ◌++◌, IsTrue};
 ghost use Rattle.z_types.specs.Oid.{is_oid};
 ghost use Rattle.z_ber.specs.declared.tag.Tag.{Tag};
+ghost use Rattle.z_ber.specs.Element.{Forest, IsElement};
 ghost use Rattle.z_ber.specs.Frames.{IsDefiniteFrame, Splits};
 ghost use Rattle.z_ber.specs.Written.{element, bool_octets, int_octets, bits_octets, oid_octets};
 
@@ -36,5 +37,11 @@ pub fn one_oid()
 /// A stream is one list of frames of definite length, with one rest, however it is cut.
 pub fn one_split()
     ensures { (stream rest tail : List ℕ) (frames others : List (List ℕ)) → Splits IsDefiniteFrame stream frames rest → Splits IsDefiniteFrame stream others tail → (frames ≡ others) × (rest ≡ tail) }
+{
+}
+
+/// Octets have at most one tree, and no element is a proper prefix of another.
+pub fn one_tree()
+    ensures { (s t : Forest) (m n : ℕ) (a b x y : List ℕ) → IsElement m a s → IsElement n b t → a ++ x ≡ b ++ y → (a ≡ b) × (s ≡ t) × (x ≡ y) }
 {
 }
