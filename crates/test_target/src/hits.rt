@@ -1,0 +1,164 @@
+//! What a query finds at a test target.
+
+ghost use Rattle.std.specs.Prelude.{◌≡◌, ◌+◌, ◌%◌, ◌<◌, ◌≤◌, ◌==◌, ◌&&◌, ◌||◌, not, length, map, filter, take, sum_by, min, IfOk, false, if◌then◌else◌};
+ghost use Rattle.std.specs.List.{range_with_len, zip};
+ghost use Rattle.std.specs.Fmt.{decimal};
+ghost use Rattle.test_target.specs.Diagnostics.{bib1};
+ghost use Rattle.test_target.specs.Operands.{is_use};
+ghost use Rattle.test_target.specs.Searches.{finds, operand_fault, found_of, hits};
+
+use crate::databases::{MOST_RECORDS, size_of};
+use crate::diagnostics::{NO_SET, NO_USE, bib1};
+use crate::operands::{is_use, modulus, use_of};
+use std::alloc::Global;
+use z_types::{Diag, List, Memory, Node, Rpn, Text, copy};
+
+/// The most hits that are told: a resultCount is at most this.
+const MOST_HITS: usize = 2147483647;
+
+/// The first operand from the left that cannot be answered, as its diagnostic.
+pub(crate) fn find_fault(alloc: Global, query: &Rpn) -> Result<Option<Diag>, Memory>
+    ensures { IfOk result (λ fault. fault ≡ operand_fault query.now) }
+{
+    match &query.node {
+        Node::Leaf(attrs, _) => use_fault(alloc, use_of(attrs)),
+        Node::Set(name) => Ok(Some(bib1(alloc, NO_SET, copy(name)?)?)),
+        Node::And(left, right) => match find_fault(alloc, left)? {
+            Some(fault) => Ok(Some(fault)),
+            None => find_fault(alloc, right),
+        },
+        Node::Or(left, right) => match find_fault(alloc, left)? {
+            Some(fault) => Ok(Some(fault)),
+            None => find_fault(alloc, right),
+        },
+        Node::AndNot(left, right) => match find_fault(alloc, left)? {
+            Some(fault) => Ok(Some(fault)),
+            None => find_fault(alloc, right),
+        },
+    }
+}
+
+/// The fault of a Use attribute, if the targets do not have it.
+fn use_fault(alloc: Global, value: u32) -> Result<Option<Diag>, Memory>
+    ensures { IfOk result
+        (λ fault. fault ≡ (if is_use value then None else Some (bib1 114 (decimal value)))) }
+{
+    if is_use(value) {
+        return Ok(None);
+    }
+    let text = format!(in alloc; "{value}")?;
+    Ok(Some(bib1(alloc, NO_USE, Text::from_vec(text.into_bytes()))?))
+}
+
+/// Which of the records 1 to `MOST_RECORDS` a query finds.
+fn found(alloc: Global, target: u32, query: &Rpn) -> Result<Vec<bool>, Memory>
+    ensures { IfOk result
+        (λ found. found.items ≡ map (finds target query.now) (range_with_len 1 MOST_RECORDS)) }
+{
+    match &query.node {
+        Node::Leaf(attrs, term) => {
+            let every = modulus(alloc, term)?;
+            found_by_operand(alloc, target, use_of(attrs), every)
+        }
+        Node::Set(_) => none_found(alloc),
+        Node::And(left, right) => {
+            let left = found(alloc, target, left)?;
+            let right = found(alloc, target, right)?;
+            both(alloc, left.as_slice(), right.as_slice())
+        }
+        Node::Or(left, right) => {
+            let left = found(alloc, target, left)?;
+            let right = found(alloc, target, right)?;
+            either(alloc, left.as_slice(), right.as_slice())
+        }
+        Node::AndNot(left, right) => {
+            let left = found(alloc, target, left)?;
+            let right = found(alloc, target, right)?;
+            first_alone(alloc, left.as_slice(), right.as_slice())
+        }
+    }
+}
+
+/// Which records an operand finds, whose Use and modulus are these.
+fn found_by_operand(alloc: Global, target: u32, value: u32, every: u32) -> Result<Vec<bool>, Memory>
+    requires { 0 < every }
+    ensures { IfOk result
+        (λ found. found.items ≡ map (λ i. ((i + target + value) % every) == 0) (range_with_len 1 MOST_RECORDS)) }
+{
+    let mut found = Vec::new(alloc);
+    for place in 0..MOST_RECORDS {
+        let sum = u64::from(place) + 1 + u64::from(target) + u64::from(value);
+        found.push(sum % u64::from(every) == 0)?;
+    }
+    Ok(found)
+}
+
+/// No record is found.
+fn none_found(alloc: Global) -> Result<Vec<bool>, Memory>
+    ensures { IfOk result (λ found. found.items ≡ map (λ i. false) (range_with_len 1 MOST_RECORDS)) }
+{
+    Ok(vec![in alloc; false; 99]?)
+}
+
+/// The records of both.
+fn both(alloc: Global, left: &[bool], right: &[bool]) -> Result<Vec<bool>, Memory>
+    ensures { IfOk result (λ found. found.items ≡ map (λ p. p.0 && p.1) (zip left.now right.now)) }
+{
+    let records = left.iter().zip(right).map(|(left, right)| *left && *right);
+    Ok(records.collect(alloc)?)
+}
+
+/// The records of one or the other.
+fn either(alloc: Global, left: &[bool], right: &[bool]) -> Result<Vec<bool>, Memory>
+    ensures { IfOk result (λ found. found.items ≡ map (λ p. p.0 || p.1) (zip left.now right.now)) }
+{
+    let records = left.iter().zip(right).map(|(left, right)| *left || *right);
+    Ok(records.collect(alloc)?)
+}
+
+/// The records of the first and not of the second.
+fn first_alone(alloc: Global, left: &[bool], right: &[bool]) -> Result<Vec<bool>, Memory>
+    ensures { IfOk result
+        (λ found. found.items ≡ map (λ p. p.0 && not p.1) (zip left.now right.now)) }
+{
+    let records = left.iter().zip(right).map(|(left, right)| *left && !*right);
+    Ok(records.collect(alloc)?)
+}
+
+/// How many of the first records are found.
+fn count_found(found: &[bool], size: u32) -> usize
+    requires { size ≤ length found.now }
+    ensures value { result ≡ length (filter (λ is_found. is_found) (take size found.now)) }
+    ensures bound { result ≤ size }
+{
+    found[..size as usize]
+        .iter()
+        .filter(|is_found| **is_found)
+        .count()
+}
+
+/// How many records a query finds in databases, at most `MOST_HITS`.
+pub(crate) fn hits(
+    alloc: Global,
+    target: u32,
+    query: &Rpn,
+    names: &List<Text>,
+) -> Result<u32, Memory>
+    ensures { IfOk result (λ count. count ≡ hits target query.now names.now) }
+{
+    let found = found(alloc, target, query)?;
+    Ok(count_hits(target, found.as_slice(), names))
+}
+
+/// How many records of databases are found, at most `MOST_HITS`.
+fn count_hits(target: u32, found: &[bool], names: &List<Text>) -> u32
+    requires { length found.now ≡ MOST_RECORDS }
+    ensures { result ≡ min (sum_by (found_of target found.now) names.now) MOST_HITS }
+{
+    let mut hits = 0;
+    for name in names.as_slice() {
+        let size = size_of(target, name).unwrap_or(0);
+        hits = (hits + count_found(found, size)).min(MOST_HITS);
+    }
+    hits as u32
+}

@@ -1,0 +1,10 @@
+//! The built-in test targets: what they find, by their meaning alone, with no link and no state.
+#![tactic(auto)]
+
+mod databases;
+mod diagnostics;
+mod hits;
+mod operands;
+mod worlds;
+
+pub use worlds::TestWorld;

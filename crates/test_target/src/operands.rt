@@ -1,0 +1,65 @@
+//! What an operand asks a test target for: its Use attribute, and the modulus of its term.
+
+ghost use Rattle.std.specs.Prelude.{◌≡◌, ◌<◌, ◌%◌, ◌==◌, IfOk, find, sum};
+ghost use Rattle.std.specs.Option.{option_copied};
+ghost use Rattle.test_target.specs.Operands.{use_of, is_use, modulus};
+
+use std::alloc::Global;
+use z_types::{Attr, List, Memory, Term};
+
+/// The attribute type of Use (bib-1).
+const USE: u32 = 1;
+
+/// The Use attribute where none is named: any.
+const ANY: u32 = 1016;
+
+/// The Use attribute of an operand: the first that is named.
+pub(crate) fn use_of(attrs: &List<Attr>) -> u32
+    ensures { result ≡ use_of attrs.now }
+{
+    match first_use(attrs) {
+        Some(attr) => attr.value,
+        None => ANY,
+    }
+}
+
+/// The first attribute of type Use.
+fn first_use(attrs: &List<Attr>) -> Option<&Attr>
+    ensures { option_copied result ≡ find (λ attr. attr.kind == 1) attrs.now }
+{
+    let mut attrs = attrs.as_slice().iter();
+    attrs.find(|attr| attr.kind == USE)
+}
+
+/// Whether a test target has a Use attribute: title, ISBN, ISSN, subject, author or any.
+pub(crate) fn is_use(value: u32) -> bool
+    ensures { result ≡ is_use value }
+{
+    matches!(value, 4 | 7 | 8 | 21 | 1003 | 1016)
+}
+
+/// Every so many records the term of an operand is found, 2 to 8.
+pub(crate) fn modulus(alloc: Global, term: &Term) -> Result<u32, Memory>
+    ensures { IfOk result (λ every. every ≡ modulus term.now) }
+{
+    match term {
+        Term::General(text) => Ok(2 + sum_mod7(text.as_slice())),
+        Term::Words(text) => Ok(2 + sum_mod7(text.as_slice())),
+        Term::Number(number) => {
+            let text = format!(in alloc; "{number}")?;
+            Ok(2 + sum_mod7(text.as_bytes()))
+        }
+    }
+}
+
+/// The sum of octets modulo 7.
+fn sum_mod7(octets: &[u8]) -> u32
+    ensures value { result ≡ sum octets.now % 7 }
+    ensures bound { result < 7 }
+{
+    let mut rest = 0;
+    for octet in octets {
+        rest = (rest + u32::from(*octet)) % 7;
+    }
+    rest
+}
