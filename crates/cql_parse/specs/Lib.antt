@@ -5,3 +5,5 @@ pub mod Classes
 pub mod Lexemes
 pub mod Grammar
 pub mod Answers
+pub mod Brackets
+pub mod Unfinished

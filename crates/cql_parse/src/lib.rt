@@ -4,8 +4,14 @@
 
 mod clauses;
 mod fault;
+mod frame;
+mod grow;
+mod grown;
+mod laws;
 mod lexeme;
+mod stack;
 mod tree;
 
 pub use fault::ParseFault;
+pub use laws::one_tree;
 pub use tree::{Cql, Head, Modifier, Node, SortKey};
