@@ -5,3 +5,5 @@ pub mod Finding
 pub mod Inverting
 pub mod Steps
 pub mod OneTree
+pub mod Deeper
+pub mod Going

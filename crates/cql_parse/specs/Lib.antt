@@ -6,4 +6,5 @@ pub mod Lexemes
 pub mod Grammar
 pub mod Answers
 pub mod Brackets
+pub mod Nesting
 pub mod Unfinished

@@ -2,6 +2,7 @@
 //! a query means is left to the crates above.
 #![tactic(auto)]
 
+mod build;
 mod clauses;
 mod fault;
 mod frame;
