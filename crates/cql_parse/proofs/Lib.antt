@@ -2,3 +2,8 @@ pub mod Words
 pub mod Repeating
 pub mod Sure
 pub mod Finding
+pub mod Inverting
+pub mod Steps
+pub mod OneTree
+pub mod Deeper
+pub mod Going

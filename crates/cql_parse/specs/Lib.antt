@@ -5,3 +5,6 @@ pub mod Classes
 pub mod Lexemes
 pub mod Grammar
 pub mod Answers
+pub mod Brackets
+pub mod Nesting
+pub mod Unfinished

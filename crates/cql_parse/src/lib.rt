@@ -2,10 +2,17 @@
 //! a query means is left to the crates above.
 #![tactic(auto)]
 
+mod build;
 mod clauses;
 mod fault;
+mod frame;
+mod grow;
+mod grown;
+mod laws;
 mod lexeme;
+mod stack;
 mod tree;
 
 pub use fault::ParseFault;
+pub use laws::one_tree;
 pub use tree::{Cql, Head, Modifier, Node, SortKey};

@@ -1,0 +1,27 @@
+use Rattle.std.proofs.Common.{◌≡◌, ◌↔◌, ℕ, List, Option, sym, ◌∙◌}
+use Rattle.std.proofs.lemmas.Result.{err_from_is_err_and}
+use Rattle.cql_parse.specs.declared.tree.Head.{Head}
+use Rattle.cql_parse.specs.Tree.{Tree, clause, sorted}
+use Rattle.cql_parse.specs.Lexemes.{Lexeme, lexemes}
+use Rattle.cql_parse.specs.Grammar.{operand, after, join, IsClause, IsPrefix, AreModifiers, AreKeys}
+use Rattle.cql_parse.specs.Answers.{lexeme_in}
+use Rattle.cql_parse.specs.Unfinished.{left_of}
+use Rattle.std.proofs.Common.{option_map, reverse}
+use Rattle.cql_parse.proofs.Steps.{no_prefix}
+use Rattle.cql_parse.proofs.Going.{Goes_none, prefix_goes}
+use Rattle.cql_parse.proofs.build.assign_prefix.Goals as goal
+
+pub returns-in_err-name-clause-goes : goal.returns-in_err-name-clause-goes
+returns-in_err-name-clause-goes c =
+    let text = c.args.text.now in
+    let old = c.args.stack.now in
+    let ts = lexemes text c.args.tokens.now in
+    let left = option_map left_of c.args.left in
+    let p = err_from_is_err_and c.from_residual.result c.from_residual.ensures.1 in
+    rw (p.1, p.2) (Goes_none text old.brackets (operand left) (reverse old.frames.items) (reverse old.frames.items) ts (λ (q : Option (List ℕ) × List ℕ). IsPrefix ts q.0 q.1) c.in_err-name.field-0.0 (λ none t. no_prefix left (reverse old.frames.items) ts t c.requires none) c.in_err-name.ensures.found)
+
+pub returns-clause-goes : goal.returns-clause-goes
+returns-clause-goes c =
+    let text = c.args.text.now in
+    let old = c.args.stack.now in
+    prefix_goes text old.brackets c.args.left old.frames.items c.push_prefix.new.self.frames.items (lexemes text c.args.tokens.now) c.in_ok-name.name c.in_ok-name.uri c.in_ok-name.rest c.in_ok-name.ensures.found c.in_ok-push_prefix.ensures.frames

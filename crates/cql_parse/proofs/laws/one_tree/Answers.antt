@@ -1,0 +1,6 @@
+use Rattle.cql_parse.proofs.OneTree.{one_tree}
+use Rattle.cql_parse.proofs.Steps.{bracket_step}
+use Rattle.cql_parse.proofs.laws.one_tree.Goals as goal
+
+pub returns : goal.returns
+returns c = one_tree

@@ -1,0 +1,10 @@
+-- How deep brackets are nested within tokens (this project's limit of 48).
+use Rattle.std.specs.Prelude.{ℕ, suc, ◌-◌, max, List, [], ◌∷◌, if◌then◌else◌}
+use Rattle.cql_parse.specs.Classes.{is_open, is_close}
+use Rattle.cql_parse.specs.Lexemes.{Lexeme}
+
+-- the most brackets that are open at once, where so many are open before these tokens
+abbrev pub nesting : ℕ → List Lexeme → ℕ
+nesting open_before [] = open_before
+nesting open_before (x ∷ rest) =
+    max open_before (nesting (if is_open x.class then suc open_before else (if is_close x.class then open_before - 1 else open_before)) rest)
