@@ -15,9 +15,13 @@ constructed number = record { class = 2; constructed = true; number = number }
 abbrev pub sequence : Tag
 sequence = record { class = 0; constructed = true; number = 16 }
 
--- OBJECT IDENTIFIER (X.690, 8.19)
+-- the tag of an OBJECT IDENTIFIER (X.690, 8.19)
+abbrev pub object_identifier_tag : Tag
+object_identifier_tag = record { class = 0; constructed = false; number = 6 }
+
+-- OBJECT IDENTIFIER
 abbrev pub object_identifier : List ℕ → List ℕ
-object_identifier arcs = element (record { class = 0; constructed = false; number = 6 }) (oid_octets arcs)
+object_identifier arcs = element object_identifier_tag (oid_octets arcs)
 
 -- INTEGER (X.690, 8.3)
 abbrev pub integer : ℕ → List ℕ

@@ -21,9 +21,13 @@ term_octets (Words octets) = text_at 216 octets
 abbrev pub attr_set_octets : List ℕ → List ℕ
 attr_set_octets arcs = element (primitive 1) (oid_octets arcs)
 
--- AttributeElement: the set where it is there, the type and the numeric value
-unfoldable pub attr_octets : Attr → List ℕ
-attr_octets attr = element sequence (optional attr_set_octets attr.set ++ number_at 120 attr.kind ++ number_at 121 attr.value)
+-- the fields of an AttributeElement: the set where it is there, the type and the numeric value
+unfoldable pub attr_fields : Attr → List ℕ
+attr_fields attr = optional attr_set_octets attr.set ++ number_at 120 attr.kind ++ number_at 121 attr.value
+
+-- AttributeElement
+abbrev pub attr_octets : Attr → List ℕ
+attr_octets attr = element sequence (attr_fields attr)
 
 -- AttributesPlusTerm, as an operand
 unfoldable pub leaf_octets : List Attr → Term → List ℕ

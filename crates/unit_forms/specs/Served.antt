@@ -1,5 +1,5 @@
 -- Which units are read (this project's own): those of the forms below, each as it is written and in no other way.
-use Rattle.std.specs.Prelude.{◌≡◌, ℕ, ◌^◌, ◌<◌, ◌≤◌, true, List, [], ◌∷◌, length, Option, None, Some, IfSome, IsTrue, codes}
+use Rattle.std.specs.Prelude.{◌≡◌, ℕ, ◌^◌, ◌<◌, ◌≤◌, true, List, [], ◌∷◌, ◌++◌, length, Option, None, Some, IfSome, IsTrue, codes}
 use Rattle.std.specs.List.{AllByRecursion}
 use Rattle.z_types.specs.Oid.{is_oid}
 use Rattle.z_types.specs.Tree.{Tree, leaf, operand, and, or, and_not}
@@ -14,6 +14,7 @@ use Rattle.z_types.specs.declared.requests.Search.{Search}
 use Rattle.z_types.specs.declared.requests.Close.{Close}
 use Rattle.z_types.specs.declared.requests.Request.{Request}
 use Rattle.z_types.specs.declared.requests.Request.TheVariants as request
+use Rattle.unit_forms.specs.Fields.{number_at, flag_at, text_at}
 use Rattle.unit_forms.specs.Requests.{spell_request}
 
 -- a number of a field: 0 to 2147483647
@@ -39,18 +40,30 @@ IsGeneral (General octets) = Unit {0}
 IsGeneral (Number value) = ⊥
 IsGeneral (Words octets) = ⊥
 
+-- at most 16 such attributes
+abbrev pub AreServedAttrs : List Attr → Type 0
+AreServedAttrs attrs = (length attrs ≤ 16) × AllByRecursion IsServedAttr attrs
+
 -- one operand, of at most 16 attributes and a general term
 abbrev pub IsServedTree : Tree → Type 0
-IsServedTree (leaf attrs term) = (length attrs ≤ 16) × AllByRecursion IsServedAttr attrs × IsGeneral term
+IsServedTree (leaf attrs term) = AreServedAttrs attrs × IsGeneral term
 IsServedTree (operand name) = ⊥
 IsServedTree (and l r) = ⊥
 IsServedTree (or l r) = ⊥
 IsServedTree (and_not l r) = ⊥
 
 -- a query of one such operand
+abbrev pub IsServedRpn : RpnQuery → Type 0
+IsServedRpn query = IsTrue (is_oid query.attr_set) × IsServedTree query.root
+
+-- a query that was read, of one such operand
 abbrev pub IsServedQuery : Asked RpnQuery → Type 0
-IsServedQuery (Good query) = IsTrue (is_oid query.attr_set) × IsServedTree query.root
+IsServedQuery (Good query) = IsServedRpn query
 IsServedQuery (Bad diag) = ⊥
+
+-- the bounds, the replace indicator and the name of such a Search, as they are written
+unfoldable pub shown_nothing : List ℕ
+shown_nothing = number_at 13 0 ++ number_at 14 1 ++ number_at 15 0 ++ flag_at 16 true ++ text_at 17 (codes "1")
 
 -- a Search of one database for the set `1`, that shows no records
 pub record IsServedSearch (search : Search) : Type 0 where

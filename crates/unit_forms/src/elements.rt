@@ -1,8 +1,8 @@
 //! Elements of a known tag, read in their written form.
 
-ghost use Rattle.std.specs.Prelude.{◌≡◌, ℕ, List, ◌++◌, ◌<◌, ◌^◌, IfSome, IfNone, true, false, ◌≢◌};
+ghost use Rattle.std.specs.Prelude.{◌≡◌, ℕ, List, ◌++◌, ◌<◌, ◌^◌, length, IfSome, IfNone, true, false, ◌≢◌};
 ghost use Rattle.z_ber.specs.Written.{IsTag, element};
-ghost use Rattle.unit_forms.specs.Fields.{constructed, text_at};
+ghost use Rattle.unit_forms.specs.Fields.{constructed, object_identifier_tag, text_at};
 
 use z_ber::{Tag, written};
 
@@ -10,6 +10,7 @@ use z_ber::{Tag, written};
 pub(crate) fn field(tag: Tag, bytes: &[u8]) -> Option<(&[u8], &[u8])>
     requires { IsTag tag }
     ensures found { IfSome result (λ x. bytes.now ≡ element tag x.0.now ++ x.1.now) }
+    ensures shorter { IfSome result (λ x. length x.1.now < length bytes.now) }
     ensures none { IfNone result ((contents rest : List ℕ) → bytes.now ≡ element tag contents ++ rest → ⊥) }
 {
     match written(bytes) {
@@ -84,4 +85,12 @@ pub(crate) fn only_constructed(number: u32, bytes: &[u8]) -> Option<&[u8]>
     ensures none { IfNone result ((contents : List ℕ) → bytes.now ≡ element (constructed number) contents → ⊥) }
 {
     only(Tag::constructed_context(number), bytes)
+}
+
+/// The contents of the OBJECT IDENTIFIER that octets begin with, and what follows it.
+pub(crate) fn identifier_field(bytes: &[u8]) -> Option<(&[u8], &[u8])>
+    ensures found { IfSome result (λ x. bytes.now ≡ element object_identifier_tag x.0.now ++ x.1.now) }
+    ensures none { IfNone result ((contents rest : List ℕ) → bytes.now ≡ element object_identifier_tag contents ++ rest → ⊥) }
+{
+    field(Tag::universal(6), bytes)
 }

@@ -4,8 +4,11 @@
 
 mod elements;
 mod fields;
+mod queries;
 mod replies;
 mod requests;
+mod searches;
 mod values;
 
 pub use replies::write_reply;
+pub use requests::read_request;

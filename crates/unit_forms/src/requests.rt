@@ -6,12 +6,40 @@ ghost use Rattle.std.specs.Option.{option_copied};
 ghost use Rattle.unit_forms.specs.Fields.{ref_id_field, text_at};
 ghost use Rattle.unit_forms.specs.Read.{IsReadAs};
 ghost use Rattle.unit_forms.specs.Requests.{init_fields, close_fields};
-ghost use Rattle.unit_forms.specs.Served.{IsServedInit, IsServedClose};
+ghost use Rattle.unit_forms.specs.Served.{IsServedInit, IsServedClose, IsReading};
 
-use crate::elements::primitive_field;
+use crate::elements::{only_constructed, primitive_field};
+use crate::searches::read_search;
 use crate::values::{bits_field, number_field, only_number};
 use std::alloc::Global;
-use z_types::{Close, Init, Memory, Text};
+use z_types::{Close, Init, Memory, Request, Text};
+
+/// The request that a unit reads as, or `None` where it is the written form of none that is served:
+/// an Init; a Search of one database and one operand, for the set `1`, that shows no records; a Close
+/// of a reason alone.
+pub fn read_request(alloc: Global, unit: &[u8]) -> Result<Option<Request>, Memory>
+    ensures { IfOk result (IsReading unit.now) }
+{
+    if let Some(fields) = only_constructed(20, unit) {
+        return match read_init(alloc, fields)? {
+            Some(init) => Ok(Some(Request::Init(init))),
+            None => Ok(None),
+        };
+    }
+    if let Some(fields) = only_constructed(22, unit) {
+        return match read_search(alloc, fields)? {
+            Some(search) => Ok(Some(Request::Search(search))),
+            None => Ok(None),
+        };
+    }
+    if let Some(fields) = only_constructed(48, unit) {
+        return match read_close(fields) {
+            Some(close) => Ok(Some(Request::Close(close))),
+            None => Ok(None),
+        };
+    }
+    Ok(None)
+}
 
 /// The referenceId where octets begin with one, and what follows it.
 fn ref_id_of(bytes: &[u8]) -> (Option<&[u8]>, &[u8])
@@ -35,7 +63,7 @@ fn copy_of(alloc: Global, octets: Option<&[u8]>) -> Result<Option<Text>, Memory>
 }
 
 /// The Init whose fields octets are.
-pub(crate) fn read_init(alloc: Global, fields: &[u8]) -> Result<Option<Init>, Memory>
+fn read_init(alloc: Global, fields: &[u8]) -> Result<Option<Init>, Memory>
     ensures { IfOk result (IsReadAs IsServedInit init_fields fields.now) }
 {
     let (ref_id, rest) = ref_id_of(fields);
@@ -61,7 +89,7 @@ pub(crate) fn read_init(alloc: Global, fields: &[u8]) -> Result<Option<Init>, Me
 }
 
 /// The Close whose fields octets are.
-pub(crate) fn read_close(fields: &[u8]) -> Option<Close>
+fn read_close(fields: &[u8]) -> Option<Close>
     ensures { IsReadAs IsServedClose close_fields fields.now result }
 {
     match only_number(211, fields) {
