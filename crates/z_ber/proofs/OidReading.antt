@@ -34,6 +34,7 @@ number_front : (high n : ℕ) (bytes rest : List ℕ) → marked high ++ bytes �
 number_front high n bytes rest e =
     marked_front (digits_of 128 high) (digits_of 128 (n / 128)) (n % 128) bytes rest (omega arith) (e ∙ septets-parts n rest)
 
+-- octets with one behind them are some
 filled : (ds : List ℕ) (b : ℕ) (y : List ℕ) → [] ≡ ds ++ b ∷ y → ⊥
 filled [] b y e = cc
 filled (d ∷ ds) b y e = cc

@@ -1,4 +1,4 @@
--- The numbers of an object identifier behind its first two (X.690:2021, 8.19.2, 8.19.5). The bounds of 32 numbers and of 2^32 are this project's own.
+-- The numbers of an object identifier behind its first two (X.690:2021, 8.19.2, 8.19.3). The bounds of 32 numbers and of 2^32 are this project's own.
 use Rattle.std.specs.Prelude.{◌≡◌, ℕ, ◌+◌, ◌^◌, ◌≤◌, List, length, nat_lt, IsTrue}
 use Rattle.std.specs.List.{flat_map, list_all}
 use Rattle.z_ber.specs.Written.{septets}
