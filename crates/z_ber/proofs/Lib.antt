@@ -7,6 +7,7 @@ pub mod IntOctets
 pub mod IntReading
 pub mod Kept
 pub mod LengthReading
+pub mod OidReading
 pub mod OneSplit
 pub mod Room
 pub mod TagReading

@@ -1,3 +1,4 @@
+pub mod Arcs
 pub mod Element
 pub mod Frames
 pub mod Header

@@ -1,0 +1,151 @@
+//! The object identifier whose written form contents are (X.690:2021, 8.19).
+
+ghost use Rattle.std.specs.Prelude.{◌≡◌, ◌⊎◌, ℕ, ◌+◌, ◌*◌, ◌^◌, ◌<◌, List, [], ◌∷◌, ◌++◌, length, map, IsTrue, IfOk, IfSome, IfNone};
+ghost use Rattle.std.specs.Int.Digits.{digits_of};
+ghost use Rattle.z_types.specs.Oid.{is_oid, has_root};
+ghost use Rattle.z_ber.specs.Arcs.{AreArcs};
+ghost use Rattle.z_ber.specs.Written.{septets, oid_octets};
+
+use std::alloc::Global;
+use z_types::{Memory, Oid};
+
+/// A number below 2^33 in the fewest octets of seven bits each, of which the high part is known, and
+/// what follows it (8.19.2).
+fn number(high: u64, bytes: &[u8]) -> Option<(u64, &[u8])>
+    requires { high < 2 ^ 26 }
+    ensures found { IfSome result (λ x. map (λ digit. 128 + digit) (digits_of 128 high) ++ bytes.now ≡ septets x.0 ++ x.1.now) }
+    ensures none { IfNone result ((n : ℕ) (rest : List ℕ) → n < 2 ^ 33 → map (λ digit. 128 + digit) (digits_of 128 high) ++ bytes.now ≡ septets n ++ rest → ⊥) }
+    ensures shorter { IfSome result (λ x. length x.1.now < length bytes.now) }
+{
+    match bytes {
+        [] => None,
+        [octet, rest @ ..] => {
+            if *octet < 128 {
+                return Some((high * 128 + u64::from(*octet), rest));
+            }
+            let more = high * 128 + u64::from(*octet - 128);
+            if more == 0 || more > 67_108_863 {
+                return None;
+            }
+            number(more, rest)
+        }
+    }
+}
+
+/// The numbers so far and those that the octets are, with 32 numbers at most.
+fn read_arcs(mut arcs: Vec<u32>, bytes: &[u8]) -> Result<Option<Vec<u32>>, Memory>
+    ensures found { IfOk result (λ found. IfSome found (λ all. (more : List ℕ) × (all.items ≡ arcs.items ++ more) × AreArcs (length arcs.items) bytes.now more)) }
+    ensures none { IfOk result (λ found. IfNone found ((more : List ℕ) → AreArcs (length arcs.items) bytes.now more → ⊥)) }
+{
+    if arcs.len() > 32 {
+        return Ok(None);
+    }
+    if bytes.is_empty() {
+        return Ok(Some(arcs));
+    }
+    match number(0, bytes) {
+        None => Ok(None),
+        Some((number, rest)) => match u32::try_from(number) {
+            Ok(arc) => {
+                arcs.push(arc)?;
+                read_arcs(arcs, rest)
+            }
+            Err(_) => Ok(None),
+        },
+    }
+}
+
+/// The object identifier of the first two numbers and those that octets are.
+fn behind_root(alloc: Global, first: u32, second: u32, bytes: &[u8]) -> Result<Option<Oid>, Memory>
+    requires { IsTrue (has_root (first ∷ second ∷ [])) }
+    ensures found { IfOk result (λ found. IfSome found (λ arcs. IsTrue (is_oid arcs) × (septets (40 * first + second) ++ bytes.now ≡ oid_octets arcs))) }
+    ensures none { IfOk result (λ found. IfNone found ((arcs : List ℕ) → IsTrue (is_oid arcs) → septets (40 * first + second) ++ bytes.now ≡ oid_octets arcs → ⊥)) }
+{
+    let root = vec![in alloc; first, second]?;
+    match read_arcs(root, bytes)? {
+        Some(arcs) => Ok(Oid::from_vec(arcs)),
+        None => Ok(None),
+    }
+}
+
+/// The object identifier of the number that the first two are written as (8.19.4), and of those
+/// that octets are.
+fn behind_number(alloc: Global, number: u64, bytes: &[u8]) -> Result<Option<Oid>, Memory>
+    ensures found { IfOk result (λ found. IfSome found (λ arcs. IsTrue (is_oid arcs) × (septets number ++ bytes.now ≡ oid_octets arcs))) }
+    ensures none { IfOk result (λ found. IfNone found ((arcs : List ℕ) → IsTrue (is_oid arcs) → septets number ++ bytes.now ≡ oid_octets arcs → ⊥)) }
+{
+    let first = (number / 40).min(2) as u32;
+    match u32::try_from(number - 40 * u64::from(first)) {
+        Ok(second) => behind_root(alloc, first, second, bytes),
+        Err(_) => Ok(None),
+    }
+}
+
+/// The object identifier whose written form contents are (8.19), exactly where there is one: each
+/// number in the fewest octets, and the numbers such as an object identifier has. Only memory may
+/// fail.
+pub fn oid_of(alloc: Global, contents: &[u8]) -> Result<Option<Oid>, Memory>
+    ensures found { IfOk result (λ found. IfSome found (λ arcs. IsTrue (is_oid arcs) × (contents.now ≡ oid_octets arcs))) }
+    ensures none { IfOk result (λ found. IfNone found ((arcs : List ℕ) → IsTrue (is_oid arcs) → contents.now ≡ oid_octets arcs → ⊥)) }
+{
+    match number(0, contents) {
+        Some((number, rest)) => behind_number(alloc, number, rest),
+        None => Ok(None),
+    }
+}
+
+#[cfg(test)]
+mod tests {
+    use super::oid_of;
+    use std::process::Abort;
+    use std::test::Fail;
+
+    /// The contents are read as these numbers.
+    fn reads_as(
+        rt: &(impl Abort + AllocGlobal),
+        contents: &[u8],
+        arcs: &[u32],
+    ) -> Result<(), Fail> {
+        let oid = oid_of(rt.alloc(), contents)?.ok_or("no object identifier")?;
+        assert_eq!(rt; oid.arcs(), arcs, "in {contents:?}");
+        Ok(())
+    }
+
+    /// The contents are no object identifier.
+    fn is_refused(rt: &(impl Abort + AllocGlobal), contents: &[u8]) -> Result<(), Fail> {
+        assert!(rt; oid_of(rt.alloc(), contents)?.is_none(), "in {contents:?}");
+        Ok(())
+    }
+
+    // The first is X.690's own example (8.19.5), and the second bib-1's identifier (Z39.50, OID.1).
+    // The octets of the others are worked out by hand from 8.19.2 and 8.19.4.
+    #[test]
+    fn identifiers_are_read_from_their_written_form(rt: HostRuntime) -> Result<(), Fail> {
+        reads_as(&rt, &[0x81, 0x34, 0x03], &[2, 100, 3])?;
+        reads_as(
+            &rt,
+            &[0x2a, 0x86, 0x48, 0xce, 0x13, 0x03, 0x01],
+            &[1, 2, 840, 10003, 3, 1],
+        )?;
+        reads_as(&rt, &[0x00], &[0, 0])?;
+        reads_as(&rt, &[0x27, 0x7f], &[0, 39, 127])?;
+        reads_as(&rt, &[0x28, 0x81, 0x00], &[1, 0, 128])?;
+        reads_as(&rt, &[0x50], &[2, 0])?;
+        reads_as(&rt, &[0x90, 0x80, 0x80, 0x80, 0x4f], &[2, 4_294_967_295])?;
+        reads_as(&rt, &[0x00; 31], &[0; 32])
+    }
+
+    // The first is empty. Then come a digit of zeros in front, an octet that says that another
+    // follows, numbers of 2^32, and 33 numbers.
+    #[test]
+    fn other_octets_are_no_identifier(rt: HostRuntime) -> Result<(), Fail> {
+        is_refused(&rt, &[])?;
+        is_refused(&rt, &[0x80, 0x01])?;
+        is_refused(&rt, &[0x2a, 0x80, 0x01])?;
+        is_refused(&rt, &[0x81])?;
+        is_refused(&rt, &[0x2a, 0x86])?;
+        is_refused(&rt, &[0x90, 0x80, 0x80, 0x80, 0x50])?;
+        is_refused(&rt, &[0x2a, 0x90, 0x80, 0x80, 0x80, 0x00])?;
+        is_refused(&rt, &[0x00; 32])
+    }
+}
