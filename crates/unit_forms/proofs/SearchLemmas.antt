@@ -35,7 +35,7 @@ pub record Parts (search : Search) : Type 0 where
 
 -- the fields, where those that may be absent are
 pub search_fields-plain : (search : Search) (name : List ℕ) (query : RpnQuery) → IsServedSearch search → search.dbs ≡ name ∷ [] → search.query ≡ Good query
-  → search_fields search ≡ shown_nothing ++ (element (constructed 18) (text_at 105 name) ++ element (constructed 21) (query_octets query))
+    → search_fields search ≡ shown_nothing ++ (element (constructed 18) (text_at 105 name) ++ element (constructed 21) (query_octets query))
 unfolding search_fields shown_nothing
 search_fields-plain search name query served names asked =
     rw (served.ref_id, served.small, served.large, served.medium, served.replace, served.set_name, names, served.small_element, served.medium_element, served.syntax, asked) (simp (append_assoc, append-nil))
@@ -77,7 +77,7 @@ pub shown-peel : (bytes x y : List ℕ) → bytes ≡ shown_nothing ++ x → byt
 shown-peel bytes x y p q = sym (drop-append_seam shown_nothing x) ∙ ap (drop (length shown_nothing)) (sym p ∙ q) ∙ drop-append_seam shown_nothing y
 
 pub search-made : (search : Search) (bytes rest names after_names asked name : List ℕ) (query : RpnQuery) → IsServedSearch search → search.dbs ≡ name ∷ [] → search.query ≡ Good query
-  → bytes ≡ shown_nothing ++ rest → rest ≡ element (constructed 18) names ++ after_names → names ≡ text_at 105 name → after_names ≡ element (constructed 21) asked → asked ≡ query_octets query
-  → bytes ≡ search_fields search
+    → bytes ≡ shown_nothing ++ rest → rest ≡ element (constructed 18) names ++ after_names → names ≡ text_at 105 name → after_names ≡ element (constructed 21) asked → asked ≡ query_octets query
+    → bytes ≡ search_fields search
 search-made search bytes rest names after_names asked name query served one good e f g h i =
     let plain = search_fields-plain search name query served one good in cc

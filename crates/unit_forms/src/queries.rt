@@ -1,9 +1,7 @@
 //! Queries, read where they are one operand in its written form (ANSI/NISO Z39.50-2003, RPNQuery).
 
-ghost use Rattle.std.specs.Prelude.{◌≡◌, ℕ, List, IfOk, IfSome, IfNone, IsTrue};
+ghost use Rattle.std.specs.Prelude.{IfOk};
 ghost use Rattle.std.specs.List.{flat_map};
-ghost use Rattle.z_types.specs.Oid.{is_oid};
-ghost use Rattle.z_ber.specs.Written.{oid_octets};
 ghost use Rattle.unit_forms.specs.Read.{IsReadAs};
 ghost use Rattle.unit_forms.specs.Query.{attr_fields, attr_octets, tree_octets, query_octets};
 ghost use Rattle.unit_forms.specs.Served.{IsServedAttr, AreServedAttrs, IsServedTree, IsServedRpn};
@@ -14,7 +12,8 @@ use crate::elements::{
 use crate::fields::SEQUENCE;
 use crate::values::{number_field, only_number};
 use std::alloc::Global;
-use z_types::{Attr, List, Memory, Oid, Rpn, RpnQuery, Term, Text};
+use z_ber::oid_of;
+use z_types::{Attr, List, Memory, Rpn, RpnQuery, Term, Text};
 
 /// The most attributes of an operand.
 const MOST_ATTRS: usize = 16;
@@ -38,13 +37,6 @@ pub(crate) fn read_query(alloc: Global, bytes: &[u8]) -> Result<Option<RpnQuery>
     Ok(Some(RpnQuery { attr_set, root }))
 }
 
-fn oid_of(_alloc: Global, contents: &[u8]) -> Result<Option<Oid>, Memory>
-    ensures found { IfOk result (λ oid. IfSome oid (λ arcs. IsTrue (is_oid arcs) × (contents.now ≡ oid_octets arcs))) }
-    ensures none { IfOk result (λ oid. IfNone oid ((arcs : List ℕ) → IsTrue (is_oid arcs) → contents.now ≡ oid_octets arcs → ⊥)) }
-{
-    Err(Memory)
-}
-
 /// The operand that octets are.
 fn read_operand(alloc: Global, bytes: &[u8]) -> Result<Option<Rpn>, Memory>
     ensures { IfOk result (IsReadAs IsServedTree tree_octets bytes.now) }
@@ -64,10 +56,7 @@ fn read_operand(alloc: Global, bytes: &[u8]) -> Result<Option<Rpn>, Memory>
     let Some(attrs) = read_attrs(alloc, attrs)? else {
         return Ok(None);
     };
-    Ok(Some(Rpn::leaf(
-        attrs,
-        Term::General(Text::copy_of(alloc, term)?),
-    )))
+    Ok(Some(Rpn::leaf(attrs, Term::General(Text::copy_of(alloc, term)?))))
 }
 
 /// The attributes that octets are, one after another.
