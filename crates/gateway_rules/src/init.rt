@@ -1,8 +1,7 @@
 //! The Init service (ANSI/NISO Z39.50-2003, 3.2.1.1).
 
 ghost use Rattle.std.specs.Prelude.{◌≡◌, IfOk};
-ghost use Rattle.gateway_rules.specs.Init.{init_reply};
-ghost use Rattle.gateway_rules.specs.Answers.{Answers};
+ghost use Rattle.gateway_rules.specs.Init.{init_reply, has_version};
 
 use z_types::{Init, Memory, Reply, copy};
 
@@ -19,15 +18,21 @@ const OWN_SIZE: u32 = 1048576;
 pub fn init_reply(init: &Init) -> Result<Reply, Memory>
     ensures { IfOk result (λ reply. reply ≡ init_reply init.now) }
 {
-    let versions = init.versions & OWN_VERSIONS;
     Ok(Reply::Init {
         init: Init {
             ref_id: copy(&init.ref_id)?,
-            versions,
+            versions: init.versions & OWN_VERSIONS,
             options: init.options & OWN_OPTIONS,
             preferred: init.preferred.min(OWN_SIZE),
             exceptional: init.exceptional.min(OWN_SIZE),
         },
-        result: versions != 0,
+        result: has_version(init),
     })
+}
+
+/// Whether a version is common, so that the session is accepted.
+pub fn has_version(init: &Init) -> bool
+    ensures { result ≡ has_version init.now }
+{
+    init.versions & OWN_VERSIONS != 0
 }

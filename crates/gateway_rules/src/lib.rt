@@ -4,4 +4,4 @@
 
 mod init;
 
-pub use init::init_reply;
+pub use init::{has_version, init_reply};

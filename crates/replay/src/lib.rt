@@ -5,6 +5,7 @@
 mod page;
 mod reports;
 mod search;
+mod units;
 
 pub use page::print;
 pub use reports::{ClientReport, Report};
