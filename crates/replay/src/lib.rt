@@ -2,10 +2,12 @@
 //! printed.
 #![tactic(auto)]
 
+mod client;
 mod page;
 mod reports;
 mod search;
 mod units;
 
+pub use client::answer;
 pub use page::print;
 pub use reports::{ClientReport, Report};

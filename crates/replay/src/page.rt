@@ -20,11 +20,7 @@ pub fn print(alloc: Global, report: &Report) -> Result<Text, Memory>
 }
 
 /// The lines of each client.
-fn put_clients(
-    alloc: Global,
-    out: &mut Text,
-    clients: &List<ClientReport>,
-) -> Result<(), Memory>
+fn put_clients(alloc: Global, out: &mut Text, clients: &List<ClientReport>) -> Result<(), Memory>
     ensures { OnOk result (out.new ≡ out.old ++ flat_map client_lines clients.now) }
 {
     for client in clients.as_slice() {

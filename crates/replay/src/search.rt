@@ -52,10 +52,7 @@ fn failed_search(ref_id: &Option<Text>, diag: Diag) -> Result<Reply, Memory>
 }
 
 /// A Search that found these hits, or that a target refused.
-fn search_outcome(
-    ref_id: &Option<Text>,
-    hits: Result<List<u32>, Diag>,
-) -> Result<Reply, Memory>
+fn search_outcome(ref_id: &Option<Text>, hits: Result<List<u32>, Diag>) -> Result<Reply, Memory>
     ensures { IfOk result (λ reply. reply ≡ search_outcome ref_id.now hits) }
 {
     match hits {

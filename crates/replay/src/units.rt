@@ -6,7 +6,7 @@ ghost use Rattle.gateway_rules.specs.Session.{reply_to, protocol_error};
 ghost use Rattle.gateway_rules.specs.State.{is_in_place};
 ghost use Rattle.unit_forms.specs.Replies.{spell_reply};
 ghost use Rattle.unit_forms.specs.Served.{IsServed};
-ghost use Rattle.replay.specs.Answered.{IsAnswered};
+ghost use Rattle.replay.specs.Answered.{IsAnswered, IsAfter};
 
 use crate::search::search_reply;
 use gateway_rules::{has_version, init_reply};
@@ -17,37 +17,47 @@ use unit_forms::{read_request, write_reply};
 use z_types::{Close, Memory, Reply, Request, Text, copy};
 
 /// What became of a unit.
-#[derive(Drop)]
+#[derive(Clone, Copy)]
 pub enum Answered {
-    /// It is no request, or out of its place.
+    /// It is no request, or out of its place; a protocol error was written.
     Refused,
-    /// It is a Close, answered so.
-    Closed(Reply),
-    /// It is answered so, and an Init was accepted now or before, or not.
-    Went(Reply, bool),
+    /// It is a Close; the Close that answers it was written.
+    Closed,
+    /// Its reply was written, and an Init was accepted now or before, or not.
+    Went(bool),
 }
 
-/// What becomes of a unit, where an Init was accepted before or not.
+/// Writes the answer to a unit, where an Init was accepted before or not.
 pub(crate) fn answer_unit<T: Targets>(
     alloc: Global,
     route: &Route,
     targets: &T,
     accepted: bool,
     unit: &[u8],
+    out: &mut Text,
 ) -> Result<Answered, Memory>
-    ensures { IfOk result (IsAnswered T.World route.now (record { accepted = accepted }) unit.now) }
+    ensures { IfOk result (IsAnswered T.World route.now (record { accepted = accepted }) unit.now out.old out.new) }
 {
     let Some(request) = read_request(alloc, unit)? else {
+        put_reply(alloc, out, protocol_error())?;
         return Ok(Answered::Refused);
     };
     if !is_in_place(accepted, &request) {
+        put_reply(alloc, out, protocol_error())?;
         return Ok(Answered::Refused);
     }
-    let reply = reply_to(alloc, route, targets, &request)?;
-    match &request {
-        Request::Init(init) => Ok(Answered::Went(reply, has_version(init))),
-        Request::Search(_) => Ok(Answered::Went(reply, accepted)),
-        Request::Close(_) => Ok(Answered::Closed(reply)),
+    put_reply(alloc, out, reply_to(alloc, route, targets, &request)?)?;
+    Ok(leaves(accepted, &request))
+}
+
+/// What a request in its place leaves.
+fn leaves(accepted: bool, request: &Request) -> Answered
+    ensures { IsAfter (record { accepted = accepted }) request.now result }
+{
+    match request {
+        Request::Init(init) => Answered::Went(has_version(init)),
+        Request::Search(_) => Answered::Went(accepted),
+        Request::Close(_) => Answered::Closed,
     }
 }
 
@@ -94,10 +104,10 @@ pub(crate) fn protocol_error() -> Reply
     })
 }
 
-/// A reply, written at the end of what a client was written.
-pub(crate) fn put_reply(alloc: Global, out: &mut Text, reply: &Reply) -> Result<(), Memory>
-    ensures { OnOk result (out.new ≡ out.old ++ spell_reply reply.now) }
+/// Writes a reply behind what a client was written.
+pub(crate) fn put_reply(alloc: Global, out: &mut Text, reply: Reply) -> Result<(), Memory>
+    ensures { OnOk result (out.new ≡ out.old ++ spell_reply reply) }
 {
-    let text = write_reply(alloc, reply)?;
+    let text = write_reply(alloc, &reply)?;
     out.append(text.as_slice())
 }

@@ -18,7 +18,8 @@ pub not_empty : (xs : List ℕ) → (length xs == 0) ≡ false → xs ≡ [] →
 not_empty [] h e = cc
 not_empty (x ∷ xs) h e = cc
 
-tag_octets-some : (t : Tag) → 0 < length (tag_octets t)
+-- a tag has some octets
+pub tag_octets-some : (t : Tag) → 0 < length (tag_octets t)
 tag_octets-some t =
     ⊎_elim (λ h. rw (tag_octets-low t h) (omega arith)) (λ h. rw (tag_octets-high t h) (omega arith)) (cases_lt t.number 31)
 
