@@ -209,7 +209,7 @@ none_long bytes t lead count digits valid s some lead-is over = λ o.
 errs_one : {A : Type 0} (r : Result A BerFault) (d e : BerFault) → r ≡ Err d → r ≡ Err e → d ≡ e
 errs_one r d e p q = cc
 
-bind_short : {A B : Type 0} (r : Result A BerFault) (f : A → B) → (r >>= λ x. Ok (f x)) ≡ Err Short → r ≡ Err Short
+pub bind_short : {A B : Type 0} (r : Result A BerFault) (f : A → B) → (r >>= λ x. Ok (f x)) ≡ Err Short → r ≡ Err Short
 bind_short (Ok x) f e = absurd cc
 bind_short (Err d) f e = cc
 

@@ -1,4 +1,5 @@
 pub mod BitsReading
+pub mod Closing
 pub mod DigitSteps
 pub mod ElementLaws
 pub mod FrameReading
@@ -10,6 +11,7 @@ pub mod LengthReading
 pub mod OneSplit
 pub mod Room
 pub mod TagReading
+pub mod StepReading
 pub mod StrictReading
 pub mod TreeLaws
 pub mod ValueLaws

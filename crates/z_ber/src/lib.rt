@@ -3,12 +3,14 @@
 #![tactic(auto)]
 
 mod digits;
+mod extent;
 mod fault;
 mod frame;
 mod laws;
 mod put;
 mod read;
 mod spell;
+mod step;
 mod strict;
 mod tag;
 mod values;
