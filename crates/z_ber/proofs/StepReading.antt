@@ -19,7 +19,7 @@ use Rattle.z_ber.proofs.TagReading.{IsBytes, IsBytes-tail, TagRead, tag_at-read}
 use Rattle.z_ber.proofs.LengthReading.{LengthRead, padded-short, long_form, length_at-part}
 use Rattle.z_ber.proofs.HeaderReading.{HeaderParts, HeaderRead, ok_not_err, header_at-again, header_at-read, header_at-tag, header_at-untagged, IsBytes-suffix}
 use Rattle.z_ber.proofs.FrameReading.{bind_short}
-use Rattle.z_ber.proofs.TreeLaws.{is_end}
+use Rattle.z_ber.proofs.TreeLaws.{is_end, heads_one, end_tag, end_header, none_some}
 
 -- ---- a header has two octets at least
 
@@ -88,3 +88,166 @@ part_completes bytes fits h (Ok (t, lead ∷ digits)) p r =
 
 pub header-completes : (bytes : List ℕ) → IsBytes bytes → header_at bytes ≡ Err Short → Completes bytes
 header-completes bytes fits h = part_completes bytes fits h (tag_at bytes) refl (tag_at-read bytes fits)
+
+-- ---- one step
+
+-- what stands at the front is no end of contents
+pub step_at-child : (room : ℕ) (b : List ℕ) → 2 ≤ length b → ((z : List ℕ) → b ≡ 0 ∷ 0 ∷ z → ⊥) → step_at room b ≡ child_at room b
+unfolding step_at
+step_at-child room [] two apart = absurd (omega arith)
+step_at-child room (zero ∷ []) two apart = absurd (omega arith)
+step_at-child room (zero ∷ zero ∷ z) two apart = absurd (apart z refl)
+step_at-child room (zero ∷ suc s ∷ z) two apart = refl
+step_at-child room (suc f ∷ z) two apart = refl
+
+pub step_at-end : (room : ℕ) (after : List ℕ) → step_at room (end_of_contents ++ after) ≡ Ok (End, after)
+unfolding step_at
+step_at-end room after = refl
+
+pub child_at-room : (k : ℕ) (b : List ℕ) → child_at (suc k) b ≡ child_behind (header_at b)
+child_at-room k b = rw (ne_eqb (suc k) 0 (λ e. omega arith)) refl
+
+-- an element behind its whole header is passed over or entered
+pub step_at-whole : (k : ℕ) (frame after : List ℕ) (t : Tag) (body : List ℕ) → IsDefinite frame t body → frame ≢ end_of_contents → step_at (suc k) (frame ++ after) ≡ Ok (Whole, after)
+step_at-whole k frame after t body d apart =
+    let parts : frame ++ after ≡ d.head ++ (body ++ after) = ap (λ o. o ++ after) d.spelled ∙ append_assoc d.head body after in
+    let two : 2 ≤ length (frame ++ after) = omega (arith, length-header d.head t (Some (length body)) d.header, ap length parts, length-append d.head (body ++ after)) in
+    let unlike : (z : List ℕ) → frame ++ after ≡ 0 ∷ 0 ∷ z → ⊥ = λ z e. apart (d.spelled ∙ is_end d.head body after z t d.header (ap (λ o. o ++ after) (sym d.spelled) ∙ e)) in
+    let come : ltb (length (body ++ after)) (length body) ≡ false = le-ltb _ _ (omega (arith, length-append body after)) in
+    step_at-child (suc k) (frame ++ after) two unlike ∙ child_at-room k (frame ++ after) ∙ ap child_behind (ap header_at parts ∙ header_at-again d.head t (Some (length body)) (body ++ after) d.header) ∙ rw (come, drop_at body after (length body) refl) refl
+
+-- an indefinite header is not the end of contents
+pub head_apart : (h : List ℕ) (t : Tag) (x z : List ℕ) → IsHeader h t None → h ++ x ≡ 0 ∷ 0 ∷ z → ⊥
+head_apart h t x z p e =
+    let one = heads_one h end_of_contents t end_tag None (Some 0) x z p end_header e in
+    none_some 0 None refl one.1
+
+pub step_at-open : (k : ℕ) (head after : List ℕ) (t : Tag) → IsHeader head t None → step_at (suc k) (head ++ after) ≡ Ok (Open, after)
+step_at-open k head after t p =
+    let two : 2 ≤ length (head ++ after) = omega (arith, length-header head t None p, length-append head after) in
+    step_at-child (suc k) (head ++ after) two (λ z e. head_apart head t after z p e) ∙ child_at-room k (head ++ after) ∙ ap child_behind (header_at-again head t None after p)
+
+-- what a step has found
+pub record FoundWhole (room : ℕ) (bytes after : List ℕ) : Type 0 where
+  pub level : ℕ
+  pub room-is : room ≡ suc level
+  pub tag : Tag
+  pub frame : List ℕ
+  pub body : List ℕ
+  pub definite : IsDefinite frame tag body
+  pub apart : frame ≢ end_of_contents
+  pub spelled : bytes ≡ frame ++ after
+
+pub record FoundOpen (room : ℕ) (bytes after : List ℕ) : Type 0 where
+  pub level : ℕ
+  pub room-is : room ≡ suc level
+  pub tag : Tag
+  pub head : List ℕ
+  pub header : IsHeader head tag None
+  pub spelled : bytes ≡ head ++ after
+
+-- some continuation is the end of contents, or a definite element where levels are left
+pub record Continues (room : ℕ) (bytes : List ℕ) : Type 0 where
+  pub more : List ℕ
+  pub goes : (bytes ++ more ≡ end_of_contents) ⊎ FoundWhole room (bytes ++ more) []
+
+-- no continuation begins with the end of contents, and none with a header where levels are left
+abbrev pub IsStuck : ℕ → List ℕ → Type 0
+IsStuck room bytes = ((more rest : List ℕ) → bytes ++ more ≡ end_of_contents ++ rest → ⊥) × ((level : ℕ) → room ≡ suc level → Opens IsSomeHeader bytes → ⊥)
+
+abbrev pub StepRead : ℕ → List ℕ → Result (Step × List ℕ) BerFault → Type 0
+StepRead room bytes (Ok (End, after)) = bytes ≡ end_of_contents ++ after
+StepRead room bytes (Ok (Whole, after)) = FoundWhole room bytes after
+StepRead room bytes (Ok (Open, after)) = FoundOpen room bytes after
+StepRead room bytes (Err Short) = Continues room bytes
+StepRead room bytes (Err _) = IsStuck room bytes
+
+-- a definite header with contents that may have come in part
+definite_frame_of : (bytes head body : List ℕ) (t : Tag) (len : ℕ) → IsHeader head t (Some len) → bytes ≡ head ++ body → length body ≡ len → IsDefinite bytes t body
+definite_frame_of bytes head body t len h s n = record { head = head; header = subst (λ (k : ℕ). IsHeader head t (Some k)) (sym n) h; spelled = s }
+
+-- however the octets go on, they do not begin with the end of contents
+abbrev pub NeverEnds : List ℕ → Type 0
+NeverEnds b = (more rest : List ℕ) → b ++ more ≡ end_of_contents ++ rest → ⊥
+
+not_end_of : (b more : List ℕ) → NeverEnds b → b ++ more ≢ end_of_contents
+not_end_of b more never e = never more [] (e ∙ sym (append-nil end_of_contents))
+
+child_read : (k : ℕ) (b : List ℕ) → IsBytes b → NeverEnds b → (r : Result HeaderParts BerFault) → header_at b ≡ r → HeaderRead b r → StepRead (suc k) b (child_behind r)
+child_read k b fits never (Ok (t, None, body)) p h = record { level = k; room-is = refl; tag = t; head = h.head; header = h.header; spelled = h.spelled }
+child_read k b fits never (Ok (t, Some len, body)) p h =
+    elim (cases_lt (length body) len) [
+      | inl short ↦
+        let zeros : List ℕ = replicate (len - length body) 0 in
+        let n : length (body ++ zeros) ≡ len = omega (arith, length-append body zeros, length-replicate {A = ℕ} (len - length body) 0) in
+        let s : b ++ zeros ≡ h.head ++ (body ++ zeros) = ap (λ o. o ++ zeros) h.spelled ∙ append_assoc h.head body zeros in
+        let frame : FoundWhole (suc k) (b ++ zeros) [] = record {
+          level = k;
+          room-is = refl;
+          tag = t;
+          frame = b ++ zeros;
+          body = body ++ zeros;
+          definite = definite_frame_of (b ++ zeros) h.head (body ++ zeros) t len h.header s n;
+          apart = not_end_of b zeros never;
+          spelled = sym (append-nil (b ++ zeros))
+        } in
+        let r : Continues (suc k) b = record { more = zeros; goes = inr frame } in
+        rw (lt-ltb (length body) len short) r
+      | inr come ↦
+        let n : length (take len body) ≡ len = length-take-le len body come in
+        let s : b ≡ (h.head ++ take len body) ++ drop len body = h.spelled ∙ ap (λ o. h.head ++ o) (sym (take-append-drop len body)) ∙ sym (append_assoc h.head (take len body) (drop len body)) in
+        let r : FoundWhole (suc k) b (drop len body) = record {
+          level = k;
+          room-is = refl;
+          tag = t;
+          frame = h.head ++ take len body;
+          body = take len body;
+          definite = definite_frame_of (h.head ++ take len body) h.head (take len body) t len h.header refl n;
+          apart = λ e. never [] (drop len body) (append-nil b ∙ s ∙ ap (λ o. o ++ drop len body) e);
+          spelled = s
+        } in
+        rw (le-ltb (length body) len come) r
+    ]
+child_read k b fits never (Err Short) p h =
+    let c = header-completes b fits p in
+    let zeros : List ℕ = replicate c.len 0 in
+    let n : length (replicate {A = ℕ} c.len 0) ≡ c.len = length-replicate {A = ℕ} c.len 0 in
+    let frame : FoundWhole (suc k) (b ++ (c.more ++ zeros)) [] = record {
+      level = k;
+      room-is = refl;
+      tag = c.tag;
+      frame = b ++ (c.more ++ zeros);
+      body = zeros;
+      definite = definite_frame_of (b ++ (c.more ++ zeros)) (b ++ c.more) zeros c.tag c.len c.header (sym (append_assoc b c.more zeros)) n;
+      apart = not_end_of b (c.more ++ zeros) never;
+      spelled = sym (append-nil (b ++ (c.more ++ zeros)))
+    } in
+    record { more = c.more ++ zeros; goes = inr frame }
+child_read k b fits never (Err BadTag) p h = (never, λ level e o. h (o.0, identified_header (b ++ o.0) o.1))
+  where
+    identified_header : (x : List ℕ) → Begins IsSomeHeader x → Begins IsIdentifier x
+    identified_header x s =
+        let q = s.2.2 in
+        (tag_octets s.2.0, q.ends ++ s.1, (s.2.0, q.valid, refl), s.3 ∙ ap (λ f. f ++ s.1) q.spelled ∙ append_assoc (tag_octets s.2.0) q.ends s.1)
+child_read k b fits never (Err BadLength) p h = (never, λ level e o. h.1 o)
+child_read k b fits never (Err (TooLarge n)) p h = absurd h
+child_read k b fits never (Err TooDeep) p h = absurd h
+
+stuck_deep : (b : List ℕ) → NeverEnds b → IsStuck 0 b
+stuck_deep b never = (never, λ level e o. absurd (omega arith))
+
+child_at-read : (room : ℕ) (b : List ℕ) → IsBytes b → NeverEnds b → StepRead room b (child_at room b)
+child_at-read zero b fits never = stuck_deep b never
+child_at-read (suc k) b fits never =
+    subst (λ (r : Result (Step × List ℕ) BerFault). StepRead (suc k) b r) (sym (child_at-room k b)) (child_read k b fits never (header_at b) refl (header_at-read b fits))
+
+-- each outcome of a step is right
+pub step_at-read : (room : ℕ) (b : List ℕ) → IsBytes b → StepRead room b (step_at room b)
+unfolding step_at
+step_at-read room [] fits = record { more = 0 ∷ 0 ∷ []; goes = inl refl }
+step_at-read room (zero ∷ []) fits = record { more = 0 ∷ []; goes = inl refl }
+step_at-read room (zero ∷ zero ∷ z) fits = refl
+step_at-read room (zero ∷ suc y ∷ z) fits =
+    child_at-read room (zero ∷ suc y ∷ z) fits (λ more rest e. let h = heads (suc y) 0 _ _ (heads 0 0 _ _ e).1 in absurd (omega (arith, h.0)))
+step_at-read room (suc x ∷ z) fits =
+    child_at-read room (suc x ∷ z) fits (λ more rest e. let h = heads (suc x) 0 _ _ e in absurd (omega (arith, h.0)))

@@ -36,7 +36,7 @@ end_header = record { valid = (lit< tt, lit< tt); ends = 0 ∷ []; lengths = inl
 some_one : (m n : ℕ) (l : Option ℕ) → l ≡ Some m → l ≡ Some n → m ≡ n
 some_one m n l p q = cc
 
-none_some : {P : Type 0} (n : ℕ) (l : Option ℕ) → l ≡ None → l ≡ Some n → P
+pub none_some : {P : Type 0} (n : ℕ) (l : Option ℕ) → l ≡ None → l ≡ Some n → P
 none_some n l p q = absurd cc
 
 true_false : {P : Type 0} (b : Bool) → b ≡ true → b ≡ false → P
