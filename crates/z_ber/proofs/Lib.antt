@@ -1,4 +1,5 @@
 pub mod BitsReading
+pub mod CloseReading
 pub mod Closing
 pub mod DigitSteps
 pub mod ElementLaws
