@@ -1,5 +1,5 @@
 -- Where elements of indefinite length end: what is found is so, and each fault comes where it is due.
-use Rattle.std.proofs.Common.{◌≡◌, ◌∙◌, ◌≢◌, ◌⊎◌, ℕ, ◌+◌, ◌-◌, ◌<◌, ◌≤◌, zero, suc, inl, inr, List, [], ◌∷◌, ◌++◌, length, Option, Some, None, Result, Ok, Err, sym, ap, subst, append_assoc, arith, refl}
+use Rattle.std.proofs.Common.{◌≡◌, ◌∙◌, ◌≢◌, ◌⊎◌, ℕ, ◌-◌, ◌<◌, zero, suc, inl, inr, List, [], ◌∷◌, ◌++◌, length, Some, None, Result, Ok, Err, sym, ap, subst, append_assoc, arith, refl}
 use Rattle.std.specs.List.{flat_map, AllByRecursion}
 use Rattle.std.proofs.lemmas.List.{length-append, append-nil, append_cancel_left}
 use Rattle.z_ber.specs.declared.fault.BerFault.{BerFault}
@@ -7,7 +7,7 @@ use Rattle.z_ber.specs.declared.fault.BerFault.TheVariants.{Short, BadTag, BadLe
 use Rattle.z_ber.specs.declared.step.Step.{Step}
 use Rattle.z_ber.specs.declared.step.Step.TheVariants.{End, Whole, Open}
 use Rattle.z_ber.specs.declared.tag.Tag.{Tag}
-use Rattle.z_ber.specs.Header.{IsHeader, Begins, Opens, IsSomeHeader}
+use Rattle.z_ber.specs.Header.{IsHeader}
 use Rattle.z_ber.specs.Element.{end_of_contents}
 use Rattle.z_ber.specs.Frames.{IsDefinite, IsIndefinite, IsExtent, IsFrameAt}
 use Rattle.z_ber.specs.Reading.{step_at, close_on, close_at}
@@ -15,8 +15,8 @@ use Rattle.z_ber.proofs.TagReading.{IsBytes}
 use Rattle.z_ber.proofs.HeaderReading.{IsBytes-suffix}
 use Rattle.z_ber.proofs.ElementLaws.{fronts}
 use Rattle.z_ber.proofs.FrameReading.{some_is}
-use Rattle.z_ber.proofs.TreeLaws.{is_end, heads_one, end_tag, end_header, none_some}
-use Rattle.z_ber.proofs.StepReading.{length-header, StepRead, step_at-read, step_at-end, step_at-whole, step_at-open, head_apart, FoundWhole, FoundOpen, Continues, IsStuck}
+use Rattle.z_ber.proofs.TreeLaws.{is_end, heads_one, none_some}
+use Rattle.z_ber.proofs.StepReading.{length-header, StepRead, step_at-read, step_at-end, step_at-whole, step_at-open, head_apart, IsStuck}
 use Rattle.z_ber.proofs.Closing.{close_at-closed}
 
 -- ---- extents by their two forms
@@ -69,7 +69,7 @@ closes_frame o room bytes f after rest i e c = record {
   after = c.after;
   each = (i, c.each);
   spelled = e ∙ ap (λ t. f ++ t) c.spelled ∙ sym (append_assoc f (joined c.frames) (end_of_contents ++ c.after));
-  behind = c.behind
+  behind = c.behind;
 }
 
 indefinite_apart : (k : ℕ) (f b : List ℕ) (t : Tag) → Indefinite k f t b → f ≢ end_of_contents
@@ -90,13 +90,13 @@ closes_open o k bytes head after rest t h e c =
 ok_one : (x y : List ℕ) (r : Result (List ℕ) BerFault) → r ≡ Ok x → r ≡ Ok y → x ≡ y
 ok_one x y r p q = cc
 
-ok_err : {P : Type 0} (x : List ℕ) (e : BerFault) (r : Result (List ℕ) BerFault) → r ≡ Ok x → r ≡ Err e → P
+pub ok_err : {P : Type 0} (x : List ℕ) (e : BerFault) (r : Result (List ℕ) BerFault) → r ≡ Ok x → r ≡ Err e → P
 ok_err x e r p q = absurd cc
 
 err_one : (d e : BerFault) (r : Result (List ℕ) BerFault) → r ≡ Err d → r ≡ Err e → d ≡ e
 err_one d e r p q = cc
 
-bytes_of : (b x y : List ℕ) → IsBytes b → b ≡ x ++ y → IsBytes y
+pub bytes_of : (b x y : List ℕ) → IsBytes b → b ≡ x ++ y → IsBytes y
 bytes_of b x y fits e = IsBytes-suffix x y (subst (λ (l : List ℕ). IsBytes l) e fits)
 
 abbrev Sound : ℕ → List ℕ → Type 0
@@ -139,10 +139,10 @@ peel_frames o (suc k) bytes rest after (f ∷ fs) each e c =
     elim (extent-cases k f body t each.0.0.2) [
       | inl d ↦ peel_whole k f body behind t refl d each.0.1 s more
       | inr d ↦
-        let entered : List ℕ = joined d.frames ++ (end_of_contents ++ behind) in
-        let at_head : bytes ≡ d.head ++ entered = s ∙ ap (λ x. x ++ behind) (d.spelled ∙ ap (λ x. (d.head ++ x) ++ end_of_contents) d.inside) ∙ regroup d.head (joined d.frames) end_of_contents behind in
-        let inner : Closes (suc (suc o)) k (joined d.frames ++ (end_of_contents ++ (joined fs ++ (end_of_contents ++ after)))) rest = record { frames = d.frames; after = behind; each = d.each; spelled = refl; behind = more } in
-        peel_open k d.head entered t refl d.header at_head inner
+          let entered : List ℕ = joined d.frames ++ (end_of_contents ++ behind) in
+          let at_head : bytes ≡ d.head ++ entered = s ∙ ap (λ x. x ++ behind) (d.spelled ∙ ap (λ x. (d.head ++ x) ++ end_of_contents) d.inside) ∙ regroup d.head (joined d.frames) end_of_contents behind in
+          let inner : Closes (suc (suc o)) k (joined d.frames ++ (end_of_contents ++ (joined fs ++ (end_of_contents ++ after)))) rest = record { frames = d.frames; after = behind; each = d.each; spelled = refl; behind = more } in
+          peel_open k d.head entered t refl d.header at_head inner
     ]
   where
     regroup : (a b c d : List ℕ) → ((a ++ b) ++ c) ++ d ≡ a ++ (b ++ (c ++ d))
@@ -264,12 +264,12 @@ opening_step n o r b fits lt ih (Ok (Open, after)) h e =
 opening_step n o r b fits lt ih (Err Short) h e =
     elim h.goes [
       | inl end-is ↦
-        let m = ends o (suc r) in
-        (h.more ++ m.0, closes_end o r (b ++ (h.more ++ m.0)) m.0 [] (sym (append_assoc b h.more m.0) ∙ ap (λ x. x ++ m.0) end-is) m.1)
+          let m = ends o (suc r) in
+          (h.more ++ m.0, closes_end o r (b ++ (h.more ++ m.0)) m.0 [] (sym (append_assoc b h.more m.0) ∙ ap (λ x. x ++ m.0) end-is) m.1)
       | inr w ↦
-        let m = ends (suc o) r in
-        let inner : Inner r w.frame = ((w.tag, w.body, subst (λ (k : ℕ). IsExtent k w.frame w.tag w.body) (sym w.room-is) (extent-definite w.level w.frame w.body w.tag w.definite)), w.apart) in
-        (h.more ++ m.0, closes_frame o r (b ++ (h.more ++ m.0)) w.frame m.0 [] inner (sym (append_assoc b h.more m.0) ∙ ap (λ x. x ++ m.0) (w.spelled ∙ append-nil w.frame)) m.1)
+          let m = ends (suc o) r in
+          let inner : Inner r w.frame = ((w.tag, w.body, subst (λ (k : ℕ). IsExtent k w.frame w.tag w.body) (sym w.room-is) (extent-definite w.level w.frame w.body w.tag w.definite)), w.apart) in
+          (h.more ++ m.0, closes_frame o r (b ++ (h.more ++ m.0)) w.frame m.0 [] inner (sym (append_assoc b h.more m.0) ∙ ap (λ x. x ++ m.0) (w.spelled ∙ append-nil w.frame)) m.1)
     ]
 opening_step n o r b fits lt ih (Err BadTag) h e = short_is BadTag _ refl e (λ d. absurd cc)
 opening_step n o r b fits lt ih (Err BadLength) h e = short_is BadLength _ refl e (λ d. absurd cc)

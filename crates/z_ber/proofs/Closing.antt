@@ -1,5 +1,5 @@
 -- The steps to the end of elements of indefinite length.
-use Rattle.std.proofs.Common.{◌≡◌, ◌∙◌, ℕ, ◌<◌, zero, suc, List, length, Result, Ok, Err, sym, ap, subst, arith, refl}
+use Rattle.std.proofs.Common.{◌≡◌, ◌∙◌, ℕ, ◌<◌, zero, suc, List, length, Result, Ok, Err, ap, arith, refl}
 use Rattle.z_ber.specs.declared.fault.BerFault.{BerFault}
 use Rattle.z_ber.specs.Reading.{close_at}
 

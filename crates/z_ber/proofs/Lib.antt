@@ -3,6 +3,8 @@ pub mod CloseReading
 pub mod Closing
 pub mod DigitSteps
 pub mod ElementLaws
+pub mod ElementReading
+pub mod ExtentReading
 pub mod FrameReading
 pub mod HeaderReading
 pub mod IntOctets

@@ -1,23 +1,22 @@
 -- One step within an element of indefinite length: what it finds is there, and each fault comes where it is due.
-use Rattle.std.proofs.Common.{◌≡◌, ◌∙◌, ◌≢◌, ◌⊎◌, ℕ, ◌+◌, ◌-◌, ◌<◌, ◌≤◌, zero, suc, Bool, true, false, cond, ltb, eqb, lit<, lit≤, inl, inr, List, [], ◌∷◌, ◌++◌, length, take, drop, Option, Some, None, Result, Ok, Err, sym, ap, subst, append_assoc, arith, refl}
+use Rattle.std.proofs.Common.{◌≡◌, ◌∙◌, ◌≢◌, ◌⊎◌, ℕ, ◌+◌, ◌-◌, ◌≤◌, zero, suc, Bool, false, ltb, lit<, inl, inr, List, [], ◌∷◌, ◌++◌, length, take, drop, Option, Some, None, Result, Ok, Err, sym, ap, subst, append_assoc, arith, refl}
 use Rattle.std.proofs.lemmas.List.{length-append, append-nil, take-append-drop, length-take-le, drop_at, length-replicate}
-use Rattle.std.proofs.lemmas.Bool.{cases_lt, cases_eq, lt-ltb, le-ltb, eq-eqb, ne_eqb}
+use Rattle.std.proofs.lemmas.Bool.{cases_lt, lt-ltb, le-ltb, ne_eqb}
 use Rattle.std.specs.Prelude.{replicate}
 use Rattle.z_ber.specs.declared.fault.BerFault.{BerFault}
 use Rattle.z_ber.specs.declared.fault.BerFault.TheVariants.{Short, BadTag, BadLength, TooLarge, TooDeep}
 use Rattle.z_ber.specs.declared.step.Step.{Step}
 use Rattle.z_ber.specs.declared.step.Step.TheVariants.{End, Whole, Open}
 use Rattle.z_ber.specs.declared.tag.Tag.{Tag}
-use Rattle.z_ber.specs.Written.{IsTag, septets, tag_octets}
+use Rattle.z_ber.specs.Written.{tag_octets}
 use Rattle.z_ber.specs.Header.{IsLength, IsHeader, Begins, Opens, IsIdentifier, IsSomeHeader}
-use Rattle.z_ber.specs.HeaderAnswer.{IsHeaderAnswer}
 use Rattle.z_ber.specs.Element.{end_of_contents}
 use Rattle.z_ber.specs.Frames.{IsDefinite}
 use Rattle.z_ber.specs.Reading.{tag_at, length_at, padded, header_at, child_behind, child_at, step_at}
 use Rattle.z_ber.proofs.ElementLaws.{heads, tag_octets-low, tag_octets-high}
 use Rattle.z_ber.proofs.TagReading.{IsBytes, IsBytes-tail, TagRead, tag_at-read}
-use Rattle.z_ber.proofs.LengthReading.{LengthRead, padded-short, long_form, length_at-part}
-use Rattle.z_ber.proofs.HeaderReading.{HeaderParts, HeaderRead, ok_not_err, header_at-again, header_at-read, header_at-tag, header_at-untagged, IsBytes-suffix}
+use Rattle.z_ber.proofs.LengthReading.{padded-short, long_form, length_at-part}
+use Rattle.z_ber.proofs.HeaderReading.{HeaderParts, HeaderRead, header_at-again, header_at-read, header_at-tag, header_at-untagged, IsBytes-suffix}
 use Rattle.z_ber.proofs.FrameReading.{bind_short}
 use Rattle.z_ber.proofs.TreeLaws.{is_end, heads_one, end_tag, end_header, none_some}
 
@@ -52,7 +51,7 @@ part_completes bytes fits h (Err Short) p r = record {
   more = r.more ++ 0 ∷ [];
   tag = r.tag;
   len = 0;
-  header = record { valid = r.valid; ends = 0 ∷ []; lengths = inl (lit< tt, refl); spelled = sym (append_assoc bytes r.more (0 ∷ [])) ∙ ap (λ o. o ++ 0 ∷ []) r.spelled }
+  header = record { valid = r.valid; ends = 0 ∷ []; lengths = inl (lit< tt, refl); spelled = sym (append_assoc bytes r.more (0 ∷ [])) ∙ ap (λ o. o ++ 0 ∷ []) r.spelled };
 }
 part_completes bytes fits h (Err BadTag) p r = absurd (let e : Err BadTag ≡ Err Short = sym (header_at-untagged bytes BadTag p) ∙ h in cc)
 part_completes bytes fits h (Err BadLength) p r = absurd r
@@ -62,11 +61,11 @@ part_completes bytes fits h (Ok (t, [])) p r = record {
   more = 0 ∷ [];
   tag = t;
   len = 0;
-  header = record { valid = r.0; ends = 0 ∷ []; lengths = inl (lit< tt, refl); spelled = ap (λ o. o ++ 0 ∷ []) (r.1 ∙ append-nil (tag_octets t)) }
+  header = record { valid = r.0; ends = 0 ∷ []; lengths = inl (lit< tt, refl); spelled = ap (λ o. o ++ 0 ∷ []) (r.1 ∙ append-nil (tag_octets t)) };
 }
 part_completes bytes fits h (Ok (t, lead ∷ digits)) p r =
     let part : length_at t.constructed (lead ∷ digits) ≡ Err Short =
-        bind_short (length_at t.constructed (lead ∷ digits)) (λ len. (t, len.0, len.1)) (sym (header_at-tag bytes (t, lead ∷ digits) p) ∙ h)
+    bind_short (length_at t.constructed (lead ∷ digits)) (λ len. (t, len.0, len.1)) (sym (header_at-tag bytes (t, lead ∷ digits) p) ∙ h)
     in
     let q = length_at-part t.constructed lead digits part in
     let count : ℕ = lead - 128 in
@@ -82,8 +81,8 @@ part_completes bytes fits h (Ok (t, lead ∷ digits)) p r =
         valid = r.0;
         ends = (128 + (lead - 128)) ∷ padded (lead - 128) digits;
         lengths = inr form;
-        spelled = ap (λ o. o ++ m.0) r.1 ∙ append_assoc (tag_octets t) (lead ∷ digits) m.0 ∙ ap (λ o. tag_octets t ++ (lead ∷ o)) m.1 ∙ ap (λ k. tag_octets t ++ (k ∷ padded (lead - 128) digits)) (sym lead-is)
-      }
+        spelled = ap (λ o. o ++ m.0) r.1 ∙ append_assoc (tag_octets t) (lead ∷ digits) m.0 ∙ ap (λ o. tag_octets t ++ (lead ∷ o)) m.1 ∙ ap (λ k. tag_octets t ++ (k ∷ padded (lead - 128) digits)) (sym lead-is);
+      };
     }
 
 pub header-completes : (bytes : List ℕ) → IsBytes bytes → header_at bytes ≡ Err Short → Completes bytes
@@ -178,35 +177,35 @@ child_read k b fits never (Ok (t, None, body)) p h = record { level = k; room-is
 child_read k b fits never (Ok (t, Some len, body)) p h =
     elim (cases_lt (length body) len) [
       | inl short ↦
-        let zeros : List ℕ = replicate (len - length body) 0 in
-        let n : length (body ++ zeros) ≡ len = omega (arith, length-append body zeros, length-replicate {A = ℕ} (len - length body) 0) in
-        let s : b ++ zeros ≡ h.head ++ (body ++ zeros) = ap (λ o. o ++ zeros) h.spelled ∙ append_assoc h.head body zeros in
-        let frame : FoundWhole (suc k) (b ++ zeros) [] = record {
-          level = k;
-          room-is = refl;
-          tag = t;
-          frame = b ++ zeros;
-          body = body ++ zeros;
-          definite = definite_frame_of (b ++ zeros) h.head (body ++ zeros) t len h.header s n;
-          apart = not_end_of b zeros never;
-          spelled = sym (append-nil (b ++ zeros))
-        } in
-        let r : Continues (suc k) b = record { more = zeros; goes = inr frame } in
-        rw (lt-ltb (length body) len short) r
+          let zeros : List ℕ = replicate (len - length body) 0 in
+          let n : length (body ++ zeros) ≡ len = omega (arith, length-append body zeros, length-replicate {A = ℕ} (len - length body) 0) in
+          let s : b ++ zeros ≡ h.head ++ (body ++ zeros) = ap (λ o. o ++ zeros) h.spelled ∙ append_assoc h.head body zeros in
+          let frame : FoundWhole (suc k) (b ++ zeros) [] = record {
+            level = k;
+            room-is = refl;
+            tag = t;
+            frame = b ++ zeros;
+            body = body ++ zeros;
+            definite = definite_frame_of (b ++ zeros) h.head (body ++ zeros) t len h.header s n;
+            apart = not_end_of b zeros never;
+            spelled = sym (append-nil (b ++ zeros));
+          } in
+          let r : Continues (suc k) b = record { more = zeros; goes = inr frame } in
+          rw (lt-ltb (length body) len short) r
       | inr come ↦
-        let n : length (take len body) ≡ len = length-take-le len body come in
-        let s : b ≡ (h.head ++ take len body) ++ drop len body = h.spelled ∙ ap (λ o. h.head ++ o) (sym (take-append-drop len body)) ∙ sym (append_assoc h.head (take len body) (drop len body)) in
-        let r : FoundWhole (suc k) b (drop len body) = record {
-          level = k;
-          room-is = refl;
-          tag = t;
-          frame = h.head ++ take len body;
-          body = take len body;
-          definite = definite_frame_of (h.head ++ take len body) h.head (take len body) t len h.header refl n;
-          apart = λ e. never [] (drop len body) (append-nil b ∙ s ∙ ap (λ o. o ++ drop len body) e);
-          spelled = s
-        } in
-        rw (le-ltb (length body) len come) r
+          let n : length (take len body) ≡ len = length-take-le len body come in
+          let s : b ≡ (h.head ++ take len body) ++ drop len body = h.spelled ∙ ap (λ o. h.head ++ o) (sym (take-append-drop len body)) ∙ sym (append_assoc h.head (take len body) (drop len body)) in
+          let r : FoundWhole (suc k) b (drop len body) = record {
+            level = k;
+            room-is = refl;
+            tag = t;
+            frame = h.head ++ take len body;
+            body = take len body;
+            definite = definite_frame_of (h.head ++ take len body) h.head (take len body) t len h.header refl n;
+            apart = λ e. never [] (drop len body) (append-nil b ∙ s ∙ ap (λ o. o ++ drop len body) e);
+            spelled = s;
+          } in
+          rw (le-ltb (length body) len come) r
     ]
 child_read k b fits never (Err Short) p h =
     let c = header-completes b fits p in
@@ -220,7 +219,7 @@ child_read k b fits never (Err Short) p h =
       body = zeros;
       definite = definite_frame_of (b ++ (c.more ++ zeros)) (b ++ c.more) zeros c.tag c.len c.header (sym (append_assoc b c.more zeros)) n;
       apart = not_end_of b (c.more ++ zeros) never;
-      spelled = sym (append-nil (b ++ (c.more ++ zeros)))
+      spelled = sym (append-nil (b ++ (c.more ++ zeros)));
     } in
     record { more = c.more ++ zeros; goes = inr frame }
 child_read k b fits never (Err BadTag) p h = (never, λ level e o. h (o.0, identified_header (b ++ o.0) o.1))

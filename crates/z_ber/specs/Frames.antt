@@ -70,3 +70,15 @@ pub record Splits (P : List ℕ → Type 0) (stream : List ℕ) (frames : List (
   pub whole : stream ≡ flat_map (λ frame. frame) frames ++ rest
   pub each : AllByRecursion P frames
   pub ended : ¬ Begins P rest
+
+-- octets begin with a frame of this tag and this inside, and go on with these
+pub record BeginsWith (levels : ℕ) (bytes : List ℕ) (tag : Tag) (body rest : List ℕ) : Type 0 where
+  pub frame : List ℕ
+  pub extent : IsExtent levels frame tag body
+  pub spelled : bytes ≡ frame ++ rest
+
+-- tag, inside and rest of the frame that octets begin with; or they are open; or no continuation begins with a frame
+abbrev pub IsExtentRead : ℕ → List ℕ → Result (Tag × List ℕ × List ℕ) BerFault → Type 0
+IsExtentRead levels bytes (Ok found) = BeginsWith levels bytes found.0 found.1 found.2
+IsExtentRead levels bytes (Err Short) = ¬ Begins (IsFrameAt levels) bytes × Opens (IsFrameAt levels) bytes
+IsExtentRead levels bytes (Err _) = ¬ Opens (IsFrameAt levels) bytes

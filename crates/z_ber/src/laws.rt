@@ -37,11 +37,9 @@ pub fn one_oid()
 /// A stream is one list of frames of definite length, with one rest, however it is cut.
 pub fn one_split()
     ensures { (stream rest tail : List ℕ) (frames others : List (List ℕ)) → Splits IsDefiniteFrame stream frames rest → Splits IsDefiniteFrame stream others tail → (frames ≡ others) × (rest ≡ tail) }
-{
-}
+{}
 
 /// Octets have at most one tree, and no element is a proper prefix of another.
 pub fn one_tree()
     ensures { (s t : Forest) (m n : ℕ) (a b x y : List ℕ) → IsElement m a s → IsElement n b t → a ++ x ≡ b ++ y → (a ≡ b) × (s ≡ t) × (x ≡ y) }
-{
-}
+{}

@@ -3,6 +3,7 @@
 #![tactic(auto)]
 
 mod digits;
+mod element;
 mod extent;
 mod fault;
 mod frame;
@@ -15,6 +16,7 @@ mod strict;
 mod tag;
 mod values;
 
+pub use element::Element;
 pub use fault::BerFault;
 pub use frame::{FRAME_MAX, definite_frame};
 pub use laws::{one_bits, one_bool, one_element, one_int, one_oid, one_split, one_tree};
@@ -23,3 +25,6 @@ pub use read::header;
 pub use strict::written;
 pub use tag::{Header, Tag, Written};
 pub use values::{bits_of, bool_of, int_of};
+
+#[cfg(test)]
+mod tests;
