@@ -87,7 +87,7 @@ closes_open o k bytes head after rest t h e c =
 
 -- ---- what is found is so
 
-ok_one : (x y : List ℕ) (r : Result (List ℕ) BerFault) → r ≡ Ok x → r ≡ Ok y → x ≡ y
+pub ok_one : (x y : List ℕ) (r : Result (List ℕ) BerFault) → r ≡ Ok x → r ≡ Ok y → x ≡ y
 ok_one x y r p q = cc
 
 pub ok_err : {P : Type 0} (x : List ℕ) (e : BerFault) (r : Result (List ℕ) BerFault) → r ≡ Ok x → r ≡ Err e → P

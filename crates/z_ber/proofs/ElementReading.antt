@@ -20,6 +20,9 @@ extent-read levels b some fits =
 pub extent-found : (levels : ℕ) (b body rest : List ℕ) (t : Tag) → 0 < levels → IsBytes b → extent_at (levels - 1) b ≡ Ok (t, body, rest) → BeginsWith levels b t body rest
 extent-found levels b body rest t some fits e = subst (λ (r : Result (Tag × List ℕ × List ℕ) BerFault). IsExtentRead levels b r) e (extent-read levels b some fits)
 
+pub extent-read-fault : (levels : ℕ) (b : List ℕ) (d : BerFault) → 0 < levels → IsBytes b → extent_at (levels - 1) b ≡ Err d → IsExtentRead levels b (Err d)
+extent-read-fault levels b d some fits e = subst (λ (r : Result (Tag × List ℕ × List ℕ) BerFault). IsExtentRead levels b r) e (extent-read levels b some fits)
+
 refused : (levels : ℕ) (b : List ℕ) (d : BerFault) → IsExtentRead levels b (Err d) → IsRefused levels b d
 refused levels b Short h = h
 refused levels b BadTag h = h

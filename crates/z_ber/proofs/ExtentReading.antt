@@ -32,13 +32,13 @@ headed k b s =
     let h = framed_some k s.0 s.1 s.2.1 s.2.0 s.2.2 in
     (h.0, h.2, (s.2.0, h.1, h.3), s.3 ∙ h.4)
 
-identified : (b : List ℕ) → Begins IsSomeHeader b → Begins IsIdentifier b
+pub identified : (b : List ℕ) → Begins IsSomeHeader b → Begins IsIdentifier b
 identified b s =
     let q = s.2.2 in
     (tag_octets s.2.0, q.ends ++ s.1, (s.2.0, q.valid, refl), s.3 ∙ ap (λ f. f ++ s.1) q.spelled ∙ append_assoc (tag_octets s.2.0) q.ends s.1)
 
 -- a frame that goes on behind a whole header has that header
-same_header : (k : ℕ) (b more : List ℕ) (t : Tag) (l : Option ℕ) (body : List ℕ) → Whole b t l body → (s : Begins (IsFrameAt (suc k)) (b ++ more)) → ((l ≡ Some (length s.2.1)) × (body ++ more ≡ s.2.1 ++ s.1)) ⊎ ((d : Indefinite k s.0 s.2.0 s.2.1) × (l ≡ None) × (body ++ more ≡ s.2.1 ++ (end_of_contents ++ s.1)))
+pub same_header : (k : ℕ) (b more : List ℕ) (t : Tag) (l : Option ℕ) (body : List ℕ) → Whole b t l body → (s : Begins (IsFrameAt (suc k)) (b ++ more)) → ((l ≡ Some (length s.2.1)) × (body ++ more ≡ s.2.1 ++ s.1)) ⊎ ((d : Indefinite k s.0 s.2.0 s.2.1) × (l ≡ None) × (body ++ more ≡ s.2.1 ++ (end_of_contents ++ s.1)))
 same_header k b more t l body w s =
     let here : header_at (b ++ more) ≡ Ok (t, l, body ++ more) = ap header_at (ap (λ o. o ++ more) w.spelled ∙ append_assoc w.head body more) ∙ header_at-again w.head t l (body ++ more) w.header in
     elim (extent-cases k s.0 s.2.1 s.2.0 s.2.2) [
@@ -90,7 +90,7 @@ definite_read k b t len body w =
 
 -- ---- an element of indefinite length
 
-closes_of : (k : ℕ) (f body x : List ℕ) (t : Tag) (d : Indefinite k f t body) → Closes 1 k (body ++ (end_of_contents ++ x)) x
+pub closes_of : (k : ℕ) (f body x : List ℕ) (t : Tag) (d : Indefinite k f t body) → Closes 1 k (body ++ (end_of_contents ++ x)) x
 closes_of k f body x t d = record { frames = d.frames; after = x; each = d.each; spelled = ap (λ o. o ++ (end_of_contents ++ x)) d.inside; behind = refl }
 
 none_inside : (k : ℕ) (b : List ℕ) (t : Tag) (body : List ℕ) (e : BerFault) → IsBytes b → Whole b t None body → e ≢ Short → close_at (suc (length body)) 1 k body ≡ Err e → ¬ Opens (IsFrameAt (suc k)) b

@@ -134,7 +134,7 @@ length-tag_octets t valid =
     ]
 
 -- an empty element opens what begins as its tag
-open_tag : (bytes more : List ℕ) (t : Tag) → IsTag t → bytes ++ more ≡ tag_octets t → Opens IsDefiniteFrame bytes
+pub open_tag : (bytes more : List ℕ) (t : Tag) → IsTag t → bytes ++ more ≡ tag_octets t → Opens IsDefiniteFrame bytes
 open_tag bytes more t valid e =
     let frame : List ℕ = tag_octets t ++ 0 ∷ [] in
     let header : IsHeader (tag_octets t ++ 0 ∷ []) t (Some 0) = record { valid = valid; ends = 0 ∷ []; lengths = inl (lit< tt, refl); spelled = refl } in

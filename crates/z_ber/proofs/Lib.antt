@@ -18,3 +18,4 @@ pub mod StepReading
 pub mod StrictReading
 pub mod TreeLaws
 pub mod ValueLaws
+pub mod WholeReading

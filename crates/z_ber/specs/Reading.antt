@@ -211,3 +211,11 @@ extent_behind room (Err fault) = Err fault
 -- tag, contents octets and what follows
 unfoldable pub extent_at : ℕ → List ℕ → Result (Tag × List ℕ × List ℕ) BerFault
 extent_at room bytes = extent_behind room (header_at bytes)
+
+-- more octets than a frame may have are open no longer
+abbrev pub refused : BerFault → ℕ → BerFault
+refused Short size = if nat_le size 1048576 then Short else BadLength
+refused BadTag size = BadTag
+refused BadLength size = BadLength
+refused (TooLarge n) size = TooLarge n
+refused TooDeep size = TooDeep

@@ -79,10 +79,26 @@ const FRAMES: [(&[u8], Result<usize, BerFault>); 8] = [
     (&[0x30, 0x80, 0x00, 0x00], Err(BerFault::BadLength)),
 ];
 
+const WHOLE_FRAMES: [(&[u8], Result<usize, BerFault>); 7] = [
+    (&[0x04, 0x02, 7, 8, 9], Ok(4)),
+    (
+        &[0x30, 0x80, 0x31, 0x80, 0, 0, 0x04, 0x02, 0, 0, 0, 0, 9],
+        Ok(12),
+    ),
+    (&[0x30, 0x80, 0x05, 0x00, 0], Err(BerFault::Short)),
+    (&[0x30, 0x80, 0x00, 0x01, 7, 0, 0], Ok(7)),
+    (&[0x30, 0x80, 0x04, 0x80], Err(BerFault::BadLength)),
+    (&[0x30, 0x80, 0x1f, 0x80], Err(BerFault::BadTag)),
+    (&[0xb6, 0x84, 0x10], Err(BerFault::BadLength)),
+];
+
 #[test]
-fn frames_of_definite_length_are_cut_at_their_end(rt: HostRuntime) {
+fn frames_are_cut_at_their_end(rt: HostRuntime) {
     for (octets, expected) in FRAMES {
         assert_eq!(rt; definite_frame(octets), expected);
+    }
+    for (octets, expected) in WHOLE_FRAMES {
+        assert_eq!(rt; whole(octets), expected);
     }
 }
 
