@@ -10,6 +10,7 @@ pub mod HeaderReading
 pub mod IntOctets
 pub mod IntReading
 pub mod Kept
+pub mod LendLaws
 pub mod LengthReading
 pub mod OneSplit
 pub mod Room
