@@ -1,5 +1,5 @@
 -- The contents of a BIT STRING are read as the bits that they stand for, and no others are read.
-use Rattle.std.proofs.Common.{◌≡◌, ◌∙◌, ◌⊎◌, ℕ, ◌+◌, ◌-◌, ◌*◌, ◌^◌, ◌/◌, ◌%◌, ◌<◌, ◌≤◌, Bool, true, false, ◌&&◌, ◌==◌, cond, ltb, eqb, lit≤, lit<, inl, inr, List, [], ◌∷◌, ◌++◌, length, map, reverse, Option, Some, None, sym, ap, subst, arith, refl}
+use Rattle.std.proofs.Common.{◌≡◌, ◌∙◌, ◌⊎◌, ℕ, ◌+◌, ◌*◌, ◌^◌, ◌<◌, ◌≤◌, Bool, true, false, ◌&&◌, ◌==◌, lit≤, inl, inr, List, [], ◌∷◌, ◌++◌, length, map, reverse, Option, Some, None, sym, ap, arith, refl}
 use Rattle.std.specs.Int.Digits.{digits_of, number_from_digits, AllBelowBase}
 use Rattle.std.proofs.lemmas.Int.Digits.{number_digits_of, all_below_base_digits_of, length-digits_of-le, number_push}
 use Rattle.std.proofs.lemmas.Bool.{cases_lt, lt-ltb, le-ltb, eq-eqb, eqb-true}
@@ -9,7 +9,7 @@ use Rattle.z_ber.specs.Written.{mirror, unused_bits, bits_octets}
 use Rattle.z_ber.specs.Reading.{mirrored_number, bits_behind, bits_at}
 use Rattle.z_ber.proofs.TagReading.{IsBytes, IsBytes-tail}
 use Rattle.z_ber.proofs.StrictReading.{same_digits}
-use Rattle.z_ber.proofs.ValueLaws.{mirrors_twice, all-append, all-reverse}
+use Rattle.z_ber.proofs.ValueLaws.{mirrors_twice, all-reverse}
 
 -- from the last octet to the first
 pub mirrored_number-digits : (octets : List ℕ) → mirrored_number octets ≡ number_from_digits 256 (reverse (map mirror octets))

@@ -1,21 +1,21 @@
 -- What reading a definite frame gives is what the octets begin with, and each fault comes where it is due.
-use Rattle.std.proofs.Common.{◌≡◌, ◌∙◌, ◌⊎◌, ℕ, ◌+◌, ◌-◌, ◌^◌, ◌*◌, ◌/◌, ◌%◌, ◌<◌, ◌≤◌, Bool, true, false, cond, ltb, leb, min, lit<, lit≤, inl, inr, zero, suc, List, [], ◌∷◌, ◌++◌, length, get_or, take, drop, map, replicate, Option, Some, None, Result, Ok, Err, sym, ap, subst, append_assoc, arith, refl}
+use Rattle.std.proofs.Common.{◌≡◌, ◌∙◌, ℕ, ◌+◌, ◌-◌, ◌*◌, ◌/◌, ◌%◌, ◌<◌, ◌≤◌, Bool, cond, min, lit<, lit≤, inl, inr, List, [], ◌∷◌, ◌++◌, length, take, drop, map, replicate, Option, Some, None, Result, Ok, Err, sym, ap, subst, append_assoc, arith, refl}
 use Rattle.std.specs.Int.Digits.{digits_of, number_from_digits, number_from_digits_after}
 use Rattle.std.proofs.lemmas.Int.Digits.{length-digits_of-le}
-use Rattle.std.proofs.lemmas.Bool.{cases_lt, lt-ltb, le-ltb, ltb-false}
+use Rattle.std.proofs.lemmas.Bool.{cases_lt, lt-ltb, le-ltb}
 use Rattle.std.proofs.lemmas.Bool.Decides.{leb_tells}
-use Rattle.std.proofs.lemmas.List.{append-nil, length-append, length-map, length-replicate, take_at, take-append-drop, length-take, append_cancel_right}
+use Rattle.std.proofs.lemmas.List.{append-nil, length-append, length-map, length-replicate, take_at, take-append-drop, length-take}
 use Rattle.z_ber.specs.declared.fault.BerFault.{BerFault}
 use Rattle.z_ber.specs.declared.fault.BerFault.TheVariants.{Short, BadTag, BadLength, TooLarge, TooDeep}
 use Rattle.z_ber.specs.declared.tag.Tag.{Tag}
 use Rattle.z_ber.specs.Written.{IsTag, septets, tag_octets}
-use Rattle.z_ber.specs.Header.{IsLength, IsLongForm, IsHeader, Begins, Opens, IsIdentifier, IsSomeHeader}
-use Rattle.z_ber.specs.Frames.{IsDefiniteFrame, IsTooLarge, IsFrameAnswer}
-use Rattle.z_ber.specs.Reading.{◌>>=◌, tag_at, length_at, padded, header_at, has_room_after, has_room_behind, body_at, frame_behind, frame_at}
-use Rattle.z_ber.proofs.ElementLaws.{heads, fronts, tag_octets-low, tag_octets-high}
+use Rattle.z_ber.specs.Header.{IsLength, IsHeader, Begins, Opens, IsIdentifier, IsSomeHeader}
+use Rattle.z_ber.specs.Frames.{IsDefiniteFrame, IsFrameAnswer}
+use Rattle.z_ber.specs.Reading.{◌>>=◌, tag_at, length_at, padded, header_at, has_room_behind, body_at, frame_behind, frame_at}
+use Rattle.z_ber.proofs.ElementLaws.{heads, tag_octets-low, tag_octets-high}
 use Rattle.z_ber.proofs.TagReading.{IsBytes, IsBytes-tail, TagRead, tag_at-read, tag_at-again}
-use Rattle.z_ber.proofs.LengthReading.{LengthRead, Lengths, length-padded, padded-short, long_form, length_at-part}
-use Rattle.z_ber.proofs.HeaderReading.{HeaderParts, HeaderRead, Whole, ok_not_err, header_at-again, header_at-read, not_begun, header_at-untagged, header_at-tag, IsBytes-suffix}
+use Rattle.z_ber.proofs.LengthReading.{length-padded, padded-short, long_form, length_at-part}
+use Rattle.z_ber.proofs.HeaderReading.{HeaderParts, HeaderRead, Whole, header_at-again, header_at-read, not_begun, header_at-untagged, header_at-tag, IsBytes-suffix}
 
 pub ok_is : {A : Type 0} (r : Result A BerFault) (x y : A) → r ≡ Ok x → r ≡ Ok y → x ≡ y
 ok_is r x y p q = cc
@@ -134,7 +134,7 @@ length-tag_octets t valid =
     ]
 
 -- an empty element opens what begins as its tag
-open_tag : (bytes more : List ℕ) (t : Tag) → IsTag t → bytes ++ more ≡ tag_octets t → Opens IsDefiniteFrame bytes
+pub open_tag : (bytes more : List ℕ) (t : Tag) → IsTag t → bytes ++ more ≡ tag_octets t → Opens IsDefiniteFrame bytes
 open_tag bytes more t valid e =
     let frame : List ℕ = tag_octets t ++ 0 ∷ [] in
     let header : IsHeader (tag_octets t ++ 0 ∷ []) t (Some 0) = record { valid = valid; ends = 0 ∷ []; lengths = inl (lit< tt, refl); spelled = refl } in
@@ -209,7 +209,7 @@ none_long bytes t lead count digits valid s some lead-is over = λ o.
 errs_one : {A : Type 0} (r : Result A BerFault) (d e : BerFault) → r ≡ Err d → r ≡ Err e → d ≡ e
 errs_one r d e p q = cc
 
-bind_short : {A B : Type 0} (r : Result A BerFault) (f : A → B) → (r >>= λ x. Ok (f x)) ≡ Err Short → r ≡ Err Short
+pub bind_short : {A B : Type 0} (r : Result A BerFault) (f : A → B) → (r >>= λ x. Ok (f x)) ≡ Err Short → r ≡ Err Short
 bind_short (Ok x) f e = absurd cc
 bind_short (Err d) f e = cc
 

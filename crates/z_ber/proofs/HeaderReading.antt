@@ -1,11 +1,11 @@
 -- What reading a header gives is what the octets begin with, and each fault comes where it is due.
-use Rattle.std.proofs.Common.{◌≡◌, ◌∙◌, ◌⊎◌, ℕ, ◌+◌, ◌-◌, ◌<◌, ◌≤◌, Bool, false, lit<, inl, inr, suc, List, [], ◌∷◌, ◌++◌, length, get_or, take, Option, Some, None, Result, Ok, Err, sym, ap, subst, append_assoc, arith, refl}
+use Rattle.std.proofs.Common.{◌≡◌, ◌∙◌, ℕ, ◌-◌, ◌≤◌, lit<, inl, List, [], ◌∷◌, ◌++◌, length, take, Option, Some, Result, Ok, Err, sym, ap, subst, append_assoc, arith, refl}
 use Rattle.std.proofs.lemmas.List.{append-nil, length-append, take_at}
 use Rattle.z_ber.specs.declared.fault.BerFault.{BerFault}
 use Rattle.z_ber.specs.declared.fault.BerFault.TheVariants.{Short, BadTag, BadLength, TooLarge, TooDeep}
 use Rattle.z_ber.specs.declared.tag.Tag.{Tag}
 use Rattle.z_ber.specs.Written.{IsTag, tag_octets}
-use Rattle.z_ber.specs.Header.{IsLength, IsHeader, Begins, Opens, IsIdentifier, IsSomeHeader}
+use Rattle.z_ber.specs.Header.{IsHeader, Begins, IsSomeHeader}
 use Rattle.z_ber.specs.HeaderAnswer.{IsHeaderAnswer}
 use Rattle.z_ber.specs.Reading.{◌>>=◌, tag_at, length_at, header_at}
 use Rattle.z_ber.proofs.TagReading.{IsBytes, IsBytes-tail, TagRead, tag_at-read, tag_at-again}

@@ -1,19 +1,16 @@
 -- The contents of an INTEGER are read as the number that they stand for, and no others are read.
-use Rattle.std.proofs.Common.{◌≡◌, ◌∙◌, ◌⊎◌, ℕ, ◌+◌, ◌-◌, ◌*◌, ◌^◌, ◌/◌, ◌%◌, ◌<◌, ◌≤◌, Bool, true, false, ◌&&◌, ◌==◌, cond, ltb, leb, eqb, lit≤, lit<, inl, inr, zero, suc, ℤ, pos, negsuc, w64, List, [], ◌∷◌, ◌++◌, length, get_or, map, Option, Some, None, sym, ap, subst, append_assoc, arith, refl}
+use Rattle.std.proofs.Common.{◌≡◌, ◌∙◌, ◌⊎◌, ℕ, ◌+◌, ◌-◌, ◌*◌, ◌^◌, ◌/◌, ◌%◌, ◌<◌, ◌≤◌, Bool, true, false, ◌&&◌, leb, lit≤, lit<, inl, inr, zero, suc, ℤ, pos, negsuc, w64, List, [], ◌∷◌, ◌++◌, length, get_or, map, Option, Some, None, sym, ap, subst, append_assoc, arith, refl}
 use Rattle.std.specs.Prelude.{FitsSigned}
 use Rattle.std.specs.Int.Digits.{digits_of, number_from_digits, number_from_digits_after, AllBelowBase}
-use Rattle.std.proofs.lemmas.Int.Digits.{digits_of_step, number_digits_of, all_below_base_digits_of, length-digits_of-le, first_digits_of, number_after_ge}
-use Rattle.std.proofs.lemmas.Int.{ints}
+use Rattle.std.proofs.lemmas.Int.Digits.{digits_of_step, number_digits_of, length-digits_of-le, first_digits_of}
 use Rattle.std.proofs.lemmas.Nat.{mul-le}
 use Rattle.std.proofs.Math.Nat.{pow-succ', mul_assoc}
-use Rattle.std.proofs.lemmas.Bool.{cases_lt, cases_eq, lt-ltb, le-ltb, le-leb, eq-eqb, ne_eqb, ltb-true, ltb-false, leb-true}
-use Rattle.std.proofs.lemmas.Bool.Decides.{leb_tells}
+use Rattle.std.proofs.lemmas.Bool.{cases_lt, lt-ltb, le-ltb, le-leb, ne_eqb, ltb-true, leb-true}
 use Rattle.std.proofs.lemmas.List.{length-map, append-nil, get_or_default}
 use Rattle.z_types.specs.Exact.{both_true}
 use Rattle.z_ber.specs.Written.{natural_octets, int_octets}
 use Rattle.z_ber.specs.Reading.{padded, is_fewest, positive_at, negative_at, signed_at, int_at}
 use Rattle.z_ber.proofs.DigitSteps.{has_digit}
-use Rattle.z_ber.proofs.LengthReading.{padded-again}
 use Rattle.z_ber.proofs.TagReading.{IsBytes, IsBytes-tail}
 use Rattle.z_ber.proofs.ValueLaws.{number-natural_octets, natural_octets-sign, natural_octets-bytes, turned_twice}
 

@@ -1,11 +1,11 @@
 -- What reading the length octets gives is what they spell, and nothing else.
-use Rattle.std.proofs.Common.{◌≡◌, ◌∙◌, ◌⊎◌, ℕ, ◌+◌, ◌-◌, ◌*◌, ◌^◌, ◌<◌, ◌≤◌, Bool, true, false, ◌==◌, cond, ltb, eqb, lit≤, lit<, zero, suc, inl, inr, List, [], ◌∷◌, ◌++◌, length, get_or, take, drop, Option, Some, None, Result, Ok, Err, sym, ap, subst, append_assoc, arith, refl}
+use Rattle.std.proofs.Common.{◌≡◌, ◌∙◌, ℕ, ◌+◌, ◌-◌, ◌<◌, ◌≤◌, Bool, true, false, ltb, lit<, zero, suc, inl, inr, List, [], ◌∷◌, ◌++◌, length, drop, Option, Some, None, Result, Ok, Err, sym, ap, subst, arith, refl}
 use Rattle.std.specs.Int.Digits.{number_from_digits, AllBelowBase}
 use Rattle.std.proofs.lemmas.Bool.{cases_lt, cases_eq, lt-ltb, le-ltb, eq-eqb, ne_eqb}
 use Rattle.std.proofs.lemmas.List.{length-append}
 use Rattle.z_ber.specs.declared.fault.BerFault.{BerFault}
 use Rattle.z_ber.specs.declared.fault.BerFault.TheVariants.{Short, BadLength}
-use Rattle.z_ber.specs.Header.{IsShortForm, IsLongForm, IsLength}
+use Rattle.z_ber.specs.Header.{IsLongForm, IsLength}
 use Rattle.z_ber.specs.Reading.{padded, long_at, indefinite_at, length_at}
 use Rattle.z_ber.proofs.TagReading.{IsBytes, IsBytes-tail}
 

@@ -1,8 +1,7 @@
 -- A stream is one list of frames.
-use Rattle.std.proofs.Common.{◌≡◌, ◌∙◌, ℕ, List, [], ◌∷◌, ◌++◌, length, Option, Some, sym, ap, subst, append_assoc, refl}
-use Rattle.std.specs.List.{flat_map, AllByRecursion}
+use Rattle.std.proofs.Common.{◌≡◌, ◌∙◌, ℕ, List, [], ◌∷◌, ◌++◌, length, Some, sym, ap, append_assoc, refl}
+use Rattle.std.specs.List.{flat_map}
 use Rattle.std.proofs.lemmas.List.{append_cancel_left, append_cancel_right}
-use Rattle.z_ber.specs.Header.{Begins}
 use Rattle.z_ber.specs.Frames.{IsDefiniteFrame, Splits}
 use Rattle.z_ber.specs.Reading.{header_at}
 use Rattle.z_ber.proofs.ElementLaws.{fronts}

@@ -1,18 +1,18 @@
 -- Octets in written form are read as what they spell, and others are not read.
-use Rattle.std.proofs.Common.{◌≡◌, ◌∙◌, ◌⊎◌, ℕ, ◌+◌, ◌-◌, ◌*◌, ◌^◌, ◌<◌, ◌≤◌, Bool, true, false, ◌==◌, cond, ltb, eqb, lit≤, lit<, inl, inr, suc, List, [], ◌∷◌, ◌++◌, length, take, drop, Option, Some, None, Result, Ok, Err, sym, ap, subst, append_assoc, arith, refl}
-use Rattle.std.specs.Int.Digits.{digits_of, number_from_digits, number_from_digits_after, AllBelowBase}
+use Rattle.std.proofs.Common.{◌≡◌, ◌∙◌, ◌⊎◌, ℕ, ◌+◌, ◌-◌, ◌*◌, ◌^◌, ◌<◌, Bool, true, false, ◌==◌, ltb, lit≤, inl, inr, List, [], ◌∷◌, ◌++◌, length, take, drop, Option, Some, None, Result, Ok, Err, sym, ap, subst, append_assoc, arith, refl}
+use Rattle.std.specs.Int.Digits.{digits_of, number_from_digits_after, AllBelowBase}
 use Rattle.std.proofs.lemmas.Int.Digits.{number_digits_of, all_below_base_digits_of, length-digits_of-le}
 use Rattle.std.proofs.lemmas.Bool.{cases_lt, lt-ltb, le-ltb, eqb-true, eq-eqb}
 use Rattle.std.proofs.lemmas.List.{length-append, take-append-drop, take_at, drop_at, length-take-le}
 use Rattle.z_ber.specs.declared.fault.BerFault.{BerFault}
 use Rattle.z_ber.specs.declared.tag.Tag.{Tag}
 use Rattle.z_ber.specs.Written.{IsTag, tag_octets, length_octets, element}
-use Rattle.z_ber.specs.Header.{IsLength, IsLongForm}
+use Rattle.z_ber.specs.Header.{IsLength}
 use Rattle.z_ber.specs.Reading.{tag_at, length_at, fewest_size, contents_at, fewest_at, written_behind, written_from, written_at}
 use Rattle.z_ber.proofs.DigitSteps.{has_digit}
 use Rattle.z_ber.proofs.ElementLaws.{length_octets-short, length_octets-long}
 use Rattle.z_ber.proofs.TagReading.{IsBytes, TagRead, tag_at-read, tag_at-again}
-use Rattle.z_ber.proofs.LengthReading.{LengthRead, Lengthed, length_at-read, length_at-again}
+use Rattle.z_ber.proofs.LengthReading.{LengthRead, length_at-read, length_at-again}
 use Rattle.z_ber.proofs.HeaderReading.{IsBytes-suffix}
 
 -- as many digits of one number are the same

@@ -1,11 +1,11 @@
 -- What reading the identifier octets gives is what they spell, and nothing else.
-use Rattle.std.proofs.Common.{◌≡◌, ◌∙◌, ◌⊎◌, ℕ, ◌+◌, ◌-◌, ◌*◌, ◌^◌, ◌/◌, ◌%◌, ◌<◌, ◌≤◌, Bool, true, false, ◌||◌, ◌==◌, cond, ltb, eqb, lit≤, lit<, zero, suc, inl, inr, List, [], ◌∷◌, ◌++◌, length, get_or, map, Result, Ok, Err, sym, ap, subst, append_assoc, arith, refl}
+use Rattle.std.proofs.Common.{◌≡◌, ◌∙◌, ◌⊎◌, ℕ, ◌+◌, ◌-◌, ◌*◌, ◌^◌, ◌/◌, ◌%◌, ◌<◌, ◌≤◌, Bool, true, false, ◌||◌, ◌==◌, ltb, eqb, lit≤, lit<, zero, suc, inl, inr, List, [], ◌∷◌, ◌++◌, get_or, map, Result, Ok, Err, sym, ap, subst, append_assoc, arith, refl}
 use Rattle.std.specs.Int.Digits.{digits_of, number_from_digits_after, AllBelowBase}
 use Rattle.std.proofs.lemmas.Int.Digits.{digits_of_step, number_after_ge, number_digits_of, all_below_base_digits_of, first_digits_of}
-use Rattle.std.proofs.lemmas.Bool.{cases_lt, lt-ltb, le-ltb, ltb-true, ltb-false, eqb-true, ne_eqb}
-use Rattle.std.proofs.lemmas.List.{map-append, append-nil, get_or_default}
+use Rattle.std.proofs.lemmas.Bool.{cases_lt, lt-ltb, le-ltb, ltb-false, ne_eqb}
+use Rattle.std.proofs.lemmas.List.{map-append, get_or_default}
 use Rattle.z_ber.specs.declared.fault.BerFault.{BerFault}
-use Rattle.z_ber.specs.declared.fault.BerFault.TheVariants.{Short, BadTag, BadLength}
+use Rattle.z_ber.specs.declared.fault.BerFault.TheVariants.{Short, BadTag}
 use Rattle.z_ber.specs.declared.tag.Tag.{Tag}
 use Rattle.z_ber.specs.Written.{IsTag, form_bit, septets, tag_octets}
 use Rattle.z_ber.specs.Reading.{◌>>=◌, number_end, septets_at, tag_of, tag_at}

@@ -1,10 +1,8 @@
 -- Octets have at most one tree, and no element begins another.
-use Rattle.std.proofs.Common.{◌≡◌, ◌∙◌, ◌≢◌, ◌⊎◌, ℕ, zero, suc, Bool, true, false, cond, lit<, inl, inr, List, [], ◌∷◌, ◌++◌, length, Option, Some, None, Result, Ok, Err, sym, ap, subst, append_assoc, arith, refl}
-use Rattle.std.proofs.lemmas.List.{append_cancel_left, append_cancel_right, append-nil, nil_from_length, length-append}
-use Rattle.z_ber.specs.declared.fault.BerFault.{BerFault}
+use Rattle.std.proofs.Common.{◌≡◌, ◌∙◌, ◌≢◌, ◌⊎◌, ℕ, zero, suc, Bool, true, false, cond, lit<, inl, inr, List, [], ◌∷◌, ◌++◌, length, Option, Some, None, Err, sym, ap, subst, append_assoc, refl}
+use Rattle.std.proofs.lemmas.List.{append_cancel_left, append_cancel_right, append-nil, nil_from_length}
 use Rattle.z_ber.specs.declared.fault.BerFault.TheVariants.{Short}
 use Rattle.z_ber.specs.declared.tag.Tag.{Tag}
-use Rattle.z_ber.specs.Written.{IsTag, tag_octets}
 use Rattle.z_ber.specs.Header.{IsHeader}
 use Rattle.z_ber.specs.Element.{Forest, none, leaf, branch, end_of_contents, IsLeaf, IsBranch, IsInFront, AreElements, IsElement}
 use Rattle.z_ber.specs.Reading.{tag_at, header_at}
@@ -36,7 +34,7 @@ end_header = record { valid = (lit< tt, lit< tt); ends = 0 ∷ []; lengths = inl
 some_one : (m n : ℕ) (l : Option ℕ) → l ≡ Some m → l ≡ Some n → m ≡ n
 some_one m n l p q = cc
 
-none_some : {P : Type 0} (n : ℕ) (l : Option ℕ) → l ≡ None → l ≡ Some n → P
+pub none_some : {P : Type 0} (n : ℕ) (l : Option ℕ) → l ≡ None → l ≡ Some n → P
 none_some n l p q = absurd cc
 
 true_false : {P : Type 0} (b : Bool) → b ≡ true → b ≡ false → P
@@ -106,7 +104,7 @@ record Branches (s t : Tag) (a b body other x y rest tail : List ℕ) (i j : Boo
 branches_one : {P Q : Bool → List ℕ → Type 0} (s t : Tag) (a b x y : List ℕ) (p : IsBranch P s a) (q : IsBranch Q t b) → a ++ x ≡ b ++ y → Branches s t a b p.body q.body x y x y p.indefinite q.indefinite
 branches_one {P} {Q} s t a b x y p q e =
     let parts : p.head ++ (p.body ++ (tail_of p.indefinite ++ x)) ≡ q.head ++ (q.body ++ (tail_of q.indefinite ++ y)) =
-        sym (branch_parts p.head p.body (tail_of p.indefinite) x) ∙ ap (λ o. o ++ x) (sym p.spelled) ∙ e ∙ ap (λ o. o ++ y) q.spelled ∙ branch_parts q.head q.body (tail_of q.indefinite) y
+    sym (branch_parts p.head p.body (tail_of p.indefinite) x) ∙ ap (λ o. o ++ x) (sym p.spelled) ∙ e ∙ ap (λ o. o ++ y) q.spelled ∙ branch_parts q.head q.body (tail_of q.indefinite) y
     in
     let one = heads_one p.head q.head s t _ _ _ _ p.header q.header parts in
     record { tags = one.0; forms = both_forms p.indefinite q.indefinite (length p.body) (length q.body) one.1; after = one.2 }
@@ -160,24 +158,24 @@ elements_one (branch s ks fs) (branch t ls gs) w (suc m) (suc n) a b x y p q f g
     let h = branches_one s t p.first q.first (p.others ++ x) (q.others ++ y) u v both in
     elim h.forms [
       | inl i ↦
-        let after : u.body ++ (end_of_contents ++ rest) ≡ v.body ++ (end_of_contents ++ tail) =
-            ap (λ k. u.body ++ (tail_of k ++ rest)) (sym i.0) ∙ h.after ∙ ap (λ k. v.body ++ (tail_of k ++ tail)) i.1
-        in
-        let inner = elements_one ks ls true m n u.body v.body (end_of_contents ++ rest) (end_of_contents ++ tail) (subst (λ (k : Bool). AreElements k m u.body ks) i.0 u.inner) (subst (λ (k : Bool). AreElements k n v.body ls) i.1 v.inner) (rest, refl) (tail, refl) after in
-        let left = append_cancel_left end_of_contents rest tail inner.2 in
-        let r = elements_one fs gs w (suc m) (suc n) p.others q.others x y p.behind q.behind f g left in
-        let firsts : p.first ≡ q.first = append_cancel_right p.first q.first tail (ap (λ o. p.first ++ o) (sym left) ∙ both) in
-        (same_fronts a b p.first q.first p.others q.others p.spelled q.spelled firsts r.0, same_branches s t ks ls fs gs h.tags inner.1 r.1, r.2)
+          let after : u.body ++ (end_of_contents ++ rest) ≡ v.body ++ (end_of_contents ++ tail) =
+          ap (λ k. u.body ++ (tail_of k ++ rest)) (sym i.0) ∙ h.after ∙ ap (λ k. v.body ++ (tail_of k ++ tail)) i.1
+          in
+          let inner = elements_one ks ls true m n u.body v.body (end_of_contents ++ rest) (end_of_contents ++ tail) (subst (λ (k : Bool). AreElements k m u.body ks) i.0 u.inner) (subst (λ (k : Bool). AreElements k n v.body ls) i.1 v.inner) (rest, refl) (tail, refl) after in
+          let left = append_cancel_left end_of_contents rest tail inner.2 in
+          let r = elements_one fs gs w (suc m) (suc n) p.others q.others x y p.behind q.behind f g left in
+          let firsts : p.first ≡ q.first = append_cancel_right p.first q.first tail (ap (λ o. p.first ++ o) (sym left) ∙ both) in
+          (same_fronts a b p.first q.first p.others q.others p.spelled q.spelled firsts r.0, same_branches s t ks ls fs gs h.tags inner.1 r.1, r.2)
       | inr i ↦
-        let after : u.body ++ rest ≡ v.body ++ tail =
-            ap (λ k. u.body ++ (tail_of k ++ rest)) (sym i.0) ∙ h.after ∙ ap (λ k. v.body ++ (tail_of k ++ tail)) i.1
-        in
-        let bodies = fronts u.body v.body rest tail i.2 after in
-        let inner = elements_one ks ls false m n u.body v.body [] [] (subst (λ (k : Bool). AreElements k m u.body ks) i.0 u.inner) (subst (λ (k : Bool). AreElements k n v.body ls) i.1 v.inner) refl refl (ap (λ o. o ++ []) bodies.0) in
-        let left = bodies.1 in
-        let r = elements_one fs gs w (suc m) (suc n) p.others q.others x y p.behind q.behind f g left in
-        let firsts : p.first ≡ q.first = append_cancel_right p.first q.first tail (ap (λ o. p.first ++ o) (sym left) ∙ both) in
-        (same_fronts a b p.first q.first p.others q.others p.spelled q.spelled firsts r.0, same_branches s t ks ls fs gs h.tags inner.1 r.1, r.2)
+          let after : u.body ++ rest ≡ v.body ++ tail =
+          ap (λ k. u.body ++ (tail_of k ++ rest)) (sym i.0) ∙ h.after ∙ ap (λ k. v.body ++ (tail_of k ++ tail)) i.1
+          in
+          let bodies = fronts u.body v.body rest tail i.2 after in
+          let inner = elements_one ks ls false m n u.body v.body [] [] (subst (λ (k : Bool). AreElements k m u.body ks) i.0 u.inner) (subst (λ (k : Bool). AreElements k n v.body ls) i.1 v.inner) refl refl (ap (λ o. o ++ []) bodies.0) in
+          let left = bodies.1 in
+          let r = elements_one fs gs w (suc m) (suc n) p.others q.others x y p.behind q.behind f g left in
+          let firsts : p.first ≡ q.first = append_cancel_right p.first q.first tail (ap (λ o. p.first ++ o) (sym left) ∙ both) in
+          (same_fronts a b p.first q.first p.others q.others p.spelled q.spelled firsts r.0, same_branches s t ks ls fs gs h.tags inner.1 r.1, r.2)
     ]
 
 -- ---- one element
@@ -223,17 +221,17 @@ element_one (branch s ks fs) (branch t ls gs) (suc m) (suc n) a b x y p q e =
     let h = branches_one s t p.1.first q.1.first x y u v both in
     elim h.forms [
       | inl i ↦
-        let after : u.body ++ (end_of_contents ++ x) ≡ v.body ++ (end_of_contents ++ y) =
-            ap (λ k. u.body ++ (tail_of k ++ x)) (sym i.0) ∙ h.after ∙ ap (λ k. v.body ++ (tail_of k ++ y)) i.1
-        in
-        let inner = elements_one ks ls true m n u.body v.body (end_of_contents ++ x) (end_of_contents ++ y) (subst (λ (k : Bool). AreElements k m u.body ks) i.0 u.inner) (subst (λ (k : Bool). AreElements k n v.body ls) i.1 v.inner) (x, refl) (y, refl) after in
-        let left = append_cancel_left end_of_contents x y inner.2 in
-        (append_cancel_right a b y (ap (λ o. a ++ o) (sym left) ∙ e), same_branches s t ks ls fs gs h.tags inner.1 (p.0 ∙ sym q.0), left)
+          let after : u.body ++ (end_of_contents ++ x) ≡ v.body ++ (end_of_contents ++ y) =
+          ap (λ k. u.body ++ (tail_of k ++ x)) (sym i.0) ∙ h.after ∙ ap (λ k. v.body ++ (tail_of k ++ y)) i.1
+          in
+          let inner = elements_one ks ls true m n u.body v.body (end_of_contents ++ x) (end_of_contents ++ y) (subst (λ (k : Bool). AreElements k m u.body ks) i.0 u.inner) (subst (λ (k : Bool). AreElements k n v.body ls) i.1 v.inner) (x, refl) (y, refl) after in
+          let left = append_cancel_left end_of_contents x y inner.2 in
+          (append_cancel_right a b y (ap (λ o. a ++ o) (sym left) ∙ e), same_branches s t ks ls fs gs h.tags inner.1 (p.0 ∙ sym q.0), left)
       | inr i ↦
-        let after : u.body ++ x ≡ v.body ++ y =
-            ap (λ k. u.body ++ (tail_of k ++ x)) (sym i.0) ∙ h.after ∙ ap (λ k. v.body ++ (tail_of k ++ y)) i.1
-        in
-        let bodies = fronts u.body v.body x y i.2 after in
-        let inner = elements_one ks ls false m n u.body v.body [] [] (subst (λ (k : Bool). AreElements k m u.body ks) i.0 u.inner) (subst (λ (k : Bool). AreElements k n v.body ls) i.1 v.inner) refl refl (ap (λ o. o ++ []) bodies.0) in
-        (append_cancel_right a b y (ap (λ o. a ++ o) (sym bodies.1) ∙ e), same_branches s t ks ls fs gs h.tags inner.1 (p.0 ∙ sym q.0), bodies.1)
+          let after : u.body ++ x ≡ v.body ++ y =
+          ap (λ k. u.body ++ (tail_of k ++ x)) (sym i.0) ∙ h.after ∙ ap (λ k. v.body ++ (tail_of k ++ y)) i.1
+          in
+          let bodies = fronts u.body v.body x y i.2 after in
+          let inner = elements_one ks ls false m n u.body v.body [] [] (subst (λ (k : Bool). AreElements k m u.body ks) i.0 u.inner) (subst (λ (k : Bool). AreElements k n v.body ls) i.1 v.inner) refl refl (ap (λ o. o ++ []) bodies.0) in
+          (append_cancel_right a b y (ap (λ o. a ++ o) (sym bodies.1) ∙ e), same_branches s t ks ls fs gs h.tags inner.1 (p.0 ∙ sym q.0), bodies.1)
     ]

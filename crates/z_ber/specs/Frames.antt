@@ -1,9 +1,10 @@
 -- Frames: elements as a stream is cut into them, without a look into definite contents (X.690:2021, 8.1.1, 8.1.3). The bound of 1048576 octets is this project's own.
-use Rattle.std.specs.Prelude.{◌≡◌, ℕ, ◌+◌, ◌-◌, ◌^◌, ◌<◌, ◌≤◌, List, ◌++◌, length, take, Some, min, Result, Ok, Err}
+use Rattle.std.specs.Prelude.{◌≡◌, ◌≢◌, ◌⊎◌, ℕ, zero, suc, ◌+◌, ◌-◌, ◌^◌, ◌<◌, ◌≤◌, List, ◌++◌, length, take, None, Some, min, Result, Ok, Err}
 use Rattle.std.specs.List.{flat_map, AllByRecursion}
 use Rattle.z_ber.specs.declared.fault.BerFault.{BerFault}
 use Rattle.z_ber.specs.declared.fault.BerFault.TheVariants.{Short, BadTag, BadLength, TooLarge, TooDeep}
 use Rattle.z_ber.specs.declared.tag.Tag.{Tag}
+use Rattle.z_ber.specs.Element.{end_of_contents}
 use Rattle.z_ber.specs.Header.{IsHeader, Begins, Opens}
 
 -- 8.1.3.4, 8.1.3.5: a definite header and exactly its contents octets, whatever they are
@@ -14,6 +15,35 @@ pub record IsDefiniteFrame (frame : List ℕ) : Type 0 where
   pub header : IsHeader head tag (Some (length body))
   pub spelled : frame ≡ head ++ body
   pub small : length frame ≤ 1048576
+
+-- 8.1.3.4, 8.1.3.5: octets are a definite header and these contents octets
+pub record IsDefinite (octets : List ℕ) (tag : Tag) (body : List ℕ) : Type 0 where
+  pub head : List ℕ
+  pub header : IsHeader head tag (Some (length body))
+  pub spelled : octets ≡ head ++ body
+
+-- 8.1.3.6, 8.1.5: octets are an indefinite header, these frames, and the first 0000 that stands in a frame's place
+pub record IsIndefinite (Frame : List ℕ → Type 0) (octets : List ℕ) (tag : Tag) (body : List ℕ) : Type 0 where
+  pub head : List ℕ
+  pub header : IsHeader head tag None
+  pub frames : List (List ℕ)
+  pub each : AllByRecursion (λ frame. Frame frame × (frame ≢ end_of_contents)) frames
+  pub inside : body ≡ flat_map (λ frame. frame) frames
+  pub spelled : octets ≡ head ++ body ++ end_of_contents
+
+-- octets are a frame with this tag and this inside, on so many levels at most
+unfoldable pub IsExtent : ℕ → List ℕ → Tag → List ℕ → Type 0
+IsExtent zero octets tag body = ⊥
+IsExtent (suc levels) octets tag body =
+    IsDefinite octets tag body ⊎ IsIndefinite (λ frame. (t : Tag) × (b : List ℕ) × IsExtent levels frame t b) octets tag body
+
+-- octets are a frame, on so many levels at most
+abbrev pub IsFrameAt : ℕ → List ℕ → Type 0
+IsFrameAt levels octets = (tag : Tag) × (body : List ℕ) × IsExtent levels octets tag body
+
+-- a frame: 64 levels and 1048576 octets at most
+abbrev pub IsFrame : List ℕ → Type 0
+IsFrame octets = IsFrameAt 64 octets × (length octets ≤ 1048576)
 
 -- a definite header that with its contents would take n octets, more than a frame may
 pub record IsTooLarge (bytes : List ℕ) (n : ℕ) : Type 0 where
@@ -40,3 +70,25 @@ pub record Splits (P : List ℕ → Type 0) (stream : List ℕ) (frames : List (
   pub whole : stream ≡ flat_map (λ frame. frame) frames ++ rest
   pub each : AllByRecursion P frames
   pub ended : ¬ Begins P rest
+
+-- octets begin with a frame of this tag and this inside, and go on with these
+pub record BeginsWith (levels : ℕ) (bytes : List ℕ) (tag : Tag) (body rest : List ℕ) : Type 0 where
+  pub frame : List ℕ
+  pub extent : IsExtent levels frame tag body
+  pub spelled : bytes ≡ frame ++ rest
+
+-- tag, inside and rest of the frame that octets begin with; or they are open; or no continuation begins with a frame
+abbrev pub IsExtentRead : ℕ → List ℕ → Result (Tag × List ℕ × List ℕ) BerFault → Type 0
+IsExtentRead levels bytes (Ok found) = BeginsWith levels bytes found.0 found.1 found.2
+IsExtentRead levels bytes (Err Short) = ¬ Begins (IsFrameAt levels) bytes × Opens (IsFrameAt levels) bytes
+IsExtentRead levels bytes (Err _) = ¬ Opens (IsFrameAt levels) bytes
+
+-- what reading a whole frame answers: the frame that the octets begin with; or they begin with none, are no more than a frame may have, and some continuation begins with one of any size; or no continuation begins with a frame
+abbrev pub IsWholeAnswer : List ℕ → Result ℕ BerFault → Type 0
+IsWholeAnswer bytes (Ok size) = (size ≤ length bytes) × IsFrame (take size bytes)
+IsWholeAnswer bytes (Err Short) = ¬ Begins IsFrame bytes × Opens (IsFrameAt 64) bytes × (length bytes ≤ 1048576)
+IsWholeAnswer bytes (Err _) = ¬ Opens IsFrame bytes
+
+-- octets begin with a header of the indefinite form
+abbrev pub BeginsIndefinite : List ℕ → Type 0
+BeginsIndefinite bytes = (tag : Tag) × (head : List ℕ) × (rest : List ℕ) × IsHeader head tag None × (bytes ≡ head ++ rest)

@@ -2,7 +2,9 @@
 use Rattle.std.specs.Prelude.{◌≡◌, ℕ, zero, suc, ◌+◌, ◌-◌, ◌*◌, ◌/◌, ◌%◌, ◌^◌, List, [], ◌∷◌, length, take, drop, Bool, Option, Some, None, Result, Ok, Err, nat_lt, nat_le, min, true, false, ◌==◌, ◌||◌, ◌&&◌, ℤ, pos, negsuc, map, slice_index_or, if◌then◌else◌}
 use Rattle.std.specs.Int.Digits.{digits_of, number_from_digits}
 use Rattle.z_ber.specs.declared.fault.BerFault.{BerFault}
-use Rattle.z_ber.specs.declared.fault.BerFault.TheVariants.{Short, BadTag, BadLength, TooLarge}
+use Rattle.z_ber.specs.declared.fault.BerFault.TheVariants.{Short, BadTag, BadLength, TooLarge, TooDeep}
+use Rattle.z_ber.specs.declared.step.Step.{Step}
+use Rattle.z_ber.specs.declared.step.Step.TheVariants.{End, Whole, Open}
 use Rattle.z_ber.specs.declared.tag.Tag.{Tag}
 use Rattle.z_ber.specs.Written.{mirror, unused_bits}
 
@@ -161,3 +163,59 @@ unfoldable pub bits_at : List ℕ → Option ℕ
 bits_at [] = None
 bits_at (unused ∷ octets) =
     if nat_lt 4 (length octets) then None else bits_behind unused (length octets) (mirrored_number octets)
+
+-- ---- elements of indefinite length
+
+-- an element within, behind its header
+abbrev pub child_behind : Result (Tag × Option ℕ × List ℕ) BerFault → Result (Step × List ℕ) BerFault
+child_behind (Ok (tag, None, body)) = Ok (Open, body)
+child_behind (Ok (tag, Some len, body)) = if nat_lt (length body) len then Err Short else Ok (Whole, drop len body)
+child_behind (Err fault) = Err fault
+
+-- an element within, where levels are left
+abbrev pub child_at : ℕ → List ℕ → Result (Step × List ℕ) BerFault
+child_at room bytes = if room == 0 then Err TooDeep else child_behind (header_at bytes)
+
+-- the end of contents, or an element within
+unfoldable pub step_at : ℕ → List ℕ → Result (Step × List ℕ) BerFault
+step_at room [] = Err Short
+step_at room (zero ∷ []) = Err Short
+step_at room (zero ∷ zero ∷ after) = Ok (End, after)
+step_at room (zero ∷ suc second ∷ after) = child_at room (zero ∷ suc second ∷ after)
+step_at room (suc first ∷ after) = child_at room (suc first ∷ after)
+
+-- one step on
+abbrev pub close_on : (ℕ → ℕ → List ℕ → Result (List ℕ) BerFault) → ℕ → ℕ → Result (Step × List ℕ) BerFault → Result (List ℕ) BerFault
+close_on next opened room (Ok (End, after)) = next opened (suc room) after
+close_on next opened room (Ok (Whole, after)) = next (suc opened) room after
+close_on next opened room (Ok (Open, after)) = next (suc (suc opened)) (room - 1) after
+close_on next opened room (Err fault) = Err fault
+
+-- what follows the end of so many elements, where so many levels are left in the innermost, in so many steps at most
+abbrev pub close_at : ℕ → ℕ → ℕ → List ℕ → Result (List ℕ) BerFault
+close_at steps zero room bytes = Ok bytes
+close_at zero (suc opened) room bytes = Err Short
+close_at (suc steps) (suc opened) room bytes = close_on (close_at steps) opened room (step_at room bytes)
+
+-- tag and contents octets of an element of indefinite length, behind its header
+abbrev pub inside_at : Tag → List ℕ → Result (List ℕ) BerFault → Result (Tag × List ℕ × List ℕ) BerFault
+inside_at tag body (Ok rest) = Ok (tag, take (length body - length rest - 2) body, rest)
+inside_at tag body (Err fault) = Err fault
+
+-- an element behind its header, where so many levels are left in it
+abbrev pub extent_behind : ℕ → Result (Tag × Option ℕ × List ℕ) BerFault → Result (Tag × List ℕ × List ℕ) BerFault
+extent_behind room (Ok (tag, None, body)) = inside_at tag body (close_at (suc (length body)) 1 room body)
+extent_behind room (Ok (tag, Some len, body)) = if nat_lt (length body) len then Err Short else Ok (tag, take len body, drop len body)
+extent_behind room (Err fault) = Err fault
+
+-- tag, contents octets and what follows
+unfoldable pub extent_at : ℕ → List ℕ → Result (Tag × List ℕ × List ℕ) BerFault
+extent_at room bytes = extent_behind room (header_at bytes)
+
+-- more octets than a frame may have are open no longer
+abbrev pub refused : BerFault → ℕ → BerFault
+refused Short size = if nat_le size 1048576 then Short else BadLength
+refused BadTag size = BadTag
+refused BadLength size = BadLength
+refused (TooLarge n) size = TooLarge n
+refused TooDeep size = TooDeep

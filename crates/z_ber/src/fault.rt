@@ -16,3 +16,20 @@ pub enum BerFault {
     /// An element at level 65.
     TooDeep,
 }
+
+impl BerFault {
+    ghost use Rattle.z_ber.specs.Fault.{number_of};
+
+    /// The fault's place in the order of the faults, from 1.
+    pub fn number(&self) -> u32
+        ensures { result ≡ number_of self.now }
+    {
+        match self {
+            BerFault::Short => 1,
+            BerFault::BadTag => 2,
+            BerFault::BadLength => 3,
+            BerFault::TooLarge(_) => 4,
+            BerFault::TooDeep => 5,
+        }
+    }
+}

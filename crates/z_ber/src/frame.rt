@@ -1,9 +1,10 @@
 //! Frames of a definite length at the front of octets (X.690:2021, 8.1.3.4, 8.1.3.5).
 
 ghost use Rattle.std.specs.Prelude.{◌≡◌, ◌↔◌, ℕ, ◌+◌, ◌-◌, ◌*◌, ◌^◌, ◌<◌, ◌≤◌, List, length, take, drop, nat_le, IfOk, IfErr, Ok, Err};
-ghost use Rattle.z_ber.specs.Reading.{Gives, tag_at, header_at, has_room_after, has_room_behind, body_at, frame_behind, frame_at};
-ghost use Rattle.z_ber.specs.Frames.{IsDefiniteFrame, IsFrameAnswer};
+ghost use Rattle.z_ber.specs.Reading.{Gives, tag_at, header_at, has_room_after, has_room_behind, body_at, frame_behind, frame_at, refused};
+ghost use Rattle.z_ber.specs.Frames.{IsDefiniteFrame, IsFrameAnswer, IsWholeAnswer, BeginsIndefinite};
 
+use crate::extent::read_extent;
 use crate::read::{padded_number, read_header, read_tag};
 use crate::{BerFault, Tag};
 
@@ -80,4 +81,53 @@ pub fn definite_frame(bytes: &[u8]) -> Result<usize, BerFault>
     ensures { IsFrameAnswer IsDefiniteFrame bytes.now result }
 {
     read_frame(bytes)
+}
+
+/// The size of the frame that octets begin with: an element of definite length, whatever its
+/// contents are, or one of indefinite length with the frames in it.
+pub fn whole(bytes: &[u8]) -> Result<usize, BerFault>
+    ensures { IsWholeAnswer bytes.now result }
+{
+    match read_header(bytes) {
+        Ok((_, None, _)) => indefinite_frame(bytes),
+        Ok((_, Some(_), _)) => definite_frame(bytes),
+        Err(_) => definite_frame(bytes),
+    }
+}
+
+/// The fault, where more octets than a frame may have are open no longer.
+fn refused(fault: BerFault, size: usize) -> BerFault
+    ensures { result ≡ refused fault size }
+{
+    match fault {
+        BerFault::Short => {
+            if size as u64 <= FRAME_MAX {
+                BerFault::Short
+            } else {
+                BerFault::BadLength
+            }
+        }
+        _ => fault,
+    }
+}
+
+/// A frame of indefinite length at the front.
+fn indefinite_frame(bytes: &[u8]) -> Result<usize, BerFault>
+    requires { BeginsIndefinite bytes.now }
+    ensures { IsWholeAnswer bytes.now result }
+{
+    match read_extent(63, bytes) {
+        Ok((_, _, rest)) => {
+            let size = bytes.len() - rest.len();
+            if size as u64 <= FRAME_MAX {
+                Ok(size)
+            } else {
+                Err(BerFault::BadLength)
+            }
+        }
+        Err(fault) => {
+            let fault = refused(fault, bytes.len());
+            Err(fault)
+        }
+    }
 }

@@ -5,7 +5,8 @@ ghost use Rattle.std.specs.Prelude.{◌≡◌, ℕ, ℤ, Bool, List, ◌++◌, I
 ghost use Rattle.z_types.specs.Oid.{is_oid};
 ghost use Rattle.z_ber.specs.declared.tag.Tag.{Tag};
 ghost use Rattle.z_ber.specs.Element.{Forest, IsElement};
-ghost use Rattle.z_ber.specs.Frames.{IsDefiniteFrame, Splits};
+ghost use Rattle.z_ber.specs.Frames.{IsDefiniteFrame, IsExtent, Splits};
+ghost use Rattle.z_ber.specs.Lent.{IsRoot};
 ghost use Rattle.z_ber.specs.Written.{element, bool_octets, int_octets, bits_octets, oid_octets};
 
 /// An element that is written begins no other one, and its octets have one tag and one value of
@@ -37,11 +38,20 @@ pub fn one_oid()
 /// A stream is one list of frames of definite length, with one rest, however it is cut.
 pub fn one_split()
     ensures { (stream rest tail : List ℕ) (frames others : List (List ℕ)) → Splits IsDefiniteFrame stream frames rest → Splits IsDefiniteFrame stream others tail → (frames ≡ others) × (rest ≡ tail) }
-{
-}
+{}
 
 /// Octets have at most one tree, and no element is a proper prefix of another.
 pub fn one_tree()
     ensures { (s t : Forest) (m n : ℕ) (a b x y : List ℕ) → IsElement m a s → IsElement n b t → a ++ x ≡ b ++ y → (a ≡ b) × (s ≡ t) × (x ≡ y) }
-{
-}
+{}
+
+/// What is lent from the front of octets is the only element there: one tag, one contents, one rest.
+pub fn one_extent()
+    ensures { (levels : ℕ) (s t : Tag) (f g b c x y : List ℕ) → IsExtent levels f s b → IsExtent levels g t c → f ++ x ≡ g ++ y → (s ≡ t) × (b ≡ c) × (x ≡ y) }
+{}
+
+/// An element with a tree is lent with the tag and the contents of its root, whose children stand in
+/// the contents in their order.
+pub fn lends_root()
+    ensures { (tree : Forest) (levels : ℕ) (octets : List ℕ) → IsElement levels octets tree → IsRoot levels octets tree }
+{}

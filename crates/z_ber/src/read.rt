@@ -54,7 +54,7 @@ fn tag_of(lead: u8, number: u32) -> Tag
 #[tactic(auto, unfolding(crate::specs::Reading::tag_at))]
 pub fn read_tag(bytes: &[u8]) -> Result<(Tag, &[u8]), BerFault>
     ensures read { Gives (λ x. (x.0, x.1.now)) result (tag_at bytes.now) }
-    ensures shorter { IfOk result (λ x. length x.1.now ≤ length bytes.now) }
+    ensures shorter { IfOk result (λ x. length x.1.now < length bytes.now) }
 {
     match bytes {
         [] => Err(BerFault::Short),
@@ -135,7 +135,7 @@ fn indefinite(constructed: bool, rest: &[u8]) -> Result<(Option<u64>, &[u8]), Be
 #[tactic(auto, unfolding(crate::specs::Reading::header_at))]
 pub fn read_header(bytes: &[u8]) -> Result<(Tag, Option<u64>, &[u8]), BerFault>
     ensures read { Gives (λ x. (x.0, x.1, x.2.now)) result (header_at bytes.now) }
-    ensures shorter { IfOk result (λ x. length x.2.now ≤ length bytes.now) }
+    ensures shorter { IfOk result (λ x. length x.2.now < length bytes.now) }
 {
     let (tag, rest) = read_tag(bytes)?;
     let (len, body) = read_length(tag.constructed, rest)?;

@@ -1,4 +1,4 @@
-use Rattle.std.proofs.Common.{◌+◌, ◌*◌, ◌^◌, arith}
+use Rattle.std.proofs.Common.{◌^◌, arith}
 use Rattle.z_ber.proofs.Room.{room_more, room_now}
 use Rattle.z_ber.proofs.read.+padded_number.Goals as goal
 

@@ -1,4 +1,4 @@
-use Rattle.std.proofs.Common.{◌≡◌, sym, arith}
+use Rattle.std.proofs.Common.{sym, arith}
 use Rattle.z_ber.proofs.StrictReading.{written_at-found, written_at-none}
 use Rattle.z_ber.proofs.strict.written.Goals as goal
 

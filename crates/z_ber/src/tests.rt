@@ -1,0 +1,182 @@
+//! Octets of X.690:2021 and of its rules at their bounds.
+
+use crate::*;
+use std::test::Fail;
+use z_types::{Oid, Text};
+
+/// Octets, the size of their header and its length, or why there is none.
+type HeaderCase = (&'static [u8], Result<(u32, usize, Option<u64>), BerFault>);
+
+const HEADERS: [HeaderCase; 24] = [
+    // 8.1.3.4 and 8.1.3.5: the lengths 38 and 201
+    (&[0x02, 0x26], Ok((2, 2, Some(38)))),
+    (&[0x02, 0x81, 0xc9], Ok((2, 3, Some(201)))),
+    // 8.1.2.4.2: numbers at the bounds of their octets
+    (&[0x9e, 0x00], Ok((30, 2, Some(0)))),
+    (&[0x9f, 0x1f, 0x00], Ok((31, 3, Some(0)))),
+    (&[0x9f, 0x7f, 0x00], Ok((127, 3, Some(0)))),
+    (&[0x9f, 0x81, 0x00, 0x00], Ok((128, 4, Some(0)))),
+    (
+        &[0x9f, 0x87, 0xff, 0xff, 0xff, 0x7f, 0x00],
+        Ok((2147483647, 7, Some(0))),
+    ),
+    (&[0x9f, 0x88, 0x80, 0x80, 0x80, 0x00], Err(BerFault::BadTag)),
+    (&[0x9f, 0x1e, 0x00], Err(BerFault::BadTag)),
+    (&[0x9f, 0x80, 0x1f, 0x00], Err(BerFault::BadTag)),
+    (&[0x9f], Err(BerFault::Short)),
+    (&[0x9f, 0x81], Err(BerFault::Short)),
+    // 8.1.3.5: zeros in front, and up to eight octets
+    (&[0x30, 0x82, 0x00, 0x05], Ok((16, 4, Some(5)))),
+    (
+        &[0x04, 0x88, 0, 0, 0, 0, 0, 0, 1, 0],
+        Ok((4, 10, Some(256))),
+    ),
+    (
+        &[0x04, 0x88, 1, 0, 0, 0, 0, 0, 0, 0],
+        Ok((4, 10, Some(72057594037927936))),
+    ),
+    (
+        &[0x04, 0x89, 0, 0, 0, 0, 0, 0, 0, 0, 1],
+        Err(BerFault::BadLength),
+    ),
+    (&[0x04, 0xff], Err(BerFault::BadLength)),
+    (&[0x04, 0x82, 0x01], Err(BerFault::Short)),
+    (&[0x04], Err(BerFault::Short)),
+    (&[], Err(BerFault::Short)),
+    // 8.1.3.2 and 8.1.3.6: the indefinite form
+    (&[0x30, 0x80], Ok((16, 2, None))),
+    (&[0x04, 0x80], Err(BerFault::BadLength)),
+    (&[0xbf, 0x81, 0x48, 0x80], Ok((200, 4, None))),
+    (&[0x00, 0x00], Ok((0, 2, Some(0)))),
+];
+
+#[test]
+fn headers_are_read_as_x690_spells_them(rt: HostRuntime) {
+    for (octets, expected) in HEADERS {
+        match (header(octets), expected) {
+            (Ok(found), Ok((number, size, length))) => {
+                assert_eq!(rt; found.tag.number, number);
+                assert_eq!(rt; found.size, size);
+                assert_eq!(rt; found.length, length);
+            }
+            (Err(found), Err(fault)) => assert_eq!(rt; found, fault),
+            _ => assert!(rt; false, "{octets:?}"),
+        }
+    }
+}
+
+const FRAMES: [(&[u8], Result<usize, BerFault>); 8] = [
+    (&[0x04, 0x02, 7, 8, 9], Ok(4)),
+    (&[0x30, 0x00], Ok(2)),
+    (&[0x04, 0x02, 7], Err(BerFault::Short)),
+    (&[0x04, 0x83, 0x0f, 0xff], Err(BerFault::Short)),
+    (&[0x04, 0x83, 0x10], Err(BerFault::BadLength)),
+    (&[0xb6, 0x84, 0x10], Err(BerFault::BadLength)),
+    (
+        &[0x04, 0x83, 0x10, 0x00, 0x00],
+        Err(BerFault::TooLarge(1048581)),
+    ),
+    (&[0x30, 0x80, 0x00, 0x00], Err(BerFault::BadLength)),
+];
+
+const WHOLE_FRAMES: [(&[u8], Result<usize, BerFault>); 7] = [
+    (&[0x04, 0x02, 7, 8, 9], Ok(4)),
+    (
+        &[0x30, 0x80, 0x31, 0x80, 0, 0, 0x04, 0x02, 0, 0, 0, 0, 9],
+        Ok(12),
+    ),
+    (&[0x30, 0x80, 0x05, 0x00, 0], Err(BerFault::Short)),
+    (&[0x30, 0x80, 0x00, 0x01, 7, 0, 0], Ok(7)),
+    (&[0x30, 0x80, 0x04, 0x80], Err(BerFault::BadLength)),
+    (&[0x30, 0x80, 0x1f, 0x80], Err(BerFault::BadTag)),
+    (&[0xb6, 0x84, 0x10], Err(BerFault::BadLength)),
+];
+
+#[test]
+fn frames_are_cut_at_their_end(rt: HostRuntime) {
+    for (octets, expected) in FRAMES {
+        assert_eq!(rt; definite_frame(octets), expected);
+    }
+    for (octets, expected) in WHOLE_FRAMES {
+        assert_eq!(rt; whole(octets), expected);
+    }
+}
+
+#[test]
+fn written_elements_are_those_of_x690(rt: HostRuntime) -> Result<(), Fail> {
+    let mut out = Text::new(rt.alloc());
+    put_bool(&mut out, Tag::universal(1), true)?;
+    put_int(&mut out, Tag::universal(2), 128)?;
+    put_int(&mut out, Tag::universal(2), -128)?;
+    put_bits(&mut out, Tag::universal(3), 0x4081)?;
+    put_bits(&mut out, Tag::universal(3), 0)?;
+    put_bytes(&mut out, Tag::context(105), b"ab")?;
+    let oid = Oid::copy_of(rt.alloc(), &[2, 100, 3])?;
+    put_oid(&mut out, Tag::universal(6), &oid)?;
+    put_tree(&mut out, Tag::constructed_context(1), &[5, 0])?;
+    let expected: [u8; 36] = [
+        // 8.2.2
+        1, 1, 0xff, // 8.3.2
+        2, 2, 0, 0x80, 2, 1, 0x80, // 8.6.2: bits 0, 7 and 14
+        3, 3, 1, 0x81, 0x02, 3, 1, 0, // 8.1.2.4
+        0x9f, 0x69, 2, b'a', b'b', // 8.19.5
+        6, 3, 0x81, 0x34, 3, // 8.1.1
+        0xa1, 2, 5, 0, // none
+        0, 0, 0, 0,
+    ];
+    assert_eq!(rt; out.as_slice(), &expected[..32]);
+    Ok(())
+}
+
+#[test]
+fn what_is_written_is_read_back(rt: HostRuntime) {
+    assert_eq!(rt; int_of(&[0, 0x80]), Some(128));
+    assert_eq!(rt; int_of(&[0x80]), Some(-128));
+    assert_eq!(rt; int_of(&[0, 0x7f]), None);
+    assert_eq!(rt; bits_of(&[1, 0x81, 0x02]), Some(0x4081));
+    assert_eq!(rt; bits_of(&[0, 0x81, 0x02]), None);
+    assert_eq!(rt; bool_of(&[0xff]), Some(true));
+    assert_eq!(rt; bool_of(&[1]), None);
+    match written(&[0x9f, 0x69, 2, b'a', b'b', 7]) {
+        Some(found) => {
+            assert_eq!(rt; found.tag.number, 105);
+            assert_eq!(rt; found.contents, b"ab".as_slice());
+            assert_eq!(rt; found.rest, [7].as_slice());
+        }
+        None => assert!(rt; false),
+    }
+    assert!(rt; written(&[4, 0x81, 1, 7]).is_none());
+}
+
+#[test]
+fn children_are_lent_in_order(rt: HostRuntime) -> Result<(), Fail> {
+    // an indefinite element in an indefinite one, then an octet string, then the ends
+    let octets = [0x30, 0x80, 0x31, 0x80, 5, 0, 0, 0, 4, 1, 9, 0, 0, 7];
+    let mut element = Element::first(&octets)?;
+    assert_eq!(rt; element.tag().number, 16);
+    let mut first = element.next_child()?.expect(&rt, "a set");
+    assert_eq!(rt; first.tag().number, 17);
+    assert_eq!(rt; first.body(), [5, 0].as_slice());
+    assert_eq!(rt; first.next_child()?.expect(&rt, "a null").tag().number, 5);
+    assert!(rt; first.next_child()?.is_none());
+    assert_eq!(rt;
+        element.next_child()?.expect(&rt, "octets").body(),
+        [9].as_slice()
+    );
+    assert!(rt; element.next_child()?.is_none());
+    Ok(())
+}
+
+#[test]
+fn level_64_is_read_and_level_65_is_not(rt: HostRuntime) {
+    let mut octets = [0; 260];
+    for level in 0..65 {
+        octets[2 * level] = 0x30;
+        octets[2 * level + 1] = 0x80;
+    }
+    assert!(rt; Element::first(&octets[2..258]).is_ok());
+    match Element::first(&octets) {
+        Err(fault) => assert_eq!(rt; fault, BerFault::TooDeep),
+        Ok(_) => assert!(rt; false),
+    }
+}
