@@ -7,6 +7,8 @@ mod files;
 mod sinks;
 mod sources;
 mod targets;
+#[cfg(test)]
+mod tests;
 
 pub use clocks::Clock;
 pub use files::{FileGot, Files};

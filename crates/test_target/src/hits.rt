@@ -97,7 +97,7 @@ fn found_by_operand(alloc: Global, target: u32, value: u32, every: u32) -> Resul
 fn none_found(alloc: Global) -> Result<Vec<bool>, Memory>
     ensures { IfOk result (λ found. found.items ≡ map (λ i. false) (range_with_len 1 MOST_RECORDS)) }
 {
-    Ok(vec![in alloc; false; 99]?)
+    Ok(vec![in alloc; false; MOST_RECORDS as usize]?)
 }
 
 /// The records of both.

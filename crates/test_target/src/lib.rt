@@ -5,6 +5,8 @@ mod databases;
 mod diagnostics;
 mod hits;
 mod operands;
+#[cfg(test)]
+mod tests;
 mod worlds;
 
 pub use worlds::TestWorld;

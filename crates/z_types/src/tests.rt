@@ -105,16 +105,14 @@ impl Sample for Rpn {
     const COUNT: u8 = 9;
 
     fn sample(alloc: Global, which: u8) -> Result<Rpn, Memory> {
-        let left = leaf(alloc, 1, 1)?;
-        let right = leaf(alloc, 1, 2)?;
         match which {
-            0 => Rpn::and(alloc, left, right),
-            1 => Rpn::and(alloc, right, left),
-            2 => Rpn::or(alloc, left, right),
-            3 => Rpn::and_not(alloc, left, right),
-            4 => Rpn::and(alloc, left, leaf(alloc, 2, 1)?),
-            5 => Ok(left),
-            6 => Ok(right),
+            0 => Rpn::and(alloc, leaf(alloc, 1, 1)?, leaf(alloc, 1, 2)?),
+            1 => Rpn::and(alloc, leaf(alloc, 1, 2)?, leaf(alloc, 1, 1)?),
+            2 => Rpn::or(alloc, leaf(alloc, 1, 1)?, leaf(alloc, 1, 2)?),
+            3 => Rpn::and_not(alloc, leaf(alloc, 1, 1)?, leaf(alloc, 1, 2)?),
+            4 => leaf(alloc, 1, 1),
+            5 => leaf(alloc, 1, 2),
+            6 => leaf(alloc, 2, 1),
             7 => Ok(Rpn::operand(text(alloc, b"a")?)),
             _ => Ok(Rpn::operand(text(alloc, b"b")?)),
         }

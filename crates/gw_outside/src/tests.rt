@@ -1,0 +1,166 @@
+//! Fakes of the outside: each trait can be met, and a sink that fails at named calls.
+
+ghost use Rattle.std.specs.Prelude.{ℕ, List, [], ◌∷◌, Some, None, Ok, Err, drop, if◌then◌else◌, ◌==◌};
+ghost use lib.Pointwise.{pointwise};
+
+use crate::*;
+use std::alloc::Global;
+use std::test::Fail;
+use z_types::{Address, List, Memory, Oid, Rpn, RpnQuery, Text, World, copy};
+
+/// A sink that takes at most two octets at a call, and fails at the call of a number.
+#[derive(Drop)]
+struct FakeSink {
+    received: Vec<u8>,
+    failing: u64,
+    calls: u64,
+    faults: u64,
+}
+
+impl Sink for FakeSink {
+    ghost faults = { λ s. s.faults };
+
+    ghost received = { λ s. Some s.received.items };
+
+    fn write(&mut self, piece: &[u8]) -> Took {
+        self.calls = self.calls.saturating_add(1);
+        let count = piece.len().min(2);
+        if self.calls != self.failing {
+            if let Ok(()) = self.received.extend_from_slice(&piece[..count]) {
+                return Took::Bytes(count);
+            }
+        }
+        self.faults = self.faults.saturating_add(1);
+        Took::Failed
+    }
+}
+
+/// A source that gives an octet at a call.
+#[derive(Drop)]
+struct FakeSource {
+    bytes: Vec<u8>,
+    given: usize,
+}
+
+impl Source for FakeSource {
+    ghost faults = { λ _. 0 };
+
+    ghost left = { λ s. Some (drop s.given s.bytes.items) };
+
+    fn read(&mut self, into: &mut [u8]) -> Got {
+        if self.given < self.bytes.len() {
+            into[0] = self.bytes[self.given];
+            self.given += 1;
+            return Got::Bytes(1);
+        }
+        Got::End
+    }
+}
+
+/// One file.
+#[derive(Drop)]
+struct FakeFiles {
+    name: Text,
+    bytes: Text,
+    faults: u64,
+}
+
+impl Files for FakeFiles {
+    ghost faults = { λ s. s.faults };
+
+    ghost told = { λ s name. if pointwise ◌==◌ s.name name then Some s.bytes else None };
+
+    fn read_all(&mut self, _: Global, name: &Text, limit: usize) -> FileGot {
+        if self.name != *name {
+            self.faults = self.faults.saturating_add(1);
+            return FileGot::Failed;
+        }
+        if limit < self.bytes.len() {
+            return FileGot::Longer;
+        }
+        match copy(&self.bytes) {
+            Ok(bytes) => FileGot::Whole(bytes),
+            Err(_) => FileGot::Memory,
+        }
+    }
+}
+
+/// Targets that hold nothing.
+#[derive(Drop)]
+struct FakeTargets {}
+
+impl World for FakeTargets {
+    ghost told = { λ _. Unit {0} };
+
+    ghost search = { λ _ _. Ok 0 };
+
+    ghost record_ = { λ _ _ _ _ _. Err (record { set = 1 ∷ 2 ∷ []; condition = 13; addinfo = [] }) };
+
+    ghost scan = { λ _ _ _. Ok (record { position = None; entries = [] }) };
+}
+
+impl Targets for FakeTargets {
+    fn search(&self, _: Global, _: &Address, _: &List<Text>, _: &RpnQuery) -> Told<u32> {
+        Told::Good(0)
+    }
+}
+
+/// Whether a write of five octets, of which the call of a number fails, is answered so and leaves this.
+fn writes(alloc: Global, failing: u64, wanted: bool, left: &[u8]) -> bool {
+    let mut sink = FakeSink {
+        received: Vec::new(alloc),
+        failing,
+        calls: 0,
+        faults: 0,
+    };
+    let written = write_all(&mut sink, b"abcde");
+    written == wanted && sink.received.as_slice() == left && (sink.faults == 0) == wanted
+}
+
+#[test]
+fn a_write_ends_whole_or_at_its_first_fault(rt: HostRuntime) {
+    let alloc = rt.alloc();
+    assert!(rt; writes(alloc, 0, true, b"abcde"), "no fault");
+    assert!(rt; writes(alloc, 1, false, b""), "the first call");
+    assert!(rt; writes(alloc, 2, false, b"ab"), "the second call");
+    assert!(rt; writes(alloc, 3, false, b"abcd"), "the last call");
+    assert!(rt; writes(alloc, 4, true, b"abcde"), "a call that is not made");
+}
+
+/// What a read of the file `a`, of two octets, gave, as a word.
+fn read_word(alloc: Global, name: &[u8], limit: usize) -> Result<&'static str, Memory> {
+    let mut files = FakeFiles {
+        name: Text::copy_of(alloc, b"a")?,
+        bytes: Text::copy_of(alloc, b"xy")?,
+        faults: 0,
+    };
+    match files.read_all(alloc, &Text::copy_of(alloc, name)?, limit) {
+        FileGot::Whole(_) => Ok("whole"),
+        FileGot::Longer => Ok("longer"),
+        FileGot::Failed => Ok("failed"),
+        FileGot::Memory => Err(Memory),
+    }
+}
+
+#[test]
+fn fakes_meet_the_traits(rt: HostRuntime) -> Result<(), Fail> {
+    let alloc = rt.alloc();
+    assert_eq!(rt; read_word(alloc, b"a", 2)?, "whole");
+    assert_eq!(rt; read_word(alloc, b"a", 1)?, "longer");
+    assert_eq!(rt; read_word(alloc, b"b", 2)?, "failed");
+    let mut source = FakeSource {
+        bytes: vec![in alloc; b'z']?,
+        given: 0,
+    };
+    let mut buffer = [0u8; 4];
+    assert_eq!(rt; source.read(&mut buffer), Got::Bytes(1));
+    assert_eq!(rt; buffer[0], b'z');
+    assert_eq!(rt; source.read(&mut buffer), Got::End);
+    let query = RpnQuery {
+        attr_set: Oid::copy_of(alloc, &[1, 2])?,
+        root: Rpn::operand(Text::new(alloc)),
+    };
+    let told = FakeTargets {}.search(alloc, &Address::Test(0), &List::new(alloc), &query);
+    assert!(rt; matches!(told, Told::Good(0)));
+    Ok(())
+}
