@@ -7,3 +7,4 @@ pub mod Steps
 pub mod OneTree
 pub mod Deeper
 pub mod Going
+pub mod Nested

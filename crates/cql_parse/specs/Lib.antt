@@ -8,3 +8,4 @@ pub mod Answers
 pub mod Brackets
 pub mod Nesting
 pub mod Unfinished
+pub mod Phases

@@ -10,6 +10,7 @@ mod grow;
 mod grown;
 mod laws;
 mod lexeme;
+mod scan;
 mod stack;
 mod tree;
 
