@@ -8,3 +8,5 @@ pub mod OneTree
 pub mod Deeper
 pub mod Going
 pub mod Nested
+pub mod Faults
+pub mod Accepting

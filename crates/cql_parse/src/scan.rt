@@ -1,7 +1,7 @@
 //! Where tokens stop being the beginning of a query. The grammar is LL(1) with a counter of open
 //! brackets, so one token and what came before it, as one of these phases, decide.
 
-ghost use Rattle.std.specs.Prelude.{◌≡◌, ◌+◌, ◌^◌, ◌<◌, ◌≤◌, length, true, option_map, Some, None, if◌then◌else◌};
+ghost use Rattle.std.specs.Prelude.{◌≡◌, ◌+◌, ◌^◌, ◌<◌, ◌≤◌, length, true, IfSome, option_map, Some, None, if◌then◌else◌};
 ghost use Rattle.cql_parse.specs.Phases.{spot, closed, step_of, after_step, clause_step, modified_step, ends_so, fault_at};
 ghost use Rattle.cql_parse.specs.Lexemes.{lexemes};
 ghost use Rattle.cql_parse.specs.Classes.{is_term};
@@ -65,7 +65,8 @@ fn at_phase(phase: Phase, open: usize) -> Option<Spot>
 
 /// A closing bracket, where one is open.
 fn closed(open: usize) -> Option<Spot>
-    ensures { result ≡ closed «open» }
+    ensures next { result ≡ closed «open» }
+    ensures bound { IfSome result (λ next. next.«open» ≤ «open» + 1) }
 {
     if open == 0 {
         return None;
@@ -76,7 +77,8 @@ fn closed(open: usize) -> Option<Spot>
 /// What may come where a clause is due.
 fn clause_step(open: usize, class: Class) -> Option<Spot>
     requires { «open» + 1 < 2 ^ 64 }
-    ensures { result ≡ clause_step «open» class }
+    ensures next { result ≡ clause_step «open» class }
+    ensures bound { IfSome result (λ next. next.«open» ≤ «open» + 1) }
 {
     match class {
         Class::Quoted | Class::Word | Class::Boolean | Class::SortBy => at_phase(Phase::Term, open),
@@ -88,7 +90,8 @@ fn clause_step(open: usize, class: Class) -> Option<Spot>
 
 /// What may come behind a clause.
 fn after_step(open: usize, class: Class) -> Option<Spot>
-    ensures { result ≡ after_step «open» class }
+    ensures next { result ≡ after_step «open» class }
+    ensures bound { IfSome result (λ next. next.«open» ≤ «open» + 1) }
 {
     match class {
         Class::Boolean => at_phase(Phase::Modified(Owner::Boolean), open),
@@ -101,7 +104,8 @@ fn after_step(open: usize, class: Class) -> Option<Spot>
 /// What may come behind what may have modifiers.
 fn modified_step(owner: Owner, open: usize, class: Class) -> Option<Spot>
     requires { «open» + 1 < 2 ^ 64 }
-    ensures { result ≡ modified_step owner «open» class }
+    ensures next { result ≡ modified_step owner «open» class }
+    ensures bound { IfSome result (λ next. next.«open» ≤ «open» + 1) }
 {
     if class.is_slash() {
         return at_phase(Phase::Slash(owner), open);
@@ -118,7 +122,8 @@ fn modified_step(owner: Owner, open: usize, class: Class) -> Option<Spot>
 
 /// The next phase, where a term comes.
 fn on_term(phase: Phase, open: usize, class: Class) -> Option<Spot>
-    ensures { result ≡ (if is_term class then Some (spot phase «open») else None) }
+    ensures next { result ≡ (if is_term class then Some (spot phase «open») else None) }
+    ensures bound { IfSome result (λ next. next.«open» ≤ «open» + 1) }
 {
     if class.is_term() { at_phase(phase, open) } else { None }
 }
@@ -126,7 +131,8 @@ fn on_term(phase: Phase, open: usize, class: Class) -> Option<Spot>
 /// One token.
 fn step_of(phase: Phase, open: usize, class: Class) -> Option<Spot>
     requires { «open» + 1 < 2 ^ 64 }
-    ensures { result ≡ step_of phase «open» class }
+    ensures next { result ≡ step_of phase «open» class }
+    ensures bound { IfSome result (λ next. next.«open» ≤ «open» + 1) }
 {
     match phase {
         Phase::Clause => clause_step(open, class),
