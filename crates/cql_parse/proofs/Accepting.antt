@@ -58,7 +58,7 @@ on_bare n [] h = refl
 on_bare n (x ∷ rest) h = same_step Term After n x rest (rw h refl)
 
 -- a modifier's name, with and without a value
-on_unvalued : (owner : Owner) (n : ℕ) (rest : List Lexeme) → starts is_symbol rest ≡ false → accepts (Named owner) n rest ≡ accepts (Modified owner) n rest
+pub on_unvalued : (owner : Owner) (n : ℕ) (rest : List Lexeme) → starts is_symbol rest ≡ false → accepts (Named owner) n rest ≡ accepts (Modified owner) n rest
 on_unvalued Relation n [] h = refl
 on_unvalued Boolean n [] h = refl
 on_unvalued Key n [] h = refl
@@ -99,17 +99,17 @@ on_clause n ts (Some head) text rest h =
     ∙ accepts_some (Modified Relation) n h.term rest (spot After n) (rw (no_slash, h.is_term) refl)
 
 -- a prefix assignment
-on_sign : (n : ℕ) (x : Lexeme) (rest : List Lexeme) → is_greater x.class ≡ true → accepts Clause n (x ∷ rest) ≡ accepts Sign n rest
+pub on_sign : (n : ℕ) (x : Lexeme) (rest : List Lexeme) → is_greater x.class ≡ true → accepts Clause n (x ∷ rest) ≡ accepts Sign n rest
 on_sign n x rest h =
     let no_term = greater_no_term x.class h in
     let no_open = greater_no_open x.class h in
     accepts_some Clause n x rest (spot Sign n) (rw (no_term, no_open, h) refl)
 
-on_unequal : (n : ℕ) (rest : List Lexeme) → starts is_equal rest ≡ false → accepts PrefixWord n rest ≡ accepts Clause n rest
+pub on_unequal : (n : ℕ) (rest : List Lexeme) → starts is_equal rest ≡ false → accepts PrefixWord n rest ≡ accepts Clause n rest
 on_unequal n [] h = refl
 on_unequal n (x ∷ rest) h = same_step PrefixWord Clause n x rest (rw h refl)
 
-on_plain : (n : ℕ) (x : Lexeme) (rest : List Lexeme) → is_term x.class ≡ true → starts is_equal rest ≡ false → accepts Sign n (x ∷ rest) ≡ accepts Clause n rest
+pub on_plain : (n : ℕ) (x : Lexeme) (rest : List Lexeme) → is_term x.class ≡ true → starts is_equal rest ≡ false → accepts Sign n (x ∷ rest) ≡ accepts Clause n rest
 on_plain n x rest h alone = go (is_word x.class) refl
   where
     go : (b : Bool) → is_word x.class ≡ b → accepts Sign n (x ∷ rest) ≡ accepts Clause n rest
@@ -163,7 +163,7 @@ on_end n (x ∷ rest) h =
     let no_sortby = close_no_sortby x.class h in
     same_step (Modified Key) After n x rest (rw (no_slash, no_term, no_boolean, no_sortby) refl)
 
-on_sortby : (n : ℕ) (x : Lexeme) (rest : List Lexeme) → is_sortby x.class ≡ true → accepts After n (x ∷ rest) ≡ accepts SortBy n rest
+pub on_sortby : (n : ℕ) (x : Lexeme) (rest : List Lexeme) → is_sortby x.class ≡ true → accepts After n (x ∷ rest) ≡ accepts SortBy n rest
 on_sortby n x rest h = let no_boolean = sortby_no_boolean x.class h in accepts_some After n x rest (spot SortBy n) (rw (no_boolean, h) refl)
 
 pub on_open : (n : ℕ) (x : Lexeme) (rest : List Lexeme) → is_open x.class ≡ true → accepts Clause n (x ∷ rest) ≡ accepts Clause (suc n) rest

@@ -10,3 +10,5 @@ pub mod Going
 pub mod Nested
 pub mod Faults
 pub mod Accepting
+pub mod Accepted
+pub mod Syntax

@@ -9,3 +9,5 @@ pub mod Brackets
 pub mod Nesting
 pub mod Unfinished
 pub mod Phases
+pub mod Refusals
+pub mod Numbers

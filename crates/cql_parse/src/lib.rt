@@ -10,10 +10,12 @@ mod grow;
 mod grown;
 mod laws;
 mod lexeme;
+mod parser;
 mod scan;
 mod stack;
 mod tree;
 
 pub use fault::ParseFault;
-pub use laws::one_tree;
+pub use laws::{one_fault, one_tree};
+pub use parser::parse;
 pub use tree::{Cql, Head, Modifier, Node, SortKey};
