@@ -119,10 +119,10 @@ one_place ts p q a b =
     ⊎_elim (λ lt. absurd (earlier ts p q a b lt)) (λ le. ⊎_elim (λ gt. absurd (earlier ts q p b a gt)) (λ ge. omega (arith, le, ge)) (cases_lt q p)) (cases_lt p q)
 
 -- where a token starts
-pub place_found : (text : List ℕ) (tokens : List Token) (at : ℕ) (t : Token) → at < length tokens → t ≡ get_or tokens at t → t.start ≡ place_of text tokens at
-place_found text [] at t below e = absurd (omega (arith, below))
-place_found text (u ∷ us) zero t below e = ap (λ (x : Token). x.start) e
-place_found text (u ∷ us) (suc at) t below e = place_found text us at t (omega (arith, below)) e
+pub place_found : (text : List ℕ) (tokens : List Token) (at : ℕ) (d : Token) → at < length tokens → (get_or tokens at d).start ≡ place_of text tokens at
+place_found text [] at d below = absurd (omega (arith, below))
+place_found text (u ∷ us) zero d below = refl
+place_found text (u ∷ us) (suc at) d below = place_found text us at d (omega (arith, below))
 
 pub place_none : (text : List ℕ) (tokens : List Token) (at : ℕ) → length tokens ≤ at → length text ≡ place_of text tokens at
 place_none text [] at past = refl

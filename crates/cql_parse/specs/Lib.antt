@@ -11,3 +11,4 @@ pub mod Unfinished
 pub mod Phases
 pub mod Refusals
 pub mod Numbers
+pub mod Written

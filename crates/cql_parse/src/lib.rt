@@ -14,8 +14,10 @@ mod parser;
 mod scan;
 mod stack;
 mod tree;
+mod writer;
 
 pub use fault::ParseFault;
 pub use laws::{one_fault, one_tree};
 pub use parser::parse;
 pub use tree::{Cql, Head, Modifier, Node, SortKey};
+pub use writer::write;

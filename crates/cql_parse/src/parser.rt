@@ -42,11 +42,14 @@ fn refusal(text: &[u8], tokens: &[Token]) -> ParseFault
 }
 
 /// Where the token of this number starts, or the text ends.
+#[tactic(auto, using(crate::proofs::Syntax::place_none))]
 fn place_of(text: &[u8], tokens: &[Token], at: usize) -> usize
     ensures { result ≡ place_of text.now tokens.now at }
 {
-    match tokens.get(at) {
-        Some(token) => token.start,
-        None => text.len(),
+    if at < tokens.len() {
+        let token = tokens[at];
+        token.start
+    } else {
+        text.len()
     }
 }
