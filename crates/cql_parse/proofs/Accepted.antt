@@ -68,17 +68,21 @@ has_modifier owner n x rest slash h = at_name rest (sym (accepts_some (Modified 
   where
     name : (w : Lexeme) (more : List Lexeme) → is_word w.class ≡ true → IsName (x ∷ w ∷ more) w.text more
     name w more e = record { slash = x; word = w; tokens = refl; is_slash = slash; is_word = e; spelled = refl }
+
     unvalued : (w : Lexeme) (more : List Lexeme) → is_word w.class ≡ true → starts is_symbol more ≡ false → accepts (Named owner) n more ≡ true → HasModifier owner n (x ∷ w ∷ more)
     unvalued w more e none a = record { m = record { name = w.text; value = None }; rest = more; is = (more, name w more e, (none, refl)); accepted = sym (on_unvalued owner n more none) ∙ a; shorter = omega arith }
+
     at_term : (w s : Lexeme) (more : List Lexeme) → is_word w.class ≡ true → is_symbol s.class ≡ true → accepts (Value owner) n more ≡ true → HasModifier owner n (x ∷ w ∷ s ∷ more)
     at_term w s [] e f a = absurd (false≢true a)
     at_term w s (t ∷ more) e f a =
         let v = need_value owner n t more a in
         record { m = record { name = w.text; value = Some (s.text, t.text) }; rest = more; is = (s ∷ t ∷ more, name w (s ∷ t ∷ more) e, record { symbol = s; term = t; tokens = refl; is_symbol = f; is_term = v.0; spelled = refl }); accepted = v.1; shorter = omega arith }
+
     at_value : (w : Lexeme) (more : List Lexeme) → is_word w.class ≡ true → accepts (Named owner) n more ≡ true → HasModifier owner n (x ∷ w ∷ more)
     at_value w [] e a = unvalued w [] e refl a
     at_value w (s ∷ more) e a =
         ⊎_elim (λ f. at_term w s more e f (sym (accepts_some (Named owner) n s more (spot (Value owner) n) (rw f refl)) ∙ a)) (λ f. unvalued w (s ∷ more) e f a) (decided (is_symbol s.class))
+
     at_name : (ts : List Lexeme) → accepts (Slash owner) n ts ≡ true → HasModifier owner n (x ∷ ts)
     at_name [] a = absurd (false≢true a)
     at_name (w ∷ more) a = let v = need_word owner n w more a in at_value w more v.0 v.1
@@ -131,9 +135,9 @@ first_key : (n : ℕ) (ts : List Lexeme) → accepts SortBy n ts ≡ true → (s
 first_key n [] h = absurd (false≢true h)
 first_key n (x ∷ ts) h =
     ⊎_elim (λ (e : is_term x.class ≡ true).
-        let s = term_no_slash x.class e in
-        let a = sym (accepts_some SortBy n x ts (spot (Modified Key) n) (rw e refl)) ∙ h in
-        (e, s, accepts_some (Modified Key) n x ts (spot (Modified Key) n) (rw (s, e) refl) ∙ a))
+    let s = term_no_slash x.class e in
+    let a = sym (accepts_some SortBy n x ts (spot (Modified Key) n) (rw e refl)) ∙ h in
+    (e, s, accepts_some (Modified Key) n x ts (spot (Modified Key) n) (rw (s, e) refl) ∙ a))
     (λ e. refuse SortBy n x ts (rw e refl) h) (decided (is_term x.class))
 
 -- a clause
@@ -189,16 +193,20 @@ has_prefix n x (w ∷ ts) g a = ⊎_elim (λ e. at_word ts e (sym (accepts_some 
     word_term class.SortBy h = refl
     word_term class.Quoted h = refl
     word_term _ h = cc
+
     unnamed : (more : List Lexeme) → is_term w.class ≡ true → starts is_equal more ≡ false → accepts Clause n more ≡ true → HasPrefix n (x ∷ w ∷ more)
     unnamed more e f b = record { name = None; uri = w.text; rest = more; is = record { sign = x; term = w; tokens = refl; is_sign = g; is_term = e; assigned = refl; alone = f }; accepted = b; shorter = omega arith }
+
     at_uri : (q : Lexeme) (more : List Lexeme) → is_word w.class ≡ true → is_equal q.class ≡ true → accepts Uri n more ≡ true → HasPrefix n (x ∷ w ∷ q ∷ more)
     at_uri q [] e f b = absurd (false≢true b)
     at_uri q (t ∷ more) e f b =
         let v = need_uri n t more b in
         record { name = Some w.text; uri = t.text; rest = more; is = record { sign = x; word = w; equal = q; term = t; tokens = refl; is_sign = g; is_word = e; is_equal = f; is_term = v.0; spelled = refl; assigned = refl }; accepted = v.1; shorter = omega arith }
+
     at_word : (more : List Lexeme) → is_word w.class ≡ true → accepts PrefixWord n more ≡ true → HasPrefix n (x ∷ w ∷ more)
     at_word [] e b = absurd (false≢true b)
     at_word (q ∷ more) e b = ⊎_elim (λ f. at_uri q more e f (sym (accepts_some PrefixWord n q more (spot Uri n) (rw f refl)) ∙ b)) (λ f. unnamed (q ∷ more) (word_term w.class e) f (sym (on_unequal n (q ∷ more) f) ∙ b)) (decided (is_equal q.class))
+
     equal_refused : (more : List Lexeme) → accepts Clause n more ≡ true → starts is_equal more ≡ false
     equal_refused [] b = refl
     equal_refused (q ∷ more) b = ⊎_elim (λ f. refuse Clause n q more (no_equal q.class f) b) (λ f. f) (decided (is_equal q.class))
@@ -206,6 +214,7 @@ has_prefix n x (w ∷ ts) g a = ⊎_elim (λ e. at_word ts e (sym (accepts_some 
         no_equal : (c : Class) → is_equal c ≡ true → step_of Clause n c ≡ None
         no_equal class.Equal h = refl
         no_equal _ h = cc
+
     at_quoted : is_word w.class ≡ false → HasPrefix n (x ∷ w ∷ ts)
     at_quoted e =
         ⊎_elim (λ (f : is_term w.class ≡ true). let b = sym (accepts_some Sign n w ts (spot Clause n) (rw (e, f) refl)) ∙ a in unnamed ts f (equal_refused ts b) b) (λ (f : is_term w.class ≡ false). refuse Sign n w ts (rw (e, f) refl) a) (decided (is_term w.class))
@@ -263,9 +272,11 @@ found_operand k more left n (x ∷ ts) le h = go (is_term x.class) refl
     at_sign : is_term x.class ≡ false → is_open x.class ≡ false → (b : Bool) → is_greater x.class ≡ b → Found (operand left) n (x ∷ ts)
     at_sign t o true g = found_prefix k more left n x ts le g h
     at_sign t o false g = refuse Clause n x ts (rw (t, o, g) refl) h
+
     at_open : is_term x.class ≡ false → (b : Bool) → is_open x.class ≡ b → Found (operand left) n (x ∷ ts)
     at_open t true o = found_bracket k more left n x ts le o h
     at_open t false o = at_sign t o (is_greater x.class) refl
+
     go : (b : Bool) → is_term x.class ≡ b → Found (operand left) n (x ∷ ts)
     go true t = found_clause k more left n x ts le t h
     go false t = at_open t (is_open x.class) refl
@@ -291,9 +302,11 @@ found_after k more tree n (x ∷ ts) le h = go (is_boolean x.class) refl
     at_close_ : is_boolean x.class ≡ false → is_sortby x.class ≡ false → (b : Bool) → is_close x.class ≡ b → Found (after tree) n (x ∷ ts)
     at_close_ t o true g = record { q = tree; end = x ∷ ts; reads = done g; accepted = h; ends = g; shorter = omega arith }
     at_close_ t o false g = refuse After n x ts (rw (t, o, g) refl) h
+
     at_sort : is_boolean x.class ≡ false → (b : Bool) → is_sortby x.class ≡ b → Found (after tree) n (x ∷ ts)
     at_sort t true o = found_sort tree n x ts o h
     at_sort t false o = at_close_ t o (is_close x.class) refl
+
     go : (b : Bool) → is_boolean x.class ≡ b → Found (after tree) n (x ∷ ts)
     go true t = found_boolean k more tree n x ts le t h
     go false t = at_sort t (is_sortby x.class) refl

@@ -92,6 +92,7 @@ fault_some (x ∷ rest) phase n at e = go (step_of phase n x.class) refl (λ (ne
     at_next next ih h (Some i) f g =
         let same : suc i ≡ at = cc in
         subst (IsFault phase n (x ∷ rest)) same (fault_step phase n x rest next i h (ih i f))
+
     go : (o : Option Spot) → step_of phase n x.class ≡ o → ((next : Spot) (i : ℕ) → fault_at next.phase next.«open» rest ≡ Some i → IsFault next.phase next.«open» rest i) → IsFault phase n (x ∷ rest) at
     go None h ih =
         let z : Some 0 ≡ Some at = sym (fault_at_none phase n x rest h) ∙ e in
@@ -111,6 +112,7 @@ fault_none (x ∷ rest) phase n e = go (step_of phase n x.class) refl (λ (next 
     at_next : (next : Spot) (o : Option ℕ) → fault_at next.phase next.«open» rest ≡ o → option_map suc o ≡ None → fault_at next.phase next.«open» rest ≡ None
     at_next next None f g = f
     at_next next (Some i) f g = cc
+
     go : (o : Option Spot) → step_of phase n x.class ≡ o → ((next : Spot) → fault_at next.phase next.«open» rest ≡ None → accepts next.phase next.«open» rest ≡ true) → accepts phase n (x ∷ rest) ≡ true
     go None h ih = let z : Some 0 ≡ None = sym (fault_at_none phase n x rest h) ∙ e in cc
     go (Some next) h ih = accepts_some phase n x rest next h ∙ ih next (at_next next (fault_at next.phase next.«open» rest) refl (sym (fault_at_some phase n x rest next h) ∙ e))

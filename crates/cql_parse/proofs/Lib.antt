@@ -12,3 +12,4 @@ pub mod Faults
 pub mod Accepting
 pub mod Accepted
 pub mod Syntax
+pub mod Writing

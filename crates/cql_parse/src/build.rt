@@ -23,7 +23,10 @@ use z_types::{Memory, Text};
 fn lower(alloc: Global, text: &[u8]) -> Result<Text, Memory>
     ensures { IfOk result (λ t. t ≡ lower text.now) }
 {
-    let bytes = text.iter().map(|octet| octet.to_ascii_lowercase()).collect(alloc)?;
+    let bytes = text
+        .iter()
+        .map(|octet| octet.to_ascii_lowercase())
+        .collect(alloc)?;
     Ok(Text::from_vec(bytes))
 }
 

@@ -13,6 +13,8 @@ mod lexeme;
 mod parser;
 mod scan;
 mod stack;
+#[cfg(test)]
+mod tests;
 mod tree;
 mod writer;
 

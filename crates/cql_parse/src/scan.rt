@@ -115,7 +115,11 @@ fn modified_step(owner: Owner, open: usize, class: Class) -> Option<Spot>
         Owner::Boolean => clause_step(open, class),
         Owner::Key if class.is_term() => at_phase(Phase::Modified(Owner::Key), open),
         Owner::Key => {
-            if matches!(class, Class::Close) { closed(open) } else { None }
+            if matches!(class, Class::Close) {
+                closed(open)
+            } else {
+                None
+            }
         }
     }
 }
@@ -125,7 +129,11 @@ fn on_term(phase: Phase, open: usize, class: Class) -> Option<Spot>
     ensures next { result ≡ (if is_term class then Some (spot phase «open») else None) }
     ensures bound { IfSome result (λ next. next.«open» ≤ «open» + 1) }
 {
-    if class.is_term() { at_phase(phase, open) } else { None }
+    if class.is_term() {
+        at_phase(phase, open)
+    } else {
+        None
+    }
 }
 
 /// One token.
@@ -181,5 +189,9 @@ pub fn fault_at(text: &[u8], tokens: &[Token]) -> Option<usize>
         open = next.open;
         rest = front.rest;
     }
-    if ends_so(phase, open) { None } else { Some(tokens.len()) }
+    if ends_so(phase, open) {
+        None
+    } else {
+        Some(tokens.len())
+    }
 }
