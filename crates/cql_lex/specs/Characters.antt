@@ -1,5 +1,5 @@
 -- The octets of CQL's words and strings (CQL 1.2, BNF: charString1 and charString2).
-use Rattle.std.specs.Prelude.{ℕ, suc, Bool, true, false, ◌==◌, ◌||◌, List, [], ◌∷◌, Option, Some, None, option_map, if◌then◌else◌}
+use Rattle.std.specs.Prelude.{ℕ, suc, Bool, true, false, ◌==◌, ◌||◌, List, [], ◌∷◌, length, Option, Some, None, option_map, if◌then◌else◌}
 
 -- white space: space, tab, carriage return, line feed
 abbrev pub is_space : ℕ → Bool
@@ -27,3 +27,12 @@ word_length true [] = None
 word_length false [] = Some 0
 word_length true (b ∷ rest) = option_map suc (word_length false rest)
 word_length false (b ∷ rest) = if ends_word b then Some 0 else option_map suc (word_length (b == 92) rest)
+
+-- these octets alone are one bare word
+abbrev pub is_whole : Option ℕ → ℕ → Bool
+is_whole None len = false
+is_whole (Some found) len = found == len
+
+abbrev pub is_word : List ℕ → Bool
+is_word [] = false
+is_word (b ∷ rest) = is_whole (word_length false (b ∷ rest)) (suc (length rest))

@@ -13,4 +13,5 @@ mod token;
 pub use fault::LexFault;
 pub use laws::one_reading;
 pub use lexer::tokens;
+pub use scan::is_word;
 pub use token::{Kind, Token};

@@ -1,7 +1,7 @@
 //! One token of a text: symbols, strings and bare words (CQL 1.2, BNF).
 
 ghost use Rattle.std.specs.Prelude.{◌≡◌, ◌+◌, ◌^◌, ◌<◌, ◌≤◌, IfSome, suc, length, drop, slice_index, option_map, not, false, ◌==◌, ◌&&◌};
-ghost use Rattle.cql_lex.specs.Characters.{is_space, ends_word, quoted_length, word_length};
+ghost use Rattle.cql_lex.specs.Characters.{is_space, ends_word, quoted_length, word_length, is_word, is_whole};
 ghost use Rattle.cql_lex.specs.Tokens.{token, token_at, quoted_at, word_at, equal_at, less_at, greater_at, next_start};
 
 use crate::{Kind, Token};
@@ -94,6 +94,23 @@ fn word_length(octets: &[u8]) -> Option<usize>
         taken = takes_next(taken, *octet);
     }
     if taken { None } else { Some(octets.len()) }
+}
+
+/// Whether these octets alone are one bare word (charString1).
+pub fn is_word(octets: &[u8]) -> bool
+    ensures { result ≡ is_word octets.now }
+{
+    !octets.is_empty() && is_whole(word_length(octets), octets.len())
+}
+
+/// Whether a word of this length is the whole.
+fn is_whole(found: Option<usize>, len: usize) -> bool
+    ensures { result ≡ is_whole found len }
+{
+    match found {
+        Some(found) => found == len,
+        None => false,
+    }
 }
 
 /// The octet behind this offset; 0 at the end, which begins and continues no symbol.

@@ -1,5 +1,5 @@
 -- What one part of a query answers, from what its own parts answer.
-use Rattle.std.proofs.Common.{◌≡◌, ◌↔◌, ◌⊎◌, ℕ, suc, ◌+◌, ◌<◌, ◌≤◌, true, false, List, [], ◌∷◌, ◌++◌, reverse, Option, Some, None, option_map, Result, Ok, Err, Bor, inl, inr, refl, sym, ◌∙◌, subst, ap, arith}
+use Rattle.std.proofs.Common.{◌≡◌, ◌↔◌, ◌⊎◌, ℕ, suc, ◌+◌, ◌<◌, ◌≤◌, true, false, List, [], ◌∷◌, ◌++◌, reverse, Option, Some, None, option_map, Result, Ok, Err, Bor, ⊎_elim, inl, inr, refl, sym, ◌∙◌, subst, ap, arith}
 use Rattle.cql_lex.specs.declared.token.Token.{Token}
 use Rattle.cql_parse.specs.declared.tree.Modifier.{Modifier}
 use Rattle.cql_parse.specs.declared.tree.Head.{Head}
@@ -17,12 +17,13 @@ use Rattle.cql_parse.specs.declared.fault.Stop.TheVariants.{NoQuery, Deep, Memor
 use Rattle.cql_parse.specs.Tree.{Tree, clause, joined, assigned, sorted, depth}
 use Rattle.cql_parse.specs.Classes.{lower, is_open, is_close, is_greater, is_boolean, is_sortby}
 use Rattle.cql_parse.specs.Lexemes.{Lexeme, lexemes, starts}
-use Rattle.cql_parse.specs.Grammar.{Left, Due, operand, after, join, IsClause, IsPrefix, AreModifiers, AreKeys, Reads}
+use Rattle.cql_parse.specs.Grammar.{Left, Due, operand, after, join, IsClause, IsPrefix, AreModifiers, AreKeys, Reads, IsQuery}
 use Rattle.cql_parse.specs.Nesting.{nesting}
 use Rattle.cql_parse.specs.Answers.{Finds}
 use Rattle.cql_parse.specs.Brackets.{IsFull}
-use Rattle.cql_parse.specs.Unfinished.{left_of, due_of, Makes, Ends, Completes, Goes, EndsSo, Unwinds}
+use Rattle.cql_parse.specs.Unfinished.{left_of, due_of, Makes, Ends, Completes, Goes, EndsSo, Unwinds, Finishes, Builds, Shallow}
 use Rattle.std.proofs.lemmas.List.{reverse-append}
+use Rattle.std.proofs.lemmas.Bool.{cases_lt}
 use Rattle.cql_parse.proofs.Steps.{bracket_step, clause_step, no_clause, prefix_step, no_prefix, boolean_step, no_boolean, sort_step, no_keys, end_step, close_step}
 use Rattle.cql_parse.proofs.Deeper.{completes_deep, ends_deep, nesting_least, nesting_open}
 
@@ -97,7 +98,7 @@ close_deep query old new x left inner ts c u t h =
 pub close_none : (query : Tree) (old new : List Frame) (x : Lexeme) (q : Grown) (ts : List Lexeme) → is_close x.class ≡ true → Unwinds query old new (Ok (Whole q)) → (t : Tree) → Completes (after query) old (x ∷ ts) t → ⊥
 close_none query old new x q ts c u t h =
     let w = (u (x ∷ ts) t).0 ((close_ends query old x ts t c).0 h) in
-    let e : x ∷ ts ≡ [] = w.1.0 in cc
+    let e : x ∷ ts ≡ [] = w.0 in cc
 
 pub close_err : (text : List ℕ) (n : ℕ) (query : Tree) (old new : List Frame) (x : Lexeme) (ts : List Lexeme) (e : Stop) → is_close x.class ≡ true → Unwinds query old new (Err e) → Goes text n (after query) old (x ∷ ts) new (Err e)
 close_err text n query old new x ts NoQuery c u = absurd u
@@ -117,3 +118,37 @@ unwind_deep whole old cur new left_over query left name uri made Deep same frame
     let inner : reverse cur ≡ Prefix left name uri ∷ reverse new = ap reverse frames ∙ reverse_push new (Prefix left name uri) in
     let here = subst (λ (fs : List Frame). Ends fs query rest t) inner ((same rest t).0 ends) in
     omega (arith, h, has, ends_deep (reverse new) (join (option_map left_of left) (assigned name uri query)) rest t here)
+
+-- where no tokens are left and no bracket is open, the query is whole
+pub finish_whole : (query : Tree) (old new : List Frame) (g : Grown) → Unwinds query old new (Ok (Whole g)) → (t : Tree) → Completes (after query) old [] t ↔ (t ≡ g.tree)
+finish_whole query old new g u t =
+    let a = end_step query old [] t refl in
+    let b = u [] t in
+    (λ h. (b.0 (a.0 h)).1, λ e. a.1 (b.1 (refl, e)))
+
+pub finish_inner : (query : Tree) (old new : List Frame) (left : Option LeftOperand) (g : Grown) → Unwinds query old new (Ok (Inner left g)) → (t : Tree) → Completes (after query) old [] t → ⊥
+finish_inner query old new left g u t h =
+    let w = (u [] t).0 ((end_step query old [] t refl).0 h) in
+    let e : [] ≡ w.0 ∷ w.1 = w.4 in cc
+
+-- a query is a clause that is due within nothing
+pub whole_query : (ts : List Lexeme) (t : Tree) → IsQuery ts t ↔ Completes (operand None) [] ts t
+whole_query ts t =
+    (λ r. (t, [], r, (refl, refl)), λ h. subst (λ (x : Tree). IsQuery ts x) (sym h.3.1) (subst (λ (end : List Lexeme). Reads (operand None) ts h.0 end) h.3.0 h.2))
+
+-- one part after another
+pub query_more : (text : List ℕ) (all : List Lexeme) (due : Due) (old new : List Frame) (ts : List Lexeme) (n : ℕ) (state : State) (rest : Bor (List Token)) → ((t : Tree) → IsQuery all t ↔ Completes due old ts t) → Goes text n due old ts new (Ok (state, rest)) → (t : Tree) → IsQuery all t ↔ Completes (due_of state) new (lexemes text rest.now) t
+query_more text all due old new ts n state rest same goes t =
+    (λ q. (goes t).0 ((same t).0 q), λ h. (same t).1 ((goes t).1 h))
+
+pub query_err : (text : List ℕ) (all : List Lexeme) (due : Due) (old new : List Frame) (ts : List Lexeme) (n : ℕ) (e : Stop) → ((t : Tree) → IsQuery all t ↔ Completes due old ts t) → ((48 < nesting 0 all) ↔ (48 < nesting n ts)) → Goes text n due old ts new (Err e) → Builds all (Err e)
+query_err text all due old new ts n NoQuery same nest goes = λ t q. goes t ((same t).0 q)
+query_err text all due old new ts n Memory same nest goes = tt
+query_err text all due old new ts n Deep same nest goes = λ t q. ⊎_elim (λ d. inl d) (λ b. inr (nest.1 b)) (goes t ((same t).0 q))
+
+pub query_done : (all : List Lexeme) (due : Due) (frames : List Frame) (n : ℕ) (r : Result Grown Stop) → ((t : Tree) → IsQuery all t ↔ Completes due frames [] t) → ((48 < nesting 0 all) ↔ (48 < n)) → n ≤ 48 → Shallow r → Finishes due frames r → Builds all r
+query_done all due frames n (Ok g) same nest few low f =
+    ((same g.tree).1 ((f g.tree).1 refl), low, ⊎_elim (λ above. absurd (omega (arith, nest.0 above, few))) (λ below. below) (cases_lt 48 (nesting 0 all)))
+query_done all due frames n (Err NoQuery) same nest few low f = λ t q. f t ((same t).0 q)
+query_done all due frames n (Err Deep) same nest few low f = λ t q. inl (f t ((same t).0 q))
+query_done all due frames n (Err Memory) same nest few low f = tt

@@ -7,3 +7,9 @@ pub mod Steps
 pub mod OneTree
 pub mod Deeper
 pub mod Going
+pub mod Nested
+pub mod Faults
+pub mod Accepting
+pub mod Accepted
+pub mod Syntax
+pub mod Writing

@@ -26,6 +26,7 @@ bracket_step left frames x ts t o =
         let same : ts ≡ more = cc in
         (inner, y ∷ rest, subst (λ (l : List Lexeme). Reads (operand None) l inner (y ∷ rest)) (sym same) i, (y, rest, q, end, refl, c, r, e))
     go q end (by_prefix name uri rest inner p r eq) e = clash (is_greater x.class) (is_greater x.class) (prefix_first (x ∷ ts) name uri rest p) (open_no_greater x.class o) refl
+
     back : Completes (operand None) (Bracket left ∷ frames) ts t → Completes (operand (option_map left_of left)) frames (x ∷ ts) t
     back (inner, stop, i, (y, more, outer, end, e1, c, r, e)) =
         (outer, end, bracket x y o (subst (λ (l : List Lexeme). Reads (operand None) ts inner l) e1 i) c r, e)
@@ -138,6 +139,7 @@ sort_step tree frames x ts keys rest t s k =
         let f' = subst (λ (m : List Lexeme). ends_query m ≡ true) w.1 f in
         (sorted tree keys, rest, done f', subst (λ (m : List Lexeme). Ends frames (sorted tree keys) m t) w.1 (subst (λ (g : Tree). Ends frames g end t) made e))
     go q end (by_end f eq at) e = clash (is_term x.class) (is_term x.class) (sortby_term x.class s) (close_no_term x.class f) refl
+
     back : (q : Tree) (end : List Lexeme) → (ends_query rest ≡ true) × (q ≡ sorted tree keys) × (end ≡ rest) → Ends frames q end t → Completes (after tree) frames (x ∷ ts) t
     back q end w e =
         (sorted tree keys, rest, sort x keys s k w.0, subst (λ (m : List Lexeme). Ends frames (sorted tree keys) m t) w.2 (subst (λ (g : Tree). Ends frames g end t) w.1 e))

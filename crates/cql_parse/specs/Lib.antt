@@ -8,3 +8,7 @@ pub mod Answers
 pub mod Brackets
 pub mod Nesting
 pub mod Unfinished
+pub mod Phases
+pub mod Refusals
+pub mod Numbers
+pub mod Written

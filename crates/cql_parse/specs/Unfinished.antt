@@ -1,6 +1,6 @@
 -- An unfinished query: what is read, what it is within, and which trees the tokens left can make of it (this
 -- project's own).
-use Rattle.std.specs.Prelude.{◌≡◌, ℕ, ◌<◌, true, ◌⊎◌, ◌↔◌, List, [], ◌∷◌, Option, option_map, Result, Ok, Err}
+use Rattle.std.specs.Prelude.{◌≡◌, ℕ, ◌<◌, ◌≤◌, true, ◌⊎◌, ◌↔◌, List, [], ◌∷◌, Option, option_map, Result, Ok, Err}
 use Rattle.std.specs.Borrow.{Bor}
 use Rattle.cql_lex.specs.declared.token.Token.{Token}
 use Rattle.cql_parse.specs.declared.grown.Grown.{Grown}
@@ -17,7 +17,7 @@ use Rattle.cql_parse.specs.Tree.{Tree, depth, assigned}
 use Rattle.cql_parse.specs.Classes.{is_close}
 use Rattle.cql_parse.specs.Lexemes.{Lexeme, lexemes}
 use Rattle.cql_parse.specs.Nesting.{nesting}
-use Rattle.cql_parse.specs.Grammar.{Left, Due, operand, after, join, Reads}
+use Rattle.cql_parse.specs.Grammar.{Left, Due, operand, after, join, Reads, IsQuery}
 
 -- a left operand without its levels
 abbrev pub left_of : LeftOperand → Left
@@ -62,7 +62,7 @@ Goes text brackets due old ts new (Err Memory) = Unit {0}
 -- A query ends here: its prefix assignments are put around it, up to the brackets that it is in.
 abbrev pub EndsSo : List Frame → Ended → List Lexeme → Tree → Type 0
 EndsSo frames (Inner left q) rest t = Ends (Bracket left ∷ frames) q.tree rest t
-EndsSo frames (Whole q) rest t = (frames ≡ []) × Ends [] q.tree rest t
+EndsSo frames (Whole q) rest t = Ends [] q.tree rest t
 
 abbrev pub Unwinds : Tree → List Frame → List Frame → Result Ended Stop → Type 0
 Unwinds q old new (Ok ended) = (rest : List Lexeme) (t : Tree) → Ends old q rest t ↔ EndsSo new ended rest t
@@ -81,3 +81,16 @@ Finishes due frames (Ok g) = (t : Tree) → Completes due frames [] t ↔ (t ≡
 Finishes due frames (Err NoQuery) = (t : Tree) → Completes due frames [] t → ⊥
 Finishes due frames (Err Deep) = (t : Tree) → Completes due frames [] t → 48 < depth t
 Finishes due frames (Err Memory) = Unit {0}
+
+-- The tree of tokens, where they are a query within the limits: at most 48 brackets within one another, and a tree
+-- of at most 48 levels.
+abbrev pub Builds : List Lexeme → Result Grown Stop → Type 0
+Builds ts (Ok g) = IsQuery ts g.tree × (depth g.tree ≤ 48) × (nesting 0 ts ≤ 48)
+Builds ts (Err NoQuery) = (t : Tree) → IsQuery ts t → ⊥
+Builds ts (Err Deep) = (t : Tree) → IsQuery ts t → (48 < depth t) ⊎ (48 < nesting 0 ts)
+Builds ts (Err Memory) = Unit {0}
+
+-- what is made has at most 48 levels
+abbrev pub Shallow : Result Grown Stop → Type 0
+Shallow (Ok g) = depth g.tree ≤ 48
+Shallow (Err e) = Unit {0}

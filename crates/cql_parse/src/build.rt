@@ -1,11 +1,12 @@
 //! The tree of tokens, in one pass over them, with a stack of what the query is within.
 
-ghost use Rattle.std.specs.Prelude.{◌≡◌, ◌+◌, ◌<◌, ◌≤◌, ◌∷◌, [], length, reverse, option_map, None, true, false, IfOk};
+ghost use Rattle.std.specs.Prelude.{◌≡◌, ◌↔◌, ◌+◌, ◌<◌, ◌≤◌, ◌∷◌, [], length, reverse, option_map, None, true, false, IfOk};
 ghost use Rattle.cql_parse.specs.Classes.{is_open, is_boolean, is_sortby, is_close, is_greater, lower};
 ghost use Rattle.cql_parse.specs.Lexemes.{lexemes, starts};
 ghost use Rattle.cql_parse.specs.Grammar.{operand, after};
 ghost use Rattle.cql_parse.specs.Answers.{lexeme_in};
-ghost use Rattle.cql_parse.specs.Unfinished.{left_of, due_of, Goes, Unwinds, Finishes, closed_in};
+ghost use Rattle.cql_parse.specs.Nesting.{nesting};
+ghost use Rattle.cql_parse.specs.Unfinished.{left_of, due_of, Goes, Unwinds, Finishes, Builds, Shallow, closed_in};
 
 use crate::clauses::{clause, keys, modifiers, prefix};
 use crate::fault::Stop;
@@ -22,7 +23,10 @@ use z_types::{Memory, Text};
 fn lower(alloc: Global, text: &[u8]) -> Result<Text, Memory>
     ensures { IfOk result (λ t. t ≡ lower text.now) }
 {
-    let bytes = text.iter().map(|octet| octet.to_ascii_lowercase()).collect(alloc)?;
+    let bytes = text
+        .iter()
+        .map(|octet| octet.to_ascii_lowercase())
+        .collect(alloc)?;
     Ok(Text::from_vec(bytes))
 }
 
@@ -35,6 +39,7 @@ fn open_bracket<'a>(
 ) -> Result<(State, &'a [Token]), Stop>
     requires { is_open front.class ≡ true }
     ensures goes { Goes text.now stack.old.brackets (operand (option_map left_of left)) (reverse stack.old.frames.items) (lexeme_in front.entry ∷ lexemes text.now front.entry.rest.now) (reverse stack.new.frames.items) result }
+    ensures nested { IfOk result (λ next. (48 < nesting stack.old.brackets (lexeme_in front.entry ∷ lexemes text.now front.entry.rest.now)) ↔ (48 < nesting stack.new.brackets (lexemes text.now next.1.now))) }
     ensures shorter { IfOk result (λ next. length next.1.now ≤ length front.entry.rest.now) }
 {
     stack.push_bracket(left)?;
@@ -51,6 +56,7 @@ fn assign_prefix<'a>(
 ) -> Result<(State, &'a [Token]), Stop>
     requires { starts is_greater (lexemes text.now tokens.now) ≡ true }
     ensures goes { Goes text.now stack.old.brackets (operand (option_map left_of left)) (reverse stack.old.frames.items) (lexemes text.now tokens.now) (reverse stack.new.frames.items) result }
+    ensures nested { IfOk result (λ next. (48 < nesting stack.old.brackets (lexemes text.now tokens.now)) ↔ (48 < nesting stack.new.brackets (lexemes text.now next.1.now))) }
     ensures shorter { IfOk result (λ next. length next.1.now < length tokens.now) }
 {
     let ((name, uri), rest) = prefix(alloc, text, tokens)?;
@@ -69,6 +75,7 @@ fn read_clause<'a>(
     requires open { starts is_open (lexemes text.now tokens.now) ≡ false }
     requires sign { starts is_greater (lexemes text.now tokens.now) ≡ false }
     ensures goes { Goes text.now stack.now.brackets (operand (option_map left_of left)) (reverse stack.now.frames.items) (lexemes text.now tokens.now) (reverse stack.now.frames.items) result }
+    ensures nested { IfOk result (λ next. nesting stack.now.brackets (lexemes text.now tokens.now) ≡ nesting stack.now.brackets (lexemes text.now next.1.now)) }
     ensures shorter { IfOk result (λ next. length next.1.now < length tokens.now) }
 {
     let ((head, term), rest) = clause(alloc, text, tokens)?;
@@ -86,6 +93,7 @@ fn read_boolean<'a>(
 ) -> Result<(State, &'a [Token]), Stop>
     requires { is_boolean front.class ≡ true }
     ensures goes { Goes text.now stack.now.brackets (after query.tree) (reverse stack.now.frames.items) (lexeme_in front.entry ∷ lexemes text.now front.entry.rest.now) (reverse stack.now.frames.items) result }
+    ensures nested { IfOk result (λ next. nesting stack.now.brackets (lexeme_in front.entry ∷ lexemes text.now front.entry.rest.now) ≡ nesting stack.now.brackets (lexemes text.now next.1.now)) }
     ensures shorter { IfOk result (λ next. length next.1.now ≤ length front.entry.rest.now) }
 {
     let (modifiers, rest) = modifiers(alloc, text, front.rest)?;
@@ -108,6 +116,7 @@ fn read_sort<'a>(
 ) -> Result<(State, &'a [Token]), Stop>
     requires { is_sortby front.class ≡ true }
     ensures goes { Goes text.now stack.now.brackets (after query.tree) (reverse stack.now.frames.items) (lexeme_in front.entry ∷ lexemes text.now front.entry.rest.now) (reverse stack.now.frames.items) result }
+    ensures nested { IfOk result (λ next. nesting stack.now.brackets (lexeme_in front.entry ∷ lexemes text.now front.entry.rest.now) ≡ nesting stack.now.brackets (lexemes text.now next.1.now)) }
     ensures shorter { IfOk result (λ next. length next.1.now ≤ length front.entry.rest.now) }
 {
     let (keys, rest) = keys(alloc, text, front.rest)?;
@@ -143,6 +152,7 @@ fn close_bracket<'a>(
 ) -> Result<(State, &'a [Token]), Stop>
     requires { is_close front.class ≡ true }
     ensures goes { Goes text.now stack.old.brackets (after query.tree) (reverse stack.old.frames.items) (lexeme_in front.entry ∷ lexemes text.now front.entry.rest.now) (reverse stack.new.frames.items) result }
+    ensures nested { IfOk result (λ next. (48 < nesting stack.old.brackets (lexeme_in front.entry ∷ lexemes text.now front.entry.rest.now)) ↔ (48 < nesting stack.new.brackets (lexemes text.now next.1.now))) }
     ensures shorter { IfOk result (λ next. length next.1.now ≤ length front.entry.rest.now) }
 {
     match unwind(alloc, stack, query)? {
@@ -163,6 +173,7 @@ fn operand<'a>(
     tokens: &'a [Token],
 ) -> Result<(State, &'a [Token]), Stop>
     ensures goes { Goes text.now stack.old.brackets (operand (option_map left_of left)) (reverse stack.old.frames.items) (lexemes text.now tokens.now) (reverse stack.new.frames.items) result }
+    ensures nested { IfOk result (λ next. (48 < nesting stack.old.brackets (lexemes text.now tokens.now)) ↔ (48 < nesting stack.new.brackets (lexemes text.now next.1.now))) }
     ensures shorter { IfOk result (λ next. length next.1.now < length tokens.now) }
 {
     let Some(front) = first(text, tokens) else {
@@ -185,6 +196,7 @@ fn behind<'a>(
 ) -> Result<(State, &'a [Token]), Stop>
     requires { 0 < length tokens.now }
     ensures goes { Goes text.now stack.old.brackets (after query.tree) (reverse stack.old.frames.items) (lexemes text.now tokens.now) (reverse stack.new.frames.items) result }
+    ensures nested { IfOk result (λ next. (48 < nesting stack.old.brackets (lexemes text.now tokens.now)) ↔ (48 < nesting stack.new.brackets (lexemes text.now next.1.now))) }
     ensures shorter { IfOk result (λ next. length next.1.now < length tokens.now) }
 {
     let Some(front) = first(text, tokens) else {
@@ -208,6 +220,7 @@ fn step<'a>(
 ) -> Result<(State, &'a [Token]), Stop>
     requires { 0 < length tokens.now }
     ensures goes { Goes text.now stack.old.brackets (due_of state) (reverse stack.old.frames.items) (lexemes text.now tokens.now) (reverse stack.new.frames.items) result }
+    ensures nested { IfOk result (λ next. (48 < nesting stack.old.brackets (lexemes text.now tokens.now)) ↔ (48 < nesting stack.new.brackets (lexemes text.now next.1.now))) }
     ensures shorter { IfOk result (λ next. length next.1.now < length tokens.now) }
 {
     match state {
@@ -218,7 +231,8 @@ fn step<'a>(
 
 /// Ends a query where the tokens end.
 fn finish(alloc: Global, state: State, stack: &mut Stack) -> Result<Grown, Stop>
-    ensures { Finishes (due_of state) (reverse stack.old.frames.items) result }
+    ensures finishes { Finishes (due_of state) (reverse stack.old.frames.items) result }
+    ensures shallow { Shallow result }
 {
     let State::After(query) = state else {
         return Err(Stop::NoQuery);
@@ -227,4 +241,19 @@ fn finish(alloc: Global, state: State, stack: &mut Stack) -> Result<Grown, Stop>
         Ended::Whole(query) => Ok(query),
         Ended::Inner(_, _) => Err(Stop::NoQuery),
     }
+}
+
+/// The tree of tokens. Takes time linear in the tokens, and no recursion.
+pub fn build(alloc: Global, text: &[u8], tokens: &[Token]) -> Result<Grown, Stop>
+    ensures { Builds (lexemes text.now tokens.now) result }
+{
+    let mut stack = Stack::new(alloc);
+    let mut state = State::Operand(None);
+    let mut rest = tokens;
+    'parts: while !rest.is_empty() {
+        let (next, left) = step(alloc, text, state, &mut stack, rest)?;
+        state = next;
+        rest = left;
+    }
+    finish(alloc, state, &mut stack)
 }

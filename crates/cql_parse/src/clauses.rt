@@ -80,7 +80,11 @@ pub fn modifiers<'a>(
 }
 
 /// One sort key.
-fn key<'a>(alloc: Global, text: &'a [u8], tokens: &'a [Token]) -> Result<(SortKey, &'a [Token]), Stop>
+fn key<'a>(
+    alloc: Global,
+    text: &'a [u8],
+    tokens: &'a [Token],
+) -> Result<(SortKey, &'a [Token]), Stop>
     ensures found { Finds text.now (IsKey (lexemes text.now tokens.now)) result }
     ensures shorter { IfOk result (λ r. length r.1.now < length tokens.now) }
 {

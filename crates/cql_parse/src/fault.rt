@@ -2,6 +2,7 @@
 
 ghost use Rattle.std.specs.Prelude.{◌≡◌};
 ghost use Rattle.cql_parse.specs.declared.fault.Stop.TheVariants.{Memory as no_memory};
+ghost use Rattle.cql_parse.specs.Numbers.{number_of};
 
 use z_types::Memory;
 
@@ -15,6 +16,19 @@ pub enum ParseFault {
     TooDeep,
     /// No memory could be had.
     Memory,
+}
+
+impl ParseFault {
+    /// The number of the refusal: 1 Syntax, 2 TooDeep; 0 for want of memory, which is none.
+    pub fn number(&self) -> u32
+        ensures { result ≡ number_of self.now }
+    {
+        match self {
+            ParseFault::Memory => 0,
+            ParseFault::Syntax(_) => 1,
+            ParseFault::TooDeep => 2,
+        }
+    }
 }
 
 /// Why a part of the parser stopped.

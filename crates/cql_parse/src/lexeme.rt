@@ -45,7 +45,10 @@ impl Class {
     pub fn is_term(self) -> bool
         ensures { result ≡ is_term self }
     {
-        matches!(self, Class::Quoted | Class::Word | Class::Boolean | Class::SortBy)
+        matches!(
+            self,
+            Class::Quoted | Class::Word | Class::Boolean | Class::SortBy
+        )
     }
 
     /// Whether it is a symbol of comparison.
@@ -59,7 +62,10 @@ impl Class {
     pub fn is_relation(self) -> bool
         ensures { result ≡ is_relation self }
     {
-        matches!(self, Class::Equal | Class::Greater | Class::Symbol | Class::Word)
+        matches!(
+            self,
+            Class::Equal | Class::Greater | Class::Symbol | Class::Word
+        )
     }
 
     /// Whether it is a slash.
@@ -189,7 +195,11 @@ pub fn term<'a>(text: &'a [u8], tokens: &'a [Token]) -> Option<Front<'a>>
     ensures shorter { IfSome result (λ f. length f.rest.now < length tokens.now) }
 {
     let front = first(text, tokens)?;
-    if front.class.is_term() { Some(front) } else { None }
+    if front.class.is_term() {
+        Some(front)
+    } else {
+        None
+    }
 }
 
 /// The first token, where it is a bare word.
@@ -198,7 +208,11 @@ pub fn word<'a>(text: &'a [u8], tokens: &'a [Token]) -> Option<Front<'a>>
     ensures shorter { IfSome result (λ f. length f.rest.now < length tokens.now) }
 {
     let front = first(text, tokens)?;
-    if front.class.is_word() { Some(front) } else { None }
+    if front.class.is_word() {
+        Some(front)
+    } else {
+        None
+    }
 }
 
 /// The first token, where it is a symbol of comparison.
@@ -207,7 +221,11 @@ pub fn symbol<'a>(text: &'a [u8], tokens: &'a [Token]) -> Option<Front<'a>>
     ensures shorter { IfSome result (λ f. length f.rest.now < length tokens.now) }
 {
     let front = first(text, tokens)?;
-    if front.class.is_symbol() { Some(front) } else { None }
+    if front.class.is_symbol() {
+        Some(front)
+    } else {
+        None
+    }
 }
 
 /// The first token, where it is a relation.
@@ -216,7 +234,11 @@ pub fn relation<'a>(text: &'a [u8], tokens: &'a [Token]) -> Option<Front<'a>>
     ensures shorter { IfSome result (λ f. length f.rest.now < length tokens.now) }
 {
     let front = first(text, tokens)?;
-    if front.class.is_relation() { Some(front) } else { None }
+    if front.class.is_relation() {
+        Some(front)
+    } else {
+        None
+    }
 }
 
 /// The first token, where it is a slash.
@@ -225,7 +247,11 @@ pub fn slash<'a>(text: &'a [u8], tokens: &'a [Token]) -> Option<Front<'a>>
     ensures shorter { IfSome result (λ f. length f.rest.now < length tokens.now) }
 {
     let front = first(text, tokens)?;
-    if front.class.is_slash() { Some(front) } else { None }
+    if front.class.is_slash() {
+        Some(front)
+    } else {
+        None
+    }
 }
 
 /// The first token, where it is an equals sign.
@@ -234,7 +260,11 @@ pub fn equal<'a>(text: &'a [u8], tokens: &'a [Token]) -> Option<Front<'a>>
     ensures shorter { IfSome result (λ f. length f.rest.now < length tokens.now) }
 {
     let front = first(text, tokens)?;
-    if front.class.is_equal() { Some(front) } else { None }
+    if front.class.is_equal() {
+        Some(front)
+    } else {
+        None
+    }
 }
 
 /// The first token, where it is the sign of a prefix assignment.
@@ -243,5 +273,9 @@ pub fn greater<'a>(text: &'a [u8], tokens: &'a [Token]) -> Option<Front<'a>>
     ensures shorter { IfSome result (λ f. length f.rest.now < length tokens.now) }
 {
     let front = first(text, tokens)?;
-    if front.class.is_greater() { Some(front) } else { None }
+    if front.class.is_greater() {
+        Some(front)
+    } else {
+        None
+    }
 }

@@ -10,9 +10,16 @@ mod grow;
 mod grown;
 mod laws;
 mod lexeme;
+mod parser;
+mod scan;
 mod stack;
+#[cfg(test)]
+mod tests;
 mod tree;
+mod writer;
 
 pub use fault::ParseFault;
-pub use laws::one_tree;
+pub use laws::{one_fault, one_tree};
+pub use parser::parse;
 pub use tree::{Cql, Head, Modifier, Node, SortKey};
+pub use writer::write;

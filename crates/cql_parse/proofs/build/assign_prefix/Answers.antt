@@ -9,6 +9,9 @@ use Rattle.cql_parse.specs.Unfinished.{left_of}
 use Rattle.std.proofs.Common.{option_map, reverse}
 use Rattle.cql_parse.proofs.Steps.{no_prefix}
 use Rattle.cql_parse.proofs.Going.{Goes_none, prefix_goes}
+use Rattle.std.proofs.Common.{ap}
+use Rattle.cql_parse.specs.Nesting.{nesting}
+use Rattle.cql_parse.proofs.Nested.{nesting_prefix, same_limit}
 use Rattle.cql_parse.proofs.build.assign_prefix.Goals as goal
 
 pub returns-in_err-name-clause-goes : goal.returns-in_err-name-clause-goes
@@ -25,3 +28,12 @@ returns-clause-goes c =
     let text = c.args.text.now in
     let old = c.args.stack.now in
     prefix_goes text old.brackets c.args.left old.frames.items c.push_prefix.new.self.frames.items (lexemes text c.args.tokens.now) c.in_ok-name.name c.in_ok-name.uri c.in_ok-name.rest c.in_ok-name.ensures.found c.in_ok-push_prefix.ensures.frames
+
+pub returns-clause-nested : goal.returns-clause-nested
+returns-clause-nested c =
+    let text = c.args.text.now in
+    let n = c.args.stack.now.brackets in
+    let ts = lexemes text c.args.tokens.now in
+    let rest = lexemes text c.in_ok-name.rest.now in
+    let skipped = nesting_prefix n ts c.in_ok-name.name c.in_ok-name.uri rest c.in_ok-name.ensures.found in
+    same_limit (nesting n ts) (nesting c.push_prefix.new.self.brackets rest) (skipped ∙ ap (λ (k : ℕ). nesting k rest) (sym c.push_prefix.ensures.brackets))

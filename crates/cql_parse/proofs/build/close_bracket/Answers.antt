@@ -1,4 +1,4 @@
-use Rattle.std.proofs.Common.{◌≡◌, ◌∷◌, List, Ok, option_map, reverse, subst}
+use Rattle.std.proofs.Common.{◌≡◌, ◌↔◌, ◌∷◌, List, Ok, option_map, reverse, subst}
 use Rattle.std.proofs.lemmas.Result.{err_from_is_err_and}
 use Rattle.cql_parse.specs.declared.frame.Ended.{Ended}
 use Rattle.cql_parse.specs.declared.frame.Ended.TheVariants.{Inner}
@@ -7,6 +7,10 @@ use Rattle.cql_parse.specs.Grammar.{after, join}
 use Rattle.cql_parse.specs.Answers.{lexeme_in}
 use Rattle.cql_parse.specs.Unfinished.{left_of, Unwinds}
 use Rattle.cql_parse.proofs.Going.{Goes_deep, close_goes, close_deep}
+use Rattle.std.proofs.Common.{◌+◌, ◌-◌, ◌<◌, ℕ, arith}
+use Rattle.cql_parse.specs.Nesting.{nesting}
+use Rattle.cql_parse.specs.Unfinished.{closed_in}
+use Rattle.cql_parse.proofs.Nested.{nesting_close}
 use Rattle.cql_parse.proofs.build.close_bracket.Goals as goal
 
 pub returns-in_err-query-in-Inner-clause-goes : goal.returns-in_err-query-in-Inner-clause-goes
@@ -30,3 +34,13 @@ returns-in-Inner-clause-goes c =
     let w = c.in-Inner in
     let u : Unwinds c.args.query.tree (reverse old.frames.items) new (Ok (Inner w.left w.query)) = subst (λ (z : Ended). Unwinds c.args.query.tree (reverse old.frames.items) new (Ok z)) w.is c.in_ok-left.ensures.unwinds in
     close_goes text old.brackets c.args.query.tree (reverse old.frames.items) new (lexeme_in c.args.front) w.left w.query c.in_ok-query-in-Inner.query c.args.front.rest c.requires u c.in_ok-query-in-Inner.ensures
+
+pub returns-in-Inner-clause-nested : goal.returns-in-Inner-clause-nested
+returns-in-Inner-clause-nested c =
+    let n = c.args.stack.now.brackets in
+    let m = c.unwind.new.stack.brackets in
+    let x = lexeme_in c.args.front in
+    let ts = lexemes c.args.text.now c.args.front.rest.now in
+    let one : n ≡ m + 1 = subst (λ (z : Ended). n ≡ m + closed_in z) c.in-Inner.is c.in_ok-left.ensures.brackets in
+    let less : n - 1 ≡ m = omega (arith, one) in
+    subst (λ (k : ℕ). (48 < nesting n (x ∷ ts)) ↔ (48 < nesting k ts)) less (nesting_close n x ts c.args.stack.now.shallow c.requires)

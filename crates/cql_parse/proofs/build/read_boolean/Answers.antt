@@ -9,6 +9,9 @@ use Rattle.cql_parse.specs.Unfinished.{left_of}
 use Rattle.std.proofs.Common.{reverse, ◌∷◌}
 use Rattle.cql_parse.proofs.Steps.{no_boolean}
 use Rattle.cql_parse.proofs.Going.{Goes_none, boolean_goes}
+use Rattle.std.proofs.Common.{refl}
+use Rattle.cql_parse.specs.Classes.{is_boolean}
+use Rattle.cql_parse.proofs.Nested.{nesting_skip, nesting_modifiers}
 use Rattle.cql_parse.proofs.build.read_boolean.Goals as goal
 
 pub returns-in_err-modifiers-clause-goes : goal.returns-in_err-modifiers-clause-goes
@@ -25,3 +28,10 @@ returns-clause-goes c =
     let text = c.args.text.now in
     let stack = c.args.stack.now in
     boolean_goes text stack.brackets c.args.query (reverse stack.frames.items) (lexeme_in c.args.front) (lexemes text c.args.front.rest.now) c.in_ok-boolean.boolean c.in_ok-modifiers.modifiers c.in_ok-modifiers.rest c.requires c.in_ok-modifiers.ensures.found c.in_ok-boolean.ensures
+
+pub returns-clause-nested : goal.returns-clause-nested
+returns-clause-nested c =
+    let text = c.args.text.now in
+    let n = c.args.stack.now.brackets in
+    let ts = lexemes text c.args.front.rest.now in
+    nesting_skip is_boolean refl refl n (lexeme_in c.args.front) ts c.requires ∙ nesting_modifiers n ts c.in_ok-modifiers.modifiers (lexemes text c.in_ok-modifiers.rest.now) c.in_ok-modifiers.ensures.found

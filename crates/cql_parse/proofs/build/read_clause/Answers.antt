@@ -9,6 +9,7 @@ use Rattle.cql_parse.specs.Unfinished.{left_of}
 use Rattle.std.proofs.Common.{option_map, reverse}
 use Rattle.cql_parse.proofs.Steps.{no_clause}
 use Rattle.cql_parse.proofs.Going.{Goes_none, Goes_deep, clause_goes, clause_deep}
+use Rattle.cql_parse.proofs.Nested.{nesting_clause}
 use Rattle.cql_parse.proofs.build.read_clause.Goals as goal
 
 pub returns-in_err-head-clause-goes : goal.returns-in_err-head-clause-goes
@@ -35,3 +36,8 @@ returns-clause-goes c =
     let text = c.args.text.now in
     let stack = c.args.stack.now in
     clause_goes text stack.brackets c.args.left (reverse stack.frames.items) (lexemes text c.args.tokens.now) c.in_ok-head.head c.in_ok-head.term c.in_ok-head.rest c.in_ok-query.query c.clause-2.result.tree c.in_ok-head.ensures.found c.in_ok-query.ensures c.clause-2.ensures
+
+pub returns-clause-nested : goal.returns-clause-nested
+returns-clause-nested c =
+    let text = c.args.text.now in
+    nesting_clause c.args.stack.now.brackets (lexemes text c.args.tokens.now) c.in_ok-head.head c.in_ok-head.term (lexemes text c.in_ok-head.rest.now) c.in_ok-head.ensures.found

@@ -9,6 +9,9 @@ use Rattle.cql_parse.specs.Unfinished.{left_of}
 use Rattle.std.proofs.Common.{reverse, ◌∷◌}
 use Rattle.cql_parse.proofs.Steps.{no_keys}
 use Rattle.cql_parse.proofs.Going.{Goes_none, Goes_deep, sort_goes, sort_deep}
+use Rattle.std.proofs.Common.{refl}
+use Rattle.cql_parse.specs.Classes.{is_sortby}
+use Rattle.cql_parse.proofs.Nested.{nesting_skip, nesting_keys}
 use Rattle.cql_parse.proofs.build.read_sort.Goals as goal
 
 pub returns-in_err-keys-clause-goes : goal.returns-in_err-keys-clause-goes
@@ -35,3 +38,10 @@ returns-clause-goes c =
     let text = c.args.text.now in
     let stack = c.args.stack.now in
     sort_goes text stack.brackets c.args.query.tree (reverse stack.frames.items) (lexeme_in c.args.front) (lexemes text c.args.front.rest.now) c.in_ok-keys.keys c.in_ok-keys.rest c.in_ok-query.query c.requires c.in_ok-keys.ensures.found c.in_ok-query.ensures
+
+pub returns-clause-nested : goal.returns-clause-nested
+returns-clause-nested c =
+    let text = c.args.text.now in
+    let n = c.args.stack.now.brackets in
+    let ts = lexemes text c.args.front.rest.now in
+    nesting_skip is_sortby refl refl n (lexeme_in c.args.front) ts c.requires ∙ nesting_keys n ts c.in_ok-keys.keys (lexemes text c.in_ok-keys.rest.now) c.in_ok-keys.ensures.found

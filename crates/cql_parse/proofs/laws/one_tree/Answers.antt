@@ -1,5 +1,4 @@
 use Rattle.cql_parse.proofs.OneTree.{one_tree}
-use Rattle.cql_parse.proofs.Steps.{bracket_step}
 use Rattle.cql_parse.proofs.laws.one_tree.Goals as goal
 
 pub returns : goal.returns
