@@ -1,5 +1,5 @@
 -- The numbers of an object identifier are read as they are written, and no others are read.
-use Rattle.std.proofs.Common.{◌≡◌, ◌∙◌, ◌⊎◌, ℕ, ◌+◌, ◌-◌, ◌*◌, ◌^◌, ◌/◌, ◌%◌, ◌<◌, ◌≤◌, Bool, true, false, ◌&&◌, ◌||◌, ◌==◌, ltb, leb, nat_lt, lit≤, lit<, inl, inr, List, [], ◌∷◌, ◌++◌, length, get_or, take, drop, min, map, Option, Some, None, Result, Ok, Err, IfOk, IfSome, IfNone, IsTrue, sym, ap, subst, append_assoc, arith, refl}
+use Rattle.std.proofs.Common.{◌≡◌, ◌∙◌, ◌⊎◌, ℕ, ◌+◌, ◌-◌, ◌*◌, ◌^◌, ◌/◌, ◌%◌, ◌<◌, ◌≤◌, true, false, ◌==◌, ltb, leb, nat_lt, lit≤, lit<, inl, inr, List, [], ◌∷◌, ◌++◌, length, get_or, take, drop, min, map, Option, Some, None, Result, Ok, Err, IfOk, IfSome, IfNone, IsTrue, sym, ap, subst, append_assoc, arith, refl}
 use Rattle.std.specs.List.{flat_map, list_all}
 use Rattle.std.specs.Int.Digits.{digits_of, number_from_digits, number_from_digits_after}
 use Rattle.std.proofs.lemmas.Int.Digits.{number_digits_of, number_after_append, number_after_ge, first_digits_of}
@@ -11,7 +11,7 @@ use Rattle.z_ber.specs.Arcs.{AreArcs}
 use Rattle.z_ber.specs.Written.{septets, oid_octets}
 use Rattle.z_ber.proofs.ElementLaws.{heads, septets-one}
 use Rattle.z_ber.proofs.TagReading.{marked, marked-more, septets-end}
-use Rattle.z_ber.proofs.ValueLaws.{septets-filled, rooted, roots_one}
+use Rattle.z_ber.proofs.ValueLaws.{rooted}
 
 -- a number is its high part and its last digit
 septets-parts : (n : ℕ) (rest : List ℕ) → septets n ++ rest ≡ marked (n / 128) ++ (n % 128) ∷ rest
@@ -19,12 +19,12 @@ unfolding septets
 septets-parts n rest = append_assoc (marked (n / 128)) (n % 128 ∷ []) rest
 
 -- marked octets end before an octet that is not marked
-marked_front : (us vs : List ℕ) (b : ℕ) (x y : List ℕ) → b < 128 → map (λ digit. 128 + digit) us ++ x ≡ map (λ digit. 128 + digit) vs ++ b ∷ y → (ws : List ℕ) × (vs ≡ us ++ ws) × (x ≡ map (λ digit. 128 + digit) ws ++ b ∷ y)
-marked_front [] vs b x y lt e = (vs, refl, e)
-marked_front (u ∷ us) [] b x y lt e = absurd (let h = heads (128 + u) b _ y e in omega arith)
-marked_front (u ∷ us) (v ∷ vs) b x y lt e =
+marked_before : (us vs : List ℕ) (b : ℕ) (x y : List ℕ) → b < 128 → map (λ digit. 128 + digit) us ++ x ≡ map (λ digit. 128 + digit) vs ++ b ∷ y → (ws : List ℕ) × (vs ≡ us ++ ws) × (x ≡ map (λ digit. 128 + digit) ws ++ b ∷ y)
+marked_before [] vs b x y lt e = (vs, refl, e)
+marked_before (u ∷ us) [] b x y lt e = absurd (let h = heads (128 + u) b _ y e in omega arith)
+marked_before (u ∷ us) (v ∷ vs) b x y lt e =
     let h = heads (128 + u) (128 + v) _ _ e in
-    let r = marked_front us vs b x y lt h.1 in
+    let r = marked_before us vs b x y lt h.1 in
     let same : u ≡ v = omega (arith, h.0) in
     let more = r.1 in
     (r.0, cc, r.2)
@@ -32,7 +32,7 @@ marked_front (u ∷ us) (v ∷ vs) b x y lt e =
 -- the octets that follow a high part
 number_front : (high n : ℕ) (bytes rest : List ℕ) → marked high ++ bytes ≡ septets n ++ rest → (ws : List ℕ) × (digits_of 128 (n / 128) ≡ digits_of 128 high ++ ws) × (bytes ≡ map (λ digit. 128 + digit) ws ++ (n % 128) ∷ rest)
 number_front high n bytes rest e =
-    marked_front (digits_of 128 high) (digits_of 128 (n / 128)) (n % 128) bytes rest (omega arith) (e ∙ septets-parts n rest)
+    marked_before (digits_of 128 high) (digits_of 128 (n / 128)) (n % 128) bytes rest (omega arith) (e ∙ septets-parts n rest)
 
 -- octets with one behind them are some
 filled : (ds : List ℕ) (b : ℕ) (y : List ℕ) → [] ≡ ds ++ b ∷ y → ⊥
@@ -188,14 +188,14 @@ oid-made x y root bytes items more (Some oid) valid lx ly e f a h =
     rw all (oid-valid x y bytes more valid lx ly a', oid-spelled x y bytes more a')
 
 -- the first two numbers of octets that are an object identifier
-pub record Root (number : ℕ) (rest : List ℕ) : Type 0 where
+pub record Root (number : ℕ) : Type 0 where
   pub first : ℕ
   pub second : ℕ
   pub either : (first ≡ 2) ⊎ ((first < 2) × (second < 40))
   pub low : second < 2 ^ 32
   pub sum : number ≡ 40 * first + second
 
-pub oid-root : (number : ℕ) (bytes arcs : List ℕ) → is_oid arcs ≡ true → septets number ++ bytes ≡ oid_octets arcs → Root number bytes
+pub oid-root : (number : ℕ) (bytes arcs : List ℕ) → is_oid arcs ≡ true → septets number ++ bytes ≡ oid_octets arcs → Root number
 unfolding oid_octets
 oid-root number bytes [] valid e = absurd cc
 oid-root number bytes (u ∷ []) valid e = absurd cc

@@ -130,7 +130,7 @@ bits_octets-one m n e =
 
 -- ---- OBJECT IDENTIFIER
 
-pub septets-filled : (n : ℕ) (x : List ℕ) → septets n ++ x ≡ [] → ⊥
+septets-filled : (n : ℕ) (x : List ℕ) → septets n ++ x ≡ [] → ⊥
 unfolding septets
 septets-filled n x e =
     let front = map (λ digit. 128 + digit) (digits_of 128 (n / 128)) in
@@ -150,7 +150,7 @@ rooted x y xs e =
       | inr low ↦ let b = both_true (ltb x 2) (ltb y 40) low in inr (ltb-true x 2 b.0, ltb-true y 40 b.1)
     ]
 
-pub roots_one : (x y u v : ℕ) → (x ≡ 2) ⊎ ((x < 2) × (y < 40)) → (u ≡ 2) ⊎ ((u < 2) × (v < 40)) → 40 * x + y ≡ 40 * u + v → (x ≡ u) × (y ≡ v)
+roots_one : (x y u v : ℕ) → (x ≡ 2) ⊎ ((x < 2) × (y < 40)) → (u ≡ 2) ⊎ ((u < 2) × (v < 40)) → 40 * x + y ≡ 40 * u + v → (x ≡ u) × (y ≡ v)
 roots_one x y u v (inl p) (inl q) e = (omega arith, omega arith)
 roots_one x y u v (inl p) (inr q) e = absurd (omega arith)
 roots_one x y u v (inr p) (inl q) e = absurd (omega arith)

@@ -81,9 +81,8 @@ fn behind_number(alloc: Global, number: u64, bytes: &[u8]) -> Result<Option<Oid>
     }
 }
 
-/// The object identifier whose written form contents are (8.19), exactly where there is one: each
-/// number in the fewest octets, and the numbers such as an object identifier has. Only memory may
-/// fail.
+/// The object identifier whose written form contents are (8.19), exactly where there is one: 2 to 32
+/// numbers below 2^32 under one of the three roots, each in the fewest octets. Only memory may fail.
 pub fn oid_of(alloc: Global, contents: &[u8]) -> Result<Option<Oid>, Memory>
     ensures found { IfOk result (λ found. IfSome found (λ arcs. IsTrue (is_oid arcs) × (contents.now ≡ oid_octets arcs))) }
     ensures none { IfOk result (λ found. IfNone found ((arcs : List ℕ) → IsTrue (is_oid arcs) → contents.now ≡ oid_octets arcs → ⊥)) }
@@ -117,8 +116,9 @@ mod tests {
         Ok(())
     }
 
-    // The first is X.690's own example (8.19.5), and the second bib-1's identifier (Z39.50, OID.1).
-    // The octets of the others are worked out by hand from 8.19.2 and 8.19.4.
+    // The first is X.690's own example (8.19.5). The second is the identifier of the attribute set
+    // bib-1 (ANSI/NISO Z39.50-2003); its octets and the others' are worked out by hand from 8.19.2
+    // and 8.19.4.
     #[test]
     fn identifiers_are_read_from_their_written_form(rt: HostRuntime) -> Result<(), Fail> {
         reads_as(&rt, &[0x81, 0x34, 0x03], &[2, 100, 3])?;

@@ -1,4 +1,4 @@
-use Rattle.std.proofs.Common.{◌≡◌, ◌+◌, ◌*◌, ◌^◌, ◌<◌, ◌++◌, ℕ, List, IfSome, IfNone, get_or, sym, subst, arith}
+use Rattle.std.proofs.Common.{◌≡◌, ◌^◌, ◌<◌, ◌++◌, ℕ, List, IfSome, IfNone, get_or, sym, subst, arith}
 use Rattle.z_ber.specs.Written.{septets}
 use Rattle.z_ber.proofs.OidReading.{number-open, number-zero, number-more, number-large, number-end}
 use Rattle.z_ber.proofs.oid.+number.Goals as goal

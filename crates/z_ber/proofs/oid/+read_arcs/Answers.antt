@@ -1,4 +1,4 @@
-use Rattle.std.proofs.Common.{◌≡◌, ◌+◌, ◌∷◌, [], ◌++◌, length, length-append, arith}
+use Rattle.std.proofs.Common.{◌≡◌, ◌+◌, ◌∷◌, [], length, length-append}
 use Rattle.z_ber.proofs.OidReading.{arcs-none, arcs-front, arcs-none-more, none_only, some_octet}
 use Rattle.z_ber.proofs.oid.+read_arcs.Goals as goal
 

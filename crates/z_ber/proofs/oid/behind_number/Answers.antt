@@ -1,4 +1,4 @@
-use Rattle.std.proofs.Common.{◌≡◌, ◌∙◌, arith}
+use Rattle.std.proofs.Common.{◌∙◌, arith}
 use Rattle.z_ber.proofs.OidReading.{oid-large}
 use Rattle.z_ber.proofs.oid.behind_number.Goals as goal
 

@@ -1,5 +1,4 @@
-use Rattle.std.proofs.Common.{◌≡◌, ◌++◌, List, ℕ, length, arith}
-use Rattle.z_ber.specs.Arcs.{AreArcs}
+use Rattle.std.proofs.Common.{arith}
 use Rattle.z_ber.proofs.OidReading.{oid-made, oid-none}
 use Rattle.z_ber.proofs.oid.behind_root.Goals as goal
 
