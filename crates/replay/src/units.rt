@@ -6,7 +6,7 @@ ghost use Rattle.gateway_rules.specs.Session.{reply_to, protocol_error};
 ghost use Rattle.gateway_rules.specs.State.{is_in_place};
 ghost use Rattle.unit_forms.specs.Replies.{spell_reply};
 ghost use Rattle.unit_forms.specs.Served.{IsServed};
-ghost use Rattle.replay.specs.Answered.{IsAnswered, IsAfter};
+ghost use Rattle.replay.specs.Answered.{IsAnswered, IsAnsweredRequest, IsAfter};
 
 use crate::search::search_reply;
 use gateway_rules::{has_version, init_reply};
@@ -38,16 +38,37 @@ pub(crate) fn answer_unit<T: Targets>(
 ) -> Result<Answered, Memory>
     ensures { IfOk result (IsAnswered T.World route.now (record { accepted = accepted }) unit.now out.old out.new) }
 {
-    let Some(request) = read_request(alloc, unit)? else {
-        put_reply(alloc, out, protocol_error())?;
-        return Ok(Answered::Refused);
-    };
-    if !is_in_place(accepted, &request) {
-        put_reply(alloc, out, protocol_error())?;
-        return Ok(Answered::Refused);
+    match read_request(alloc, unit)? {
+        Some(request) => answer_request(alloc, route, targets, accepted, &request, out),
+        None => refuse(alloc, out),
     }
-    put_reply(alloc, out, reply_to(alloc, route, targets, &request)?)?;
-    Ok(leaves(accepted, &request))
+}
+
+/// Writes a protocol error.
+fn refuse(alloc: Global, out: &mut Text) -> Result<Answered, Memory>
+    ensures { IfOk result (λ answered. (answered ≡ Answered.Refused) × (out.new ≡ out.old ++ spell_reply protocol_error)) }
+{
+    put_reply(alloc, out, protocol_error())?;
+    Ok(Answered::Refused)
+}
+
+/// Writes the answer to a request, where an Init was accepted before or not.
+fn answer_request<T: Targets>(
+    alloc: Global,
+    route: &Route,
+    targets: &T,
+    accepted: bool,
+    request: &Request,
+    out: &mut Text,
+) -> Result<Answered, Memory>
+    requires { IsServed request.now }
+    ensures { IfOk result (IsAnsweredRequest T.World route.now (record { accepted = accepted }) request.now out.old out.new) }
+{
+    if !is_in_place(accepted, request) {
+        return refuse(alloc, out);
+    }
+    put_reply(alloc, out, reply_to(alloc, route, targets, request)?)?;
+    Ok(leaves(accepted, request))
 }
 
 /// What a request in its place leaves.

@@ -19,13 +19,11 @@ mod values;
 
 pub use element::Element;
 pub use fault::BerFault;
-pub use frame::{FRAME_MAX, definite_frame};
-pub use laws::{one_bits, one_bool, one_element, one_int, one_oid, one_split, one_tree};
-pub use oid::oid_of;
 pub use frame::{FRAME_MAX, definite_frame, whole};
 pub use laws::{
     lends_root, one_bits, one_bool, one_element, one_extent, one_int, one_oid, one_split, one_tree,
 };
+pub use oid::oid_of;
 pub use put::{put_bits, put_bool, put_bytes, put_int, put_oid, put_tree};
 pub use read::header;
 pub use strict::written;
