@@ -1,2 +1,3 @@
 pub mod Hits
 pub mod AnsweredLemmas
+pub mod ClientSteps

@@ -1,7 +1,5 @@
 -- What becomes of a unit (ANSI/NISO Z39.50-2003, 4.2)
-use Rattle.std.specs.Prelude.{◌≡◌, ◌⊎◌, ℕ, Bool, true, false, List, [], ◌∷◌, ◌++◌, length, None}
-use Rattle.z_types.specs.declared.marks.End.{End}
-use Rattle.z_types.specs.declared.marks.End.TheVariants.{Finished, Cut}
+use Rattle.std.specs.Prelude.{◌≡◌, ◌⊎◌, ℕ, Bool, true, false, List, ◌++◌, None}
 use Rattle.z_types.specs.declared.requests.Request.{Request}
 use Rattle.z_types.specs.declared.replies.Reply.{Reply}
 use Rattle.z_types.specs.declared.world.World as world
@@ -42,8 +40,3 @@ abbrev pub IsAnswered : {W : Type 0} → world.Ghosts W → Route → ClientStat
 IsAnswered w route state unit old new Refused = IsRefused state unit × (new ≡ old ++ spell_reply protocol_error)
 IsAnswered w route state unit old new Closed = IsReplied w route state unit old new Closed
 IsAnswered w route state unit old new (Went accepted) = IsReplied w route state unit old new (Went accepted)
-
--- the input ends between two units, or inside one
-abbrev pub IsOpenEnd : List ℕ → End → Type 0
-IsOpenEnd [] end = end ≡ Finished
-IsOpenEnd (octet ∷ rest) end = end ≡ Cut (length (octet ∷ rest))

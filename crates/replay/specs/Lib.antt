@@ -1,3 +1,4 @@
 pub mod Page
 pub mod Answered
 pub mod Report
+pub mod Framed

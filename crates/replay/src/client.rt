@@ -1,15 +1,14 @@
 //! One client's connection: its units are answered in order (ANSI/NISO Z39.50-2003, 4.2).
 
 ghost use Rattle.std.specs.Prelude.{IfOk};
-ghost use Rattle.replay.specs.Answered.{IsOpenEnd};
 ghost use Rattle.replay.specs.Report.{IsClientReport};
 
 use crate::ClientReport;
+use crate::frames::{Framed, frame};
 use crate::units::{Answered, answer_unit, protocol_error, put_reply};
 use gw_outside::Targets;
 use route_config::Route;
 use std::alloc::Global;
-use z_ber::{BerFault, definite_frame};
 use z_types::{End, List, Mark, Memory, Text};
 
 /// What a client of this number is answered to these octets.
@@ -26,9 +25,9 @@ pub fn answer<T: Targets>(
     let mut marks = List::new(alloc);
     let mut accepted = false;
     let mut at = 0;
-    loop {
-        match definite_frame(&bytes[at..]) {
-            Ok(size) => {
+    while at < bytes.len() {
+        match frame(&bytes[at..]) {
+            Framed::Whole(size) => {
                 let unit = &bytes[at..at + size];
                 match answer_unit(alloc, route, targets, accepted, unit, &mut out)? {
                     Answered::Went(now_accepted) => {
@@ -55,15 +54,15 @@ pub fn answer<T: Targets>(
                     }
                 }
             }
-            Err(BerFault::Short) => {
+            Framed::Open => {
                 return Ok(ClientReport {
                     number,
                     bytes: out,
                     marks,
-                    end: open_end(&bytes[at..]),
+                    end: End::Cut((bytes.len() - at) as u64),
                 });
             }
-            Err(_) => {
+            Framed::Bad => {
                 put_reply(alloc, &mut out, protocol_error())?;
                 return Ok(ClientReport {
                     number,
@@ -74,15 +73,10 @@ pub fn answer<T: Targets>(
             }
         }
     }
-}
-
-/// How the input ends with octets that are open.
-fn open_end(rest: &[u8]) -> End
-    ensures { IsOpenEnd rest.now result }
-{
-    if rest.is_empty() {
-        End::Finished
-    } else {
-        End::Cut(rest.len() as u64)
-    }
+    Ok(ClientReport {
+        number,
+        bytes: out,
+        marks,
+        end: End::Finished,
+    })
 }

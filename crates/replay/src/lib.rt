@@ -3,6 +3,7 @@
 #![tactic(auto)]
 
 mod client;
+mod frames;
 mod page;
 mod reports;
 mod search;
