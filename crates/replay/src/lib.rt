@@ -6,9 +6,11 @@ mod client;
 mod frames;
 mod page;
 mod reports;
+mod runs;
 mod search;
 mod units;
 
 pub use client::answer;
 pub use page::print;
 pub use reports::{ClientReport, Report};
+pub use runs::run;

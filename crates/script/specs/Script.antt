@@ -1,5 +1,5 @@
 -- Replay scripts (this project's own): lines ended by LF, of which the last may be missing. So far a script feeds client 1, at most once.
-use Rattle.std.specs.Prelude.{◌≡◌, ℕ, ◌+◌, Bool, true, false, List, [], ◌∷◌, ◌++◌, length, drop, Result, Ok, Err, if◌then◌else◌, ◌==◌, ◌&&◌, nat_le, nat_eq, codes, Option, None, Some}
+use Rattle.std.specs.Prelude.{◌≡◌, ℕ, ◌+◌, Bool, true, false, List, [], ◌∷◌, ◌++◌, length, drop, Result, Ok, Err, if◌then◌else◌, ◌==◌, ◌&&◌, nat_le, nat_lt, nat_eq, codes, Option, None, Some}
 use Rattle.std.specs.List.{slice_split, starts_with}
 use Rattle.hex.specs.Hex.{decode_of}
 use Rattle.hex.specs.declared.error.FromHexError.{FromHexError}
@@ -68,3 +68,18 @@ abbrev pub IsScript : List ℕ → Result (List Event) ScriptFault → Type 0
 IsScript text (Ok events) = script_of text ≡ Ok events
 IsScript text (Err (Line number)) = script_of text ≡ Err (Line number)
 IsScript text (Err Memory) = Unit {0}
+
+-- what is fed to a client by all events
+abbrev pub fed : List Event → ℕ → List ℕ
+fed [] client = []
+fed (Feed number octets ∷ events) client = (if number == client then octets else []) ++ fed events client
+
+-- a number among others in ascending order, once
+abbrev pub among : ℕ → List ℕ → List ℕ
+among number [] = number ∷ []
+among number (first ∷ rest) = if nat_lt number first then number ∷ first ∷ rest else (if number == first then first ∷ rest else first ∷ among number rest)
+
+-- the clients that events name, in ascending order
+abbrev pub named : List Event → List ℕ
+named [] = []
+named (Feed number octets ∷ events) = among number (named events)

@@ -1,6 +1,6 @@
 //! A whole script.
 
-ghost use Rattle.std.specs.Prelude.{◌≡◌};
+ghost use Rattle.std.specs.Prelude.{◌≤◌, length, IfOk};
 ghost use Rattle.script.specs.Script.{IsScript};
 
 use crate::line::{Said, first_line, said_by};
@@ -12,7 +12,8 @@ use z_types::List;
 /// number, counted from 1. A script is empty lines, lines that begin with `#`, and at most one
 /// `feed 1 HEX` of 1 to 65536 octets.
 pub fn read_script(alloc: Global, text: &[u8]) -> Result<List<Event>, ScriptFault>
-    ensures { IsScript text.now result }
+    ensures script { IsScript text.now result }
+    ensures few { IfOk result (λ events. length events ≤ 1) }
 {
     let mut events = List::new(alloc);
     let mut rest = Some(text);

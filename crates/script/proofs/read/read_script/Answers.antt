@@ -14,5 +14,6 @@ pub loop-rest-init : goal.loop-rest-init
 unfolding script_of
 loop-rest-init c = record {
   told = rw c.new-events.ensures (none_before _);
+  few = rw c.new-events.ensures (omega arith);
   count = omega (arith, length-slice_split (λ octet. octet == 10) c.args.text.now, count_by-le-length (λ octet. octet == 10) c.args.text.now);
 }

@@ -7,6 +7,7 @@ use Rattle.script.proofs.read.read_script.Given as goal
 abbrev pub invariant-loop-rest : goal.invariant-loop-rest
 invariant-loop-rest l = record {
   told : events_before l.events (events_of l.number (was_fed l.events) (lines_behind (option_copied l.rest))) ≡ script_of l.text;
+  few : length l.events ≤ 1;
   count : l.number + length (lines_behind (option_copied l.rest)) ≤ length l.text + 2;
 }
 
