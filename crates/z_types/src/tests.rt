@@ -192,17 +192,14 @@ fn record(syntax: Oid, form: Form, bytes: Text) -> Item {
 }
 
 impl Sample for Item {
-    const COUNT: u8 = 7;
+    const COUNT: u8 = 4;
 
     fn sample(alloc: Global, which: u8) -> Result<Item, Memory> {
         match which {
             0 => Ok(record(xml(alloc)?, Form::Octets, Text::new(alloc))),
             1 => Ok(record(xml(alloc)?, Form::Single, Text::new(alloc))),
-            2 => Ok(record(xml(alloc)?, Form::Arbitrary, Text::new(alloc))),
-            3 => Ok(record(xml(alloc)?, Form::Octets, text(alloc, b"b")?)),
-            4 => Ok(record(bib1(alloc)?, Form::Octets, Text::new(alloc))),
-            5 => Ok(Item::Surrogate(Diag::sample(alloc, 0)?)),
-            _ => Ok(Item::Surrogate(Diag::sample(alloc, 2)?)),
+            2 => Ok(record(bib1(alloc)?, Form::Octets, Text::new(alloc))),
+            _ => Ok(Item::Surrogate(Diag::sample(alloc, 0)?)),
         }
     }
 }
@@ -237,7 +234,7 @@ impl Sample for Body {
 }
 
 impl Sample for ScanAsk {
-    const COUNT: u8 = 7;
+    const COUNT: u8 = 4;
 
     fn sample(alloc: Global, which: u8) -> Result<ScanAsk, Memory> {
         let mut ask = ScanAsk {
@@ -249,12 +246,9 @@ impl Sample for ScanAsk {
             position: None,
         };
         match which {
-            1 => ask.attr_set = Some(bib1(alloc)?),
-            2 => ask.attrs = only(alloc, Attr::sample(alloc, 0)?)?,
-            3 => ask.term = Term::Number(2),
-            4 => ask.step = Some(0),
-            5 => ask.number = 2,
-            6 => ask.position = Some(0),
+            1 => ask.attrs = only(alloc, Attr::sample(alloc, 0)?)?,
+            2 => ask.term = Term::Number(2),
+            3 => ask.position = Some(0),
             _ => {}
         }
         Ok(ask)
@@ -290,7 +284,7 @@ impl Sample for ScanAnswer {
 }
 
 impl Sample for Init {
-    const COUNT: u8 = 6;
+    const COUNT: u8 = 3;
 
     fn sample(alloc: Global, which: u8) -> Result<Init, Memory> {
         let mut init = Init {
@@ -302,10 +296,7 @@ impl Sample for Init {
         };
         match which {
             1 => init.ref_id = Some(Text::new(alloc)),
-            2 => init.versions = 2,
-            3 => init.options = 2,
-            4 => init.preferred = 2,
-            5 => init.exceptional = 2,
+            2 => init.preferred = 2,
             _ => {}
         }
         Ok(init)
@@ -330,24 +321,15 @@ fn search(alloc: Global) -> Result<Search, Memory> {
 }
 
 impl Sample for Search {
-    const COUNT: u8 = 14;
+    const COUNT: u8 = 5;
 
     fn sample(alloc: Global, which: u8) -> Result<Search, Memory> {
         let mut search = search(alloc)?;
         match which {
-            1 => search.ref_id = Some(Text::new(alloc)),
-            2 => search.small = 2,
-            3 => search.large = 2,
-            4 => search.medium = 2,
-            5 => search.replace = false,
-            6 => search.set_name = Text::new(alloc),
-            7 => search.dbs = only(alloc, text(alloc, b"a")?)?,
-            8 => search.small_element = Some(Text::new(alloc)),
-            9 => search.medium_element = Some(Text::new(alloc)),
-            10 => search.syntax = Some(xml(alloc)?),
-            11 => search.query = Asked::Good(RpnQuery::sample(alloc, 1)?),
-            12 => search.query = Asked::Bad(Diag::sample(alloc, 0)?),
-            13 => search.query = Asked::Bad(Diag::sample(alloc, 2)?),
+            1 => search.small = 2,
+            2 => search.dbs = only(alloc, text(alloc, b"a")?)?,
+            3 => search.query = Asked::Good(RpnQuery::sample(alloc, 1)?),
+            4 => search.query = Asked::Bad(Diag::sample(alloc, 0)?),
             _ => {}
         }
         Ok(search)
@@ -423,22 +405,16 @@ fn answered(init: Init, accepted: bool) -> Reply {
 }
 
 impl Sample for Reply {
-    const COUNT: u8 = 12;
+    const COUNT: u8 = 6;
 
     fn sample(alloc: Global, which: u8) -> Result<Reply, Memory> {
         match which {
             0 => Ok(found(None, Body::None)),
-            1 => Ok(found(Some(Text::new(alloc)), Body::None)),
-            2 => Ok(found(None, Body::sample(alloc, 3)?)),
-            3 => Ok(counted(2, 1, 1, true, None)),
-            4 => Ok(counted(1, 2, 1, true, None)),
-            5 => Ok(counted(1, 1, 2, true, None)),
-            6 => Ok(counted(1, 1, 1, false, None)),
-            7 => Ok(counted(1, 1, 1, true, Some(0))),
-            8 => Ok(answered(Init::sample(alloc, 0)?, true)),
-            9 => Ok(answered(Init::sample(alloc, 1)?, true)),
-            10 => Ok(answered(Init::sample(alloc, 0)?, false)),
-            _ => Ok(Reply::Close(Close::sample(alloc, 0)?)),
+            1 => Ok(found(None, Body::sample(alloc, 3)?)),
+            2 => Ok(counted(2, 1, 1, true, None)),
+            3 => Ok(counted(1, 1, 1, false, None)),
+            4 => Ok(answered(Init::sample(alloc, 0)?, true)),
+            _ => Ok(answered(Init::sample(alloc, 0)?, false)),
         }
     }
 }
