@@ -114,5 +114,5 @@ fault_none (x ∷ rest) phase n e = go (step_of phase n x.class) refl (λ (next 
     at_next next (Some i) f g = cc
 
     go : (o : Option Spot) → step_of phase n x.class ≡ o → ((next : Spot) → fault_at next.phase next.«open» rest ≡ None → accepts next.phase next.«open» rest ≡ true) → accepts phase n (x ∷ rest) ≡ true
-    go None h ih = let z : Some 0 ≡ None = sym (fault_at_none phase n x rest h) ∙ e in cc
+    go None h ih = let here : Option ℕ = Some 0 in let z : here ≡ None = sym (fault_at_none phase n x rest h) ∙ e in cc
     go (Some next) h ih = accepts_some phase n x rest next h ∙ ih next (at_next next (fault_at next.phase next.«open» rest) refl (sym (fault_at_some phase n x rest next h) ∙ e))
