@@ -1,15 +1,9 @@
 -- Where tokens stop being the beginning of a query, by what comes before.
-use Rattle.std.proofs.Common.{◌≡◌, ◌↔◌, ℕ, zero, suc, ◌+◌, ◌-◌, ◌<◌, ◌≤◌, ◌==◌, ◌&&◌, Bool, true, false, List, [], ◌∷◌, ◌++◌, length, take, map, Option, Some, None, option_map, if◌then◌else◌, codes, refl, sym, ◌∙◌, subst, ap, arith, add-one}
-use Rattle.std.proofs.lemmas.Bool.{false≢true}
+use Rattle.std.proofs.Common.{◌≡◌, ℕ, suc, ◌+◌, ◌<◌, ◌≤◌, Bool, true, false, List, [], ◌∷◌, ◌++◌, length, take, Option, Some, None, option_map, if◌then◌else◌, refl, sym, ◌∙◌, subst, ap, arith}
 use Rattle.cql_lex.specs.declared.token.Token.{Token}
-use Rattle.cql_parse.specs.declared.lexeme.Class.{Class}
-use Rattle.cql_parse.specs.declared.lexeme.Class.TheVariants as class
-use Rattle.cql_parse.specs.declared.scan.Owner.{Owner}
-use Rattle.cql_parse.specs.declared.scan.Owner.TheVariants.{Relation, Boolean, Key}
 use Rattle.cql_parse.specs.declared.scan.Phase.{Phase}
-use Rattle.cql_parse.specs.declared.scan.Phase.TheVariants.{Clause, Term, After, SortBy, Sign, PrefixWord, Uri, Modified, Slash, Named, Value}
 use Rattle.cql_parse.specs.declared.scan.Spot.{Spot}
-use Rattle.cql_parse.specs.Lexemes.{Lexeme, lexemes, lexeme_of}
+use Rattle.cql_parse.specs.Lexemes.{Lexeme, lexemes}
 use Rattle.cql_parse.specs.Phases.{spot, step_of, ends_so, accepts, fault_at}
 
 -- one token, and what comes behind it
