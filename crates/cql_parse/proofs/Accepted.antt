@@ -1,5 +1,5 @@
 -- What the phases accept is a query.
-use Rattle.std.proofs.Common.{◌≡◌, ℕ, zero, suc, ◌+◌, ◌<◌, ◌≤◌, ◌==◌, Bool, true, false, cond, List, [], ◌∷◌, ◌++◌, length, Option, Some, None, if◌then◌else◌, codes, ◌⊎◌, inl, inr, ⊎_elim, refl, sym, ◌∙◌, subst, ap, arith}
+use Rattle.std.proofs.Common.{◌≡◌, ℕ, zero, suc, ◌<◌, ◌≤◌, Bool, true, false, List, [], ◌∷◌, length, Option, Some, None, ◌⊎◌, inl, inr, ⊎_elim, refl, sym, ◌∙◌, subst, ap, arith}
 use Rattle.std.proofs.lemmas.Bool.{false≢true, eqb-true}
 use Rattle.cql_parse.specs.declared.tree.Modifier.{Modifier}
 use Rattle.cql_parse.specs.declared.tree.Head.{Head}
@@ -14,11 +14,10 @@ use Rattle.cql_parse.specs.declared.scan.Spot.{Spot}
 use Rattle.cql_parse.specs.Tree.{Tree, clause, assigned, sorted}
 use Rattle.cql_parse.specs.Classes.{lower, is_word, is_term, is_symbol, is_relation, is_slash, is_close, is_equal, is_open, is_greater, is_boolean, is_sortby}
 use Rattle.cql_parse.specs.Lexemes.{Lexeme, starts}
-use Rattle.cql_parse.specs.Grammar.{Left, Due, operand, after, join, Repeats, IsName, IsValue, MayHaveValue, IsModifier, AreModifiers, IsKey, AreKeys, IsTerm, IsComparison, IsClause, IsPlainPrefix, IsNamedPrefix, IsPrefix, Reads, plain, bracket, prefix, boolean, sort, done, ends_query, IsQuery}
-use Rattle.cql_parse.specs.Phases.{spot, closed, step_of, ends_so, accepts}
-use Rattle.cql_parse.proofs.Inverting.{open_no_term, greater_no_term, sortby_no_boolean, close_no_term}
+use Rattle.cql_parse.specs.Grammar.{Left, Due, operand, after, join, Repeats, IsName, IsModifier, AreModifiers, IsKey, IsClause, IsPrefix, Reads, plain, bracket, prefix, boolean, sort, done, ends_query, IsQuery}
+use Rattle.cql_parse.specs.Phases.{spot, step_of, accepts}
 use Rattle.cql_parse.proofs.Faults.{accepts_some, accepts_none}
-use Rattle.cql_parse.proofs.Accepting.{phase_of, on_clause_term, on_bare, on_modifiers, on_operand, on_end, on_open, on_close, on_unvalued, on_unequal, on_sign, on_sortby, modifiers_end, term_no_slash, close_no_boolean, close_no_sortby}
+use Rattle.cql_parse.proofs.Accepting.{phase_of, on_clause_term, on_bare, on_operand, on_end, on_open, on_close, on_unvalued, on_unequal, on_sign, on_sortby, modifiers_end, term_no_slash, close_no_boolean, close_no_sortby}
 
 -- a test goes one of two ways
 decided : (b : Bool) → (b ≡ true) ⊎ (b ≡ false)

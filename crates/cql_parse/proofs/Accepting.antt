@@ -1,5 +1,5 @@
 -- The phases accept every query.
-use Rattle.std.proofs.Common.{◌≡◌, ℕ, zero, suc, Bool, true, false, List, [], ◌∷◌, Option, Some, None, refl, sym, ◌∙◌, subst, ap}
+use Rattle.std.proofs.Common.{◌≡◌, ℕ, suc, Bool, true, false, List, [], ◌∷◌, Option, Some, None, refl, sym, ◌∙◌, ap}
 use Rattle.std.proofs.lemmas.Bool.{false≢true}
 use Rattle.cql_parse.specs.declared.tree.Modifier.{Modifier}
 use Rattle.cql_parse.specs.declared.tree.Head.{Head}
@@ -14,10 +14,9 @@ use Rattle.cql_parse.specs.declared.scan.Spot.{Spot}
 use Rattle.cql_parse.specs.Tree.{Tree}
 use Rattle.cql_parse.specs.Classes.{is_word, is_term, is_symbol, is_relation, is_slash, is_close, is_equal, is_open, is_greater, is_boolean, is_sortby}
 use Rattle.cql_parse.specs.Lexemes.{Lexeme, starts}
-use Rattle.cql_parse.specs.Grammar.{Due, operand, after, Repeats, IsName, IsValue, MayHaveValue, IsModifier, AreModifiers, IsKey, AreKeys, IsTerm, IsComparison, IsClause, IsPlainPrefix, IsNamedPrefix, IsPrefix, Reads, plain, bracket, prefix, boolean, sort, done, ends_query, IsQuery}
-use Rattle.cql_parse.specs.Phases.{spot, step_of, ends_so, accepts}
+use Rattle.cql_parse.specs.Grammar.{Due, operand, after, Repeats, IsName, MayHaveValue, AreModifiers, IsKey, AreKeys, IsClause, IsPrefix, Reads, plain, bracket, prefix, boolean, sort, done, ends_query, IsQuery}
+use Rattle.cql_parse.specs.Phases.{spot, step_of, accepts}
 use Rattle.cql_parse.proofs.Inverting.{open_no_term, greater_no_term, sortby_no_boolean, close_no_term}
-use Rattle.cql_parse.proofs.Steps.{keys_end}
 use Rattle.cql_parse.proofs.Faults.{accepts_some}
 
 -- the classes of tokens are apart

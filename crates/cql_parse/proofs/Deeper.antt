@@ -1,22 +1,13 @@
 -- The whole is as deep as each part.
-use Rattle.std.proofs.Common.{◌≡◌, ◌↔◌, ◌⊎◌, ℕ, suc, ◌+◌, ◌-◌, ◌<◌, ◌≤◌, max, Bool, true, false, List, [], ◌∷◌, Option, Some, None, option_map, Result, Ok, Err, Bor, inl, inr, refl, sym, ◌∙◌, subst, ap, arith, cond}
-use Rattle.cql_lex.specs.declared.token.Token.{Token}
-use Rattle.cql_parse.specs.declared.tree.Modifier.{Modifier}
-use Rattle.cql_parse.specs.declared.tree.Head.{Head}
-use Rattle.cql_parse.specs.declared.tree.SortKey.{SortKey}
-use Rattle.cql_parse.specs.declared.grown.Grown.{Grown}
-use Rattle.cql_parse.specs.declared.frame.LeftOperand.{LeftOperand}
+use Rattle.std.proofs.Common.{◌≡◌, ℕ, suc, ◌≤◌, true, List, [], ◌∷◌, Option, Some, None, option_map, arith}
 use Rattle.cql_parse.specs.declared.frame.Frame.{Frame}
 use Rattle.cql_parse.specs.declared.frame.Frame.TheVariants.{Bracket, Prefix}
-use Rattle.cql_parse.specs.declared.frame.State.{State}
-use Rattle.cql_parse.specs.declared.fault.Stop.{Stop}
-use Rattle.cql_parse.specs.declared.fault.Stop.TheVariants.{NoQuery, Deep, Memory}
-use Rattle.cql_parse.specs.Tree.{Tree, clause, joined, assigned, sorted, depth}
-use Rattle.cql_parse.specs.Classes.{is_open, is_close}
+use Rattle.cql_parse.specs.Tree.{Tree, clause, assigned, depth}
+use Rattle.cql_parse.specs.Classes.{is_open}
 use Rattle.cql_parse.specs.Lexemes.{Lexeme}
 use Rattle.cql_parse.specs.Grammar.{Left, Due, operand, after, join, Reads, plain, bracket, prefix, boolean, sort, done}
 use Rattle.cql_parse.specs.Nesting.{nesting}
-use Rattle.cql_parse.specs.Unfinished.{left_of, due_of, Makes, Ends, Completes, Goes}
+use Rattle.cql_parse.specs.Unfinished.{left_of, Ends, Completes}
 
 -- the levels of what is read so far
 pub due_depth : Due → ℕ

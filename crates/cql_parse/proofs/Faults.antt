@@ -1,15 +1,9 @@
 -- Where tokens stop being the beginning of a query, by what comes before.
-use Rattle.std.proofs.Common.{◌≡◌, ◌↔◌, ℕ, zero, suc, ◌+◌, ◌-◌, ◌<◌, ◌≤◌, ◌==◌, ◌&&◌, Bool, true, false, List, [], ◌∷◌, ◌++◌, length, take, map, Option, Some, None, option_map, if◌then◌else◌, codes, refl, sym, ◌∙◌, subst, ap, arith, add-one}
-use Rattle.std.proofs.lemmas.Bool.{false≢true}
+use Rattle.std.proofs.Common.{◌≡◌, ℕ, suc, ◌+◌, ◌<◌, ◌≤◌, Bool, true, false, List, [], ◌∷◌, ◌++◌, length, take, Option, Some, None, option_map, if◌then◌else◌, refl, sym, ◌∙◌, subst, ap, arith}
 use Rattle.cql_lex.specs.declared.token.Token.{Token}
-use Rattle.cql_parse.specs.declared.lexeme.Class.{Class}
-use Rattle.cql_parse.specs.declared.lexeme.Class.TheVariants as class
-use Rattle.cql_parse.specs.declared.scan.Owner.{Owner}
-use Rattle.cql_parse.specs.declared.scan.Owner.TheVariants.{Relation, Boolean, Key}
 use Rattle.cql_parse.specs.declared.scan.Phase.{Phase}
-use Rattle.cql_parse.specs.declared.scan.Phase.TheVariants.{Clause, Term, After, SortBy, Sign, PrefixWord, Uri, Modified, Slash, Named, Value}
 use Rattle.cql_parse.specs.declared.scan.Spot.{Spot}
-use Rattle.cql_parse.specs.Lexemes.{Lexeme, lexemes, lexeme_of}
+use Rattle.cql_parse.specs.Lexemes.{Lexeme, lexemes}
 use Rattle.cql_parse.specs.Phases.{spot, step_of, ends_so, accepts, fault_at}
 
 -- one token, and what comes behind it
@@ -114,5 +108,5 @@ fault_none (x ∷ rest) phase n e = go (step_of phase n x.class) refl (λ (next 
     at_next next (Some i) f g = cc
 
     go : (o : Option Spot) → step_of phase n x.class ≡ o → ((next : Spot) → fault_at next.phase next.«open» rest ≡ None → accepts next.phase next.«open» rest ≡ true) → accepts phase n (x ∷ rest) ≡ true
-    go None h ih = let z : Some 0 ≡ None = sym (fault_at_none phase n x rest h) ∙ e in cc
+    go None h ih = let here : Option ℕ = Some 0 in let z : here ≡ None = sym (fault_at_none phase n x rest h) ∙ e in cc
     go (Some next) h ih = accepts_some phase n x rest next h ∙ ih next (at_next next (fault_at next.phase next.«open» rest) refl (sym (fault_at_some phase n x rest next h) ∙ e))

@@ -1,5 +1,5 @@
 -- What a part of the parser answers, from what its own parts answer.
-use Rattle.std.proofs.Common.{◌≡◌, ℕ, ◌+◌, ◌<◌, ◌≤◌, Bool, true, false, List, [], ◌∷◌, length, Option, Some, None, Result, Ok, Err, Bor, is_some, is_none, IsSome, refl, sym, ◌∙◌, subst}
+use Rattle.std.proofs.Common.{◌≡◌, ℕ, Bool, true, false, List, ◌∷◌, Option, Some, None, Result, Ok, Err, Bor, is_some, sym, ◌∙◌, subst}
 use Rattle.cql_lex.specs.declared.token.Token.{Token}
 use Rattle.cql_parse.specs.declared.lexeme.Class.{Class}
 use Rattle.cql_parse.specs.declared.lexeme.Front.{Front}
@@ -14,7 +14,7 @@ use Rattle.cql_parse.specs.Classes.{is_term, is_equal, is_relation}
 use Rattle.cql_parse.specs.Grammar.{Repeats, IsKey, AreKeys, AreModifiers, IsClause, IsComparison, IsPrefix, IsNamedPrefix}
 use Rattle.cql_parse.proofs.Sure.{AreModifiers_sure}
 use Rattle.cql_parse.proofs.Repeating.{Reading, Reading_stuck}
-use Rattle.cql_parse.specs.Answers.{lexeme_in, IsFront, Finds}
+use Rattle.cql_parse.specs.Answers.{IsFront, Finds}
 
 -- where a part is not found, what it is a part of is not
 pub Finds_err : {X Y : Type 0} (text : List ℕ) (R : X → List Lexeme → Type 0) (S : Y → List Lexeme → Type 0) (e : Stop) → ((y : Y) (rest : List Lexeme) → S y rest → (x : X) × (r : List Lexeme) × R x r) → Finds text R (Err e) → Finds text S (Err e)

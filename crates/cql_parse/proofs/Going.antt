@@ -1,5 +1,5 @@
 -- What one part of a query answers, from what its own parts answer.
-use Rattle.std.proofs.Common.{◌≡◌, ◌↔◌, ◌⊎◌, ℕ, suc, ◌+◌, ◌<◌, ◌≤◌, true, false, List, [], ◌∷◌, ◌++◌, reverse, Option, Some, None, option_map, Result, Ok, Err, Bor, ⊎_elim, inl, inr, refl, sym, ◌∙◌, subst, ap, arith}
+use Rattle.std.proofs.Common.{◌≡◌, ◌↔◌, ℕ, suc, ◌<◌, ◌≤◌, true, List, [], ◌∷◌, ◌++◌, reverse, Option, Some, None, option_map, Result, Ok, Err, Bor, ⊎_elim, inl, inr, refl, sym, ◌∙◌, subst, ap, arith}
 use Rattle.cql_lex.specs.declared.token.Token.{Token}
 use Rattle.cql_parse.specs.declared.tree.Modifier.{Modifier}
 use Rattle.cql_parse.specs.declared.tree.Head.{Head}
@@ -10,21 +10,20 @@ use Rattle.cql_parse.specs.declared.frame.Frame.{Frame}
 use Rattle.cql_parse.specs.declared.frame.Frame.TheVariants.{Bracket, Prefix}
 use Rattle.cql_parse.specs.declared.frame.State.{State}
 use Rattle.cql_parse.specs.declared.frame.State.TheVariants.{Operand, After}
-use Rattle.cql_parse.specs.declared.frame.Ended.{Ended}
 use Rattle.cql_parse.specs.declared.frame.Ended.TheVariants.{Inner, Whole}
 use Rattle.cql_parse.specs.declared.fault.Stop.{Stop}
 use Rattle.cql_parse.specs.declared.fault.Stop.TheVariants.{NoQuery, Deep, Memory}
-use Rattle.cql_parse.specs.Tree.{Tree, clause, joined, assigned, sorted, depth}
-use Rattle.cql_parse.specs.Classes.{lower, is_open, is_close, is_greater, is_boolean, is_sortby}
-use Rattle.cql_parse.specs.Lexemes.{Lexeme, lexemes, starts}
-use Rattle.cql_parse.specs.Grammar.{Left, Due, operand, after, join, IsClause, IsPrefix, AreModifiers, AreKeys, Reads, IsQuery}
+use Rattle.cql_parse.specs.Tree.{Tree, clause, assigned, sorted, depth}
+use Rattle.cql_parse.specs.Classes.{lower, is_open, is_close, is_boolean, is_sortby}
+use Rattle.cql_parse.specs.Lexemes.{Lexeme, lexemes}
+use Rattle.cql_parse.specs.Grammar.{Due, operand, after, join, IsClause, IsPrefix, AreModifiers, AreKeys, Reads, IsQuery}
 use Rattle.cql_parse.specs.Nesting.{nesting}
 use Rattle.cql_parse.specs.Answers.{Finds}
 use Rattle.cql_parse.specs.Brackets.{IsFull}
-use Rattle.cql_parse.specs.Unfinished.{left_of, due_of, Makes, Ends, Completes, Goes, EndsSo, Unwinds, Finishes, Builds, Shallow}
+use Rattle.cql_parse.specs.Unfinished.{left_of, due_of, Makes, Ends, Completes, Goes, Unwinds, Finishes, Builds, Shallow}
 use Rattle.std.proofs.lemmas.List.{reverse-append}
 use Rattle.std.proofs.lemmas.Bool.{cases_lt}
-use Rattle.cql_parse.proofs.Steps.{bracket_step, clause_step, no_clause, prefix_step, no_prefix, boolean_step, no_boolean, sort_step, no_keys, end_step, close_step}
+use Rattle.cql_parse.proofs.Steps.{bracket_step, clause_step, prefix_step, boolean_step, sort_step, end_step, close_step}
 use Rattle.cql_parse.proofs.Deeper.{completes_deep, ends_deep, nesting_least, nesting_open}
 
 -- where a part is not found and nothing goes on without it, no query goes on

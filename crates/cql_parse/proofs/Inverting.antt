@@ -1,13 +1,12 @@
 -- What a reading of a query begins with.
-use Rattle.std.proofs.Common.{◌≡◌, ℕ, Bool, true, false, List, [], ◌∷◌, Option, Some, None, refl, sym, ◌∙◌, subst, ap}
-use Rattle.std.proofs.lemmas.Bool.{false≢true}
+use Rattle.std.proofs.Common.{◌≡◌, ℕ, Bool, true, false, List, [], ◌∷◌, Option, Some, None, refl, sym, ◌∙◌}
 use Rattle.cql_parse.specs.declared.tree.Modifier.{Modifier}
 use Rattle.cql_parse.specs.declared.tree.Head.{Head}
 use Rattle.cql_parse.specs.declared.tree.SortKey.{SortKey}
 use Rattle.cql_parse.specs.declared.lexeme.Class.{Class}
 use Rattle.cql_parse.specs.declared.lexeme.Class.TheVariants as class
-use Rattle.cql_parse.specs.Tree.{Tree, clause, joined, assigned, sorted}
-use Rattle.cql_parse.specs.Classes.{lower, is_word, is_term, is_symbol, is_relation, is_slash, is_close, is_equal, is_open, is_greater, is_boolean, is_sortby}
+use Rattle.cql_parse.specs.Tree.{Tree, clause, assigned, sorted}
+use Rattle.cql_parse.specs.Classes.{lower, is_term, is_close, is_open, is_greater, is_boolean, is_sortby}
 use Rattle.cql_parse.specs.Lexemes.{Lexeme, starts}
 use Rattle.cql_parse.specs.Grammar.{Left, Due, operand, after, join, IsClause, IsPrefix, AreModifiers, AreKeys, Reads, plain, bracket, prefix, boolean, sort, done, ends_query}
 

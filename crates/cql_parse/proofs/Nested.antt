@@ -1,15 +1,15 @@
 -- The parts of a query that hold no query have no brackets.
-use Rattle.std.proofs.Common.{◌≡◌, ◌↔◌, ℕ, suc, ◌+◌, ◌-◌, ◌<◌, ◌≤◌, max, Bool, true, false, List, [], ◌∷◌, Option, Some, None, refl, sym, ◌∙◌, subst, ap, arith}
+use Rattle.std.proofs.Common.{◌≡◌, ◌↔◌, ℕ, ◌-◌, ◌<◌, ◌≤◌, Bool, true, false, List, [], ◌∷◌, Option, Some, None, refl, sym, ◌∙◌, ap, arith}
 use Rattle.cql_parse.specs.declared.tree.Modifier.{Modifier}
 use Rattle.cql_parse.specs.declared.tree.Head.{Head}
 use Rattle.cql_parse.specs.declared.tree.SortKey.{SortKey}
 use Rattle.cql_parse.specs.declared.lexeme.Class.{Class}
 use Rattle.cql_parse.specs.declared.lexeme.Class.TheVariants.{Open, Close, Slash, Equal, Greater, Symbol, Quoted, Boolean, SortBy, Word}
-use Rattle.cql_parse.specs.Classes.{is_word, is_term, is_symbol, is_relation, is_slash, is_close, is_equal, is_open, is_greater, is_boolean, is_sortby}
+use Rattle.cql_parse.specs.Classes.{is_word, is_term, is_symbol, is_relation, is_slash, is_close, is_equal, is_open, is_greater}
 use Rattle.cql_parse.specs.Lexemes.{Lexeme, starts}
-use Rattle.cql_parse.specs.Grammar.{Repeats, IsName, IsValue, MayHaveValue, IsModifier, AreModifiers, IsKey, AreKeys, IsTerm, IsComparison, IsClause, IsPlainPrefix, IsNamedPrefix, IsPrefix}
+use Rattle.cql_parse.specs.Grammar.{Repeats, IsName, MayHaveValue, AreModifiers, IsKey, AreKeys, IsClause, IsPrefix}
 use Rattle.cql_parse.specs.Nesting.{nesting}
-use Rattle.cql_parse.proofs.Deeper.{nesting_least, nesting_open}
+use Rattle.cql_parse.proofs.Deeper.{nesting_least}
 
 -- a class that passes a test which brackets do not is none
 no_bracket : (test : Class → Bool) → test Open ≡ false → test Close ≡ false → (c : Class) → test c ≡ true → (is_open c ≡ false) × (is_close c ≡ false)

@@ -1,10 +1,10 @@
 -- Tokens are a query of one tree at most.
-use Rattle.std.proofs.Common.{◌≡◌, ℕ, Bool, true, false, List, [], ◌∷◌, Option, Some, None, refl, sym, ◌∙◌, subst, ap}
-use Rattle.cql_parse.specs.Tree.{Tree, clause, joined, assigned, sorted}
-use Rattle.cql_parse.specs.Classes.{lower, is_term, is_close, is_open, is_greater, is_boolean, is_sortby}
+use Rattle.std.proofs.Common.{◌≡◌, ℕ, true, List, [], ◌∷◌, Option, Some, None, refl, sym, ◌∙◌, subst, ap}
+use Rattle.cql_parse.specs.Tree.{Tree, clause, assigned, sorted}
+use Rattle.cql_parse.specs.Classes.{lower, is_term, is_open, is_greater, is_boolean, is_sortby}
 use Rattle.cql_parse.specs.Lexemes.{Lexeme, starts}
 use Rattle.cql_parse.specs.Grammar.{Left, Due, operand, after, join, IsClause, IsPrefix, AreModifiers, AreKeys, Reads, plain, bracket, prefix, boolean, sort, done, ends_query, IsQuery}
-use Rattle.cql_parse.proofs.Inverting.{FromOperand, by_clause, by_bracket, by_prefix, FromAfter, by_boolean, by_sort, by_end, from_operand, from_after, open_no_term, open_no_greater, greater_no_term, boolean_term, sortby_term, sortby_no_boolean, close_no_term, clause_first, prefix_first, clash, term_or_greater}
+use Rattle.cql_parse.proofs.Inverting.{FromOperand, by_clause, by_bracket, by_prefix, FromAfter, by_boolean, by_sort, by_end, from_operand, from_after, open_no_term, open_no_greater, boolean_term, sortby_term, sortby_no_boolean, close_no_term, clause_first, prefix_first, clash, term_or_greater}
 use Rattle.cql_parse.proofs.Sure.{IsClause_sure, IsPrefix_sure, AreModifiers_sure, AreKeys_sure}
 use Rattle.cql_parse.specs.declared.tree.Modifier.{Modifier}
 use Rattle.cql_parse.specs.declared.tree.Head.{Head}

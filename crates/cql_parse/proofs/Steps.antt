@@ -1,5 +1,5 @@
 -- How an unfinished query goes on by one part, with the same trees.
-use Rattle.std.proofs.Common.{◌≡◌, ◌↔◌, ℕ, Bool, true, false, List, [], ◌∷◌, Option, Some, None, option_map, refl, sym, ◌∙◌, subst, ap}
+use Rattle.std.proofs.Common.{◌≡◌, ◌↔◌, ℕ, true, false, List, [], ◌∷◌, Option, Some, None, option_map, refl, sym, ◌∙◌, subst, ap}
 use Rattle.std.proofs.lemmas.Bool.{false≢true}
 use Rattle.cql_parse.specs.declared.tree.Modifier.{Modifier}
 use Rattle.cql_parse.specs.declared.tree.Head.{Head}
@@ -7,12 +7,12 @@ use Rattle.cql_parse.specs.declared.tree.SortKey.{SortKey}
 use Rattle.cql_parse.specs.declared.frame.LeftOperand.{LeftOperand}
 use Rattle.cql_parse.specs.declared.frame.Frame.{Frame}
 use Rattle.cql_parse.specs.declared.frame.Frame.TheVariants.{Bracket, Prefix}
-use Rattle.cql_parse.specs.Tree.{Tree, clause, joined, assigned, sorted}
+use Rattle.cql_parse.specs.Tree.{Tree, clause, assigned, sorted}
 use Rattle.cql_parse.specs.Classes.{lower, is_term, is_close, is_open, is_greater, is_boolean, is_sortby}
 use Rattle.cql_parse.specs.Lexemes.{Lexeme, starts}
-use Rattle.cql_parse.specs.Grammar.{Left, Due, operand, after, join, IsClause, IsPrefix, AreModifiers, AreKeys, Repeats, IsKey, Reads, plain, bracket, prefix, boolean, sort, done, ends_query}
+use Rattle.cql_parse.specs.Grammar.{Left, operand, after, join, IsClause, IsPrefix, AreModifiers, AreKeys, Repeats, IsKey, Reads, plain, bracket, prefix, boolean, sort, done, ends_query}
 use Rattle.cql_parse.specs.Unfinished.{left_of, Ends, Completes}
-use Rattle.cql_parse.proofs.Inverting.{FromOperand, by_clause, by_bracket, by_prefix, FromAfter, by_boolean, by_sort, by_end, from_operand, from_after, open_no_term, open_no_greater, greater_no_term, boolean_term, sortby_term, sortby_no_boolean, close_no_term, clause_first, prefix_first, clash, term_or_greater}
+use Rattle.cql_parse.proofs.Inverting.{FromOperand, by_clause, by_bracket, by_prefix, FromAfter, by_boolean, by_sort, by_end, from_operand, from_after, open_no_term, open_no_greater, boolean_term, sortby_term, sortby_no_boolean, close_no_term, clause_first, prefix_first, clash, term_or_greater}
 use Rattle.cql_parse.proofs.Sure.{IsClause_sure, IsPrefix_sure, AreModifiers_sure, AreKeys_sure}
 
 -- a bracket opens a query of its own

@@ -1,12 +1,10 @@
 -- The parts of a query that hold no query begin tokens in one way at most.
-use Rattle.std.proofs.Common.{◌≡◌, ℕ, Bool, true, false, List, [], ◌∷◌, ◌++◌, Option, Some, None, refl, sym, ◌∙◌, subst, ap}
+use Rattle.std.proofs.Common.{◌≡◌, ℕ, true, List, ◌∷◌, Option, Some, None, refl, sym, ◌∙◌, subst, ap}
 use Rattle.std.proofs.lemmas.Bool.{false≢true}
-use Rattle.cql_parse.specs.declared.tree.Modifier.{Modifier}
 use Rattle.cql_parse.specs.declared.tree.Head.{Head}
-use Rattle.cql_parse.specs.declared.tree.SortKey.{SortKey}
-use Rattle.cql_parse.specs.Classes.{is_word, is_term, is_symbol, is_relation, is_slash, is_equal}
+use Rattle.cql_parse.specs.Classes.{is_term, is_symbol, is_relation, is_slash, is_equal}
 use Rattle.cql_parse.specs.Lexemes.{Lexeme, starts}
-use Rattle.cql_parse.specs.Grammar.{Repeats, IsName, IsValue, MayHaveValue, IsModifier, AreModifiers, IsKey, AreKeys, IsTerm, IsComparison, IsClause, IsPlainPrefix, IsNamedPrefix, IsPrefix}
+use Rattle.cql_parse.specs.Grammar.{IsName, IsValue, MayHaveValue, IsModifier, AreModifiers, IsKey, AreKeys, IsTerm, IsComparison, IsClause, IsPlainPrefix, IsNamedPrefix, IsPrefix}
 use Rattle.cql_parse.proofs.Repeating.{IsSure, Repeats_sure}
 
 pub IsName_sure : IsSure IsName

@@ -1,5 +1,5 @@
 -- The place where tokens stop to be the beginning of a query.
-use Rattle.std.proofs.Common.{◌≡◌, ℕ, zero, suc, ◌+◌, ◌<◌, ◌≤◌, ◌⊎◌, true, false, List, [], ◌∷◌, ◌++◌, length, take, drop, get_or, Option, Some, None, codes, inl, inr, ⊎_elim, refl, sym, ◌∙◌, subst, ap, arith, append_assoc}
+use Rattle.std.proofs.Common.{◌≡◌, ℕ, zero, suc, ◌<◌, ◌≤◌, true, List, [], ◌∷◌, ◌++◌, length, take, drop, get_or, Some, None, codes, ⊎_elim, refl, sym, ◌∙◌, subst, ap, arith, append_assoc}
 use Rattle.std.proofs.lemmas.Bool.{false≢true, cases_lt}
 use Rattle.std.proofs.lemmas.Grind.{common_steps}
 use Rattle.cql_lex.specs.declared.token.Token.{Token}
@@ -8,11 +8,11 @@ use Rattle.cql_parse.specs.declared.scan.Owner.TheVariants.{Relation, Boolean, K
 use Rattle.cql_parse.specs.declared.scan.Phase.{Phase}
 use Rattle.cql_parse.specs.declared.scan.Phase.TheVariants.{Clause, Term, After, SortBy, Sign, PrefixWord, Uri, Modified, Slash, Named, Value}
 use Rattle.cql_parse.specs.Tree.{Tree}
-use Rattle.cql_parse.specs.Lexemes.{Lexeme, lexemes}
+use Rattle.cql_parse.specs.Lexemes.{Lexeme}
 use Rattle.cql_parse.specs.Grammar.{IsQuery}
 use Rattle.cql_parse.specs.Phases.{accepts, fault_at}
 use Rattle.cql_parse.specs.Refusals.{Begins, IsSyntax, place_of}
-use Rattle.cql_parse.proofs.Faults.{IsFault, fault_some, fault_none}
+use Rattle.cql_parse.proofs.Faults.{fault_some, fault_none}
 use Rattle.cql_parse.proofs.Accepting.{on_close, query_accepted}
 use Rattle.cql_parse.proofs.Accepted.{accepted_query}
 

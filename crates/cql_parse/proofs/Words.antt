@@ -1,5 +1,5 @@
 -- Words without regard to the case of their letters.
-use Rattle.std.proofs.Common.{◌≡◌, ℕ, suc, ◌+◌, ◌<◌, List, [], ◌∷◌, length, get_or, drop, map, Bool, true, false, ◌&&◌, nat_eq, refl, sym, ap, ◌∙◌, arith, add-one, drop-cons}
+use Rattle.std.proofs.Common.{◌≡◌, ℕ, suc, ◌+◌, ◌<◌, List, [], ◌∷◌, length, get_or, drop, true, false, ◌&&◌, nat_eq, refl, ap, ◌∙◌, arith, add-one, drop-cons}
 use Rattle.std.specs.Str.{bytes_eq}
 use Rattle.std.specs.Char.{to_ascii_lowercase}
 use Rattle.cql_parse.specs.Classes.{lower}

@@ -1,5 +1,5 @@
 -- What the parser's parts answer (this project's own).
-use Rattle.std.specs.Prelude.{◌≡◌, ℕ, Bool, true, false, List, [], ◌∷◌, Option, Some, None, Result, Ok, Err}
+use Rattle.std.specs.Prelude.{◌≡◌, ℕ, Bool, true, false, List, ◌∷◌, Option, Some, None, Result, Ok, Err}
 use Rattle.std.specs.Borrow.{Bor}
 use Rattle.cql_lex.specs.declared.token.Token.{Token}
 use Rattle.cql_parse.specs.declared.lexeme.Class.{Class}

@@ -1,5 +1,5 @@
 -- What a token may stand for in the grammar (CQL 1.2, BNF).
-use Rattle.std.specs.Prelude.{ℕ, Bool, true, false, ◌||◌, List, map, codes, if◌then◌else◌}
+use Rattle.std.specs.Prelude.{ℕ, Bool, true, false, List, map, codes, if◌then◌else◌}
 use Rattle.std.specs.Str.{bytes_eq}
 use Rattle.std.specs.Char.{to_ascii_lowercase}
 use Rattle.cql_lex.specs.declared.token.Kind.{Kind}

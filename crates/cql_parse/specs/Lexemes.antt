@@ -2,7 +2,7 @@
 use Rattle.std.specs.Prelude.{ℕ, ◌+◌, ◌-◌, Bool, false, List, [], ◌∷◌, map, take, drop}
 use Rattle.cql_lex.specs.declared.token.Token.{Token}
 use Rattle.cql_lex.specs.declared.token.Kind.{Kind}
-use Rattle.cql_lex.specs.declared.token.Kind.TheVariants.{Open, Close, Slash, Equal, Exact, Less, Greater, LessOrEqual, GreaterOrEqual, LessOrGreater, Quoted, Word}
+use Rattle.cql_lex.specs.declared.token.Kind.TheVariants.{Quoted}
 use Rattle.cql_parse.specs.declared.lexeme.Class.{Class}
 use Rattle.cql_parse.specs.Classes.{class_of}
 

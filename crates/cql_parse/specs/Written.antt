@@ -1,5 +1,5 @@
 -- The text of a query (CQL 1.2, BNF; where there is a choice, this project's own).
-use Rattle.std.specs.Prelude.{ℕ, Bool, true, false, ◌||◌, List, [], ◌∷◌, ◌++◌, Option, Some, None, codes, if◌then◌else◌}
+use Rattle.std.specs.Prelude.{ℕ, Bool, true, false, List, [], ◌∷◌, ◌++◌, Option, Some, None, codes, if◌then◌else◌}
 use Rattle.cql_lex.specs.Characters.{is_word}
 use Rattle.cql_parse.specs.declared.tree.Modifier.{Modifier}
 use Rattle.cql_parse.specs.declared.tree.Head.{Head}

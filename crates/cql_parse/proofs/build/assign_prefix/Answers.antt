@@ -1,10 +1,7 @@
-use Rattle.std.proofs.Common.{◌≡◌, ◌↔◌, ℕ, List, Option, sym, ◌∙◌}
+use Rattle.std.proofs.Common.{ℕ, List, Option, sym, ◌∙◌}
 use Rattle.std.proofs.lemmas.Result.{err_from_is_err_and}
-use Rattle.cql_parse.specs.declared.tree.Head.{Head}
-use Rattle.cql_parse.specs.Tree.{Tree, clause, sorted}
-use Rattle.cql_parse.specs.Lexemes.{Lexeme, lexemes}
-use Rattle.cql_parse.specs.Grammar.{operand, after, join, IsClause, IsPrefix, AreModifiers, AreKeys}
-use Rattle.cql_parse.specs.Answers.{lexeme_in}
+use Rattle.cql_parse.specs.Lexemes.{lexemes}
+use Rattle.cql_parse.specs.Grammar.{operand, IsPrefix}
 use Rattle.cql_parse.specs.Unfinished.{left_of}
 use Rattle.std.proofs.Common.{option_map, reverse}
 use Rattle.cql_parse.proofs.Steps.{no_prefix}

@@ -1,14 +1,14 @@
-use Rattle.std.proofs.Common.{◌≡◌, ◌↔◌, ◌<◌, List, [], reverse, map, length, refl, sym, ◌∙◌, ap, subst, arith, eqb}
+use Rattle.std.proofs.Common.{◌≡◌, ◌↔◌, ◌<◌, List, [], reverse, length, sym, ◌∙◌, subst}
 use Rattle.std.proofs.lemmas.Bool.{eqb-true}
 use Rattle.std.proofs.lemmas.List.{nil_from_length}
 use Rattle.std.proofs.lemmas.Result.{err_from_is_err_and}
 use Rattle.cql_lex.specs.declared.token.Token.{Token}
 use Rattle.cql_parse.specs.Tree.{Tree}
-use Rattle.cql_parse.specs.Lexemes.{Lexeme, lexemes}
-use Rattle.cql_parse.specs.Grammar.{operand, IsQuery}
+use Rattle.cql_parse.specs.Lexemes.{lexemes}
+use Rattle.cql_parse.specs.Grammar.{IsQuery}
 use Rattle.cql_parse.specs.Nesting.{nesting}
 use Rattle.cql_parse.specs.Unfinished.{due_of, Completes}
-use Rattle.cql_parse.proofs.Going.{whole_query, query_more, query_err, query_done}
+use Rattle.cql_parse.proofs.Going.{query_more, query_err, query_done}
 use Rattle.cql_parse.proofs.build.build.Goals as goal
 
 pub returns-in_err-next : goal.returns-in_err-next

@@ -1,4 +1,4 @@
-use Rattle.std.proofs.Common.{◌≡◌, ◌↔◌, ◌<◌, List, reverse, length}
+use Rattle.std.proofs.Common.{◌↔◌, ◌<◌, reverse, length}
 use Rattle.cql_parse.specs.Tree.{Tree}
 use Rattle.cql_parse.specs.Lexemes.{lexemes}
 use Rattle.cql_parse.specs.Grammar.{IsQuery}

@@ -1,4 +1,4 @@
-use Rattle.std.proofs.Common.{◌≡◌, ◌↔◌, ◌∷◌, List, Ok, option_map, reverse, subst}
+use Rattle.std.proofs.Common.{◌≡◌, ◌↔◌, ◌∷◌, Ok, option_map, reverse, subst}
 use Rattle.std.proofs.lemmas.Result.{err_from_is_err_and}
 use Rattle.cql_parse.specs.declared.frame.Ended.{Ended}
 use Rattle.cql_parse.specs.declared.frame.Ended.TheVariants.{Inner}

@@ -1,4 +1,4 @@
-use Rattle.std.proofs.Common.{◌≡◌, List, Ok, reverse, subst}
+use Rattle.std.proofs.Common.{Ok, reverse, subst}
 use Rattle.cql_parse.specs.declared.frame.Ended.{Ended}
 use Rattle.cql_parse.specs.declared.frame.Ended.TheVariants.{Inner, Whole}
 use Rattle.cql_parse.specs.Unfinished.{Unwinds}

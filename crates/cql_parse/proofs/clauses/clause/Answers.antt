@@ -1,8 +1,8 @@
-use Rattle.std.proofs.Common.{◌≡◌, ℕ, List, Option, sym, ◌∙◌}
+use Rattle.std.proofs.Common.{ℕ, List, Option, sym, ◌∙◌}
 use Rattle.std.proofs.lemmas.Result.{err_from_is_err_and}
 use Rattle.cql_parse.specs.declared.tree.Head.{Head}
 use Rattle.cql_parse.specs.Classes.{is_relation}
-use Rattle.cql_parse.specs.Lexemes.{Lexeme, lexemes}
+use Rattle.cql_parse.specs.Lexemes.{lexemes}
 use Rattle.cql_parse.specs.Grammar.{IsClause, IsComparison}
 use Rattle.cql_parse.specs.Answers.{lexeme_in}
 use Rattle.cql_parse.proofs.Finding.{Finds_err, front_some, clause_compared}

@@ -1,9 +1,9 @@
-use Rattle.std.proofs.Common.{◌≡◌, sym, ◌∙◌, arith}
+use Rattle.std.proofs.Common.{sym, ◌∙◌, arith}
 use Rattle.std.proofs.lemmas.Result.{err_from_is_err_and}
 use Rattle.cql_parse.specs.Classes.{is_term}
 use Rattle.cql_parse.specs.Lexemes.{lexemes, starts}
 use Rattle.cql_parse.specs.Grammar.{IsKey}
-use Rattle.cql_parse.proofs.Repeating.{Reading_start, Reading_more, Reading_done, Reading_stuck}
+use Rattle.cql_parse.proofs.Repeating.{Reading_more, Reading_done}
 use Rattle.cql_parse.proofs.Sure.{IsKey_sure}
 use Rattle.cql_parse.proofs.Finding.{Finds_stuck, front_some, front_none}
 use Rattle.cql_parse.proofs.clauses.due_keys.Goals as goal

@@ -1,6 +1,5 @@
-use Rattle.std.proofs.Common.{◌≡◌, ◌∷◌, sym, ◌∙◌, subst}
 use Rattle.std.proofs.lemmas.Result.{err_from_is_err_and}
-use Rattle.cql_parse.specs.Lexemes.{lexemes, Lexeme}
+use Rattle.cql_parse.specs.Lexemes.{lexemes}
 use Rattle.cql_parse.specs.Grammar.{IsKey, AreModifiers}
 use Rattle.cql_parse.specs.Answers.{lexeme_in}
 use Rattle.cql_parse.proofs.Finding.{Finds_err, key_modifiers}

@@ -1,4 +1,4 @@
-use Rattle.std.proofs.Common.{◌≡◌, ℕ, List, ◌∷◌, Option, sym, ◌∙◌, ap}
+use Rattle.std.proofs.Common.{ℕ, List, ◌∷◌, Option, sym, ◌∙◌, ap}
 use Rattle.std.proofs.lemmas.Result.{err_from_is_err_and}
 use Rattle.cql_parse.specs.Classes.{is_equal}
 use Rattle.cql_parse.specs.Lexemes.{Lexeme, lexemes}

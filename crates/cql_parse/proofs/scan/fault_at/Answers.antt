@@ -1,9 +1,9 @@
-use Rattle.std.proofs.Common.{◌≡◌, ◌∷◌, List, ◌+◌, ◌-◌, ◌≤◌, ℕ, length, option_map, sym, ◌∙◌, ap, subst, arith}
+use Rattle.std.proofs.Common.{◌≡◌, ◌∷◌, List, ◌+◌, ◌-◌, ℕ, length, option_map, sym, ◌∙◌, subst, arith}
 use Rattle.cql_parse.specs.declared.scan.Phase.TheVariants.{Clause}
 use Rattle.cql_parse.specs.Lexemes.{Lexeme, lexemes}
 use Rattle.cql_parse.specs.Phases.{fault_at}
 use Rattle.cql_parse.specs.Answers.{lexeme_in}
-use Rattle.cql_parse.proofs.Faults.{fault_more, rest_len, fault_some}
+use Rattle.cql_parse.proofs.Faults.{fault_more, rest_len}
 use Rattle.cql_parse.proofs.scan.fault_at.Goals as goal
 
 pub tokens-preserved : goal.tokens-preserved

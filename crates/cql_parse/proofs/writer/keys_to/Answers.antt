@@ -1,4 +1,4 @@
-use Rattle.std.proofs.Common.{◌≡◌, sym, ◌∙◌, arith}
+use Rattle.std.proofs.Common.{◌∙◌, arith}
 use Rattle.cql_parse.proofs.Writing.{keys_more}
 use Rattle.cql_parse.proofs.writer.keys_to.Goals as goal
 

@@ -1,4 +1,4 @@
-use Rattle.std.proofs.Common.{◌≡◌, ℕ, List, ◌++◌, ap, ◌∙◌, arith}
+use Rattle.std.proofs.Common.{ℕ, List, ◌++◌, ap, ◌∙◌, arith}
 use Rattle.cql_parse.proofs.Writing.{modifiers_more}
 use Rattle.cql_parse.proofs.writer.modifiers_to.Goals as goal
 
