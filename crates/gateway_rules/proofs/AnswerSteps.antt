@@ -32,9 +32,9 @@ at_false P Q false e q = q
 
 -- a request is answered, and the session goes on
 pub answered : {W : Type 0} (w : world.Ghosts W) (route : Route) (state : ClientState) (at : ℕ) (unit more : List ℕ) (request : Request) (marks : List Mark) (out : List ℕ) (end : End)
-  → IsDefiniteFrame unit → Reads unit request → is_in_place state request ≡ true → is_close request ≡ false
-  → AnswersFrom w route (state_after state request) (at + length unit) more marks out end
-  → AnswersFrom w route state at (unit ++ more) (Plain ∷ marks) (spell_reply (reply_to w route request plain) ++ out) end
+    → IsDefiniteFrame unit → Reads unit request → is_in_place state request ≡ true → is_close request ≡ false
+    → AnswersFrom w route (state_after state request) (at + length unit) more marks out end
+    → AnswersFrom w route state at (unit ++ more) (Plain ∷ marks) (spell_reply (reply_to w route request plain) ++ out) end
 answered w route state at unit more request marks out end frame read place open_ a = record {
   units = unit ∷ a.units;
   rest = a.rest;
@@ -52,8 +52,8 @@ answered w route state at unit more request marks out end frame read place open_
 
 -- a Close is answered, and ends the session
 pub closed : {W : Type 0} (w : world.Ghosts W) (route : Route) (state : ClientState) (at : ℕ) (unit more : List ℕ) (request : Request)
-  → IsDefiniteFrame unit → Reads unit request → is_in_place state request ≡ true → is_close request ≡ true
-  → AnswersFrom w route state at (unit ++ more) (Plain ∷ []) (spell_reply (reply_to w route request plain)) Closed
+    → IsDefiniteFrame unit → Reads unit request → is_in_place state request ≡ true → is_close request ≡ true
+    → AnswersFrom w route state at (unit ++ more) (Plain ∷ []) (spell_reply (reply_to w route request plain)) Closed
 closed w route state at unit more request frame read place closes = record {
   units = unit ∷ [];
   rest = more;
@@ -71,8 +71,8 @@ closed w route state at unit more request frame read place closes = record {
 
 -- a bad unit ends the session with a protocol error
 pub refused : {W : Type 0} (w : world.Ghosts W) (route : Route) (state : ClientState) (at : ℕ) (unit more : List ℕ)
-  → IsDefiniteFrame unit → IsRefused state unit
-  → AnswersFrom w route state at (unit ++ more) [] (spell_reply protocol_error) (Malformed at)
+    → IsDefiniteFrame unit → IsRefused state unit
+    → AnswersFrom w route state at (unit ++ more) [] (spell_reply protocol_error) (Malformed at)
 refused w route state at unit more frame (inl unread) = record {
   units = unit ∷ [];
   rest = more;
@@ -104,7 +104,7 @@ refused w route state at unit more frame (inr (request, read, misplaced)) = reco
 
 -- the rest of the octets is no unit, and ends the connection
 pub rested : {W : Type 0} (w : world.Ghosts W) (route : Route) (state : ClientState) (at : ℕ) (rest : List ℕ) (tail : List Reply) (end : End)
-  → RestEnds at rest tail end → AnswersFrom w route state at rest [] (flat_map spell_reply tail) end
+    → RestEnds at rest tail end → AnswersFrom w route state at rest [] (flat_map spell_reply tail) end
 rested w route state at rest tail end ends = record {
   units = [];
   rest = rest;

@@ -29,9 +29,9 @@ HasEnded state at [] [] rest tail end = RestEnds at rest tail end
 HasEnded state at (unit ∷ units) (None ∷ readings) rest tail end = (units ≡ []) × (readings ≡ []) × (tail ≡ []) × (end ≡ Malformed at)
 HasEnded state at (unit ∷ units) (Some request ∷ readings) rest tail end =
     MatchBool (is_in_place state request)
-      (MatchBool (is_close request)
-        ((units ≡ []) × (readings ≡ []) × (tail ≡ []) × (end ≡ Closed))
-        (HasEnded (state_after state request) (at + length unit) units readings rest tail end))
-      ((units ≡ []) × (readings ≡ []) × (tail ≡ []) × (end ≡ Malformed at))
+    (MatchBool (is_close request)
+    ((units ≡ []) × (readings ≡ []) × (tail ≡ []) × (end ≡ Closed))
+    (HasEnded (state_after state request) (at + length unit) units readings rest tail end))
+    ((units ≡ []) × (readings ≡ []) × (tail ≡ []) × (end ≡ Malformed at))
 HasEnded state at [] (reading ∷ readings) rest tail end = ⊥
 HasEnded state at (unit ∷ units) [] rest tail end = ⊥

@@ -42,23 +42,23 @@ frame-some frame h =
 
 -- a request that ends nothing: the rest is answered behind its reply
 pub went : {W : Type 0} (w : world.Ghosts W) (route : Route) (before now : Bool) (at size : ℕ) (bytes old new out : List ℕ) (marks : List Mark) (end : End)
-  → size ≤ length (drop at bytes) → IsDefiniteFrame (take size (drop at bytes))
-  → IsReplied w route (record { accepted = before }) (take size (drop at bytes)) old new (became.Went now)
-  → AnswersFrom w route (record { accepted = now }) (at + size) (drop (at + size) bytes) marks out end
-  → (reply : List ℕ) × (new ≡ old ++ reply) × AnswersFrom w route (record { accepted = before }) at (drop at bytes) (Plain ∷ marks) (reply ++ out) end
+    → size ≤ length (drop at bytes) → IsDefiniteFrame (take size (drop at bytes))
+    → IsReplied w route (record { accepted = before }) (take size (drop at bytes)) old new (became.Went now)
+    → AnswersFrom w route (record { accepted = now }) (at + size) (drop (at + size) bytes) marks out end
+    → (reply : List ℕ) × (new ≡ old ++ reply) × AnswersFrom w route (record { accepted = before }) at (drop at bytes) (Plain ∷ marks) (reply ++ out) end
 went w route before now at size bytes old new out marks end within frame r a =
     let unit = take size (drop at bytes) in
     let more = drop (at + size) bytes in
     let state : ClientState = record { accepted = before } in
     let from : AnswersFrom w route (state_after state r.request) (at + length unit) more marks out end =
-        subst (λ n. AnswersFrom w route (state_after state r.request) (at + n) more marks out end) (sym (length-cut bytes at size within)) (subst (λ b. AnswersFrom w route (record { accepted = b }) (at + size) more marks out end) r.replied.2 a) in
+    subst (λ n. AnswersFrom w route (state_after state r.request) (at + n) more marks out end) (sym (length-cut bytes at size within)) (subst (λ b. AnswersFrom w route (record { accepted = b }) (at + size) more marks out end) r.replied.2 a) in
     let whole = answered w route state at unit more r.request marks out end frame r.read r.replied.0 r.replied.1 from in
     (spell_reply (reply_to w route r.request plain), r.replied.3, subst (λ x. AnswersFrom w route state at x (Plain ∷ marks) (spell_reply (reply_to w route r.request plain) ++ out) end) (cut_at bytes at size) whole)
 
 pub was_closed : {W : Type 0} (w : world.Ghosts W) (route : Route) (before : Bool) (at size : ℕ) (bytes old new : List ℕ)
-  → IsDefiniteFrame (take size (drop at bytes))
-  → IsReplied w route (record { accepted = before }) (take size (drop at bytes)) old new became.Closed
-  → (reply : List ℕ) × (new ≡ old ++ reply) × AnswersFrom w route (record { accepted = before }) at (drop at bytes) (Plain ∷ []) reply Closed
+    → IsDefiniteFrame (take size (drop at bytes))
+    → IsReplied w route (record { accepted = before }) (take size (drop at bytes)) old new became.Closed
+    → (reply : List ℕ) × (new ≡ old ++ reply) × AnswersFrom w route (record { accepted = before }) at (drop at bytes) (Plain ∷ []) reply Closed
 was_closed w route before at size bytes old new frame r =
     let unit = take size (drop at bytes) in
     let more = drop (at + size) bytes in
@@ -67,8 +67,8 @@ was_closed w route before at size bytes old new frame r =
     (spell_reply (reply_to w route r.request plain), r.replied.2, subst (λ x. AnswersFrom w route state at x (Plain ∷ []) (spell_reply (reply_to w route r.request plain)) Closed) (cut_at bytes at size) whole)
 
 pub was_refused : {W : Type 0} (w : world.Ghosts W) (route : Route) (before : Bool) (at size : ℕ) (bytes : List ℕ)
-  → IsDefiniteFrame (take size (drop at bytes)) → IsRefused (record { accepted = before }) (take size (drop at bytes))
-  → AnswersFrom w route (record { accepted = before }) at (drop at bytes) [] (spell_reply protocol_error) (Malformed at)
+    → IsDefiniteFrame (take size (drop at bytes)) → IsRefused (record { accepted = before }) (take size (drop at bytes))
+    → AnswersFrom w route (record { accepted = before }) at (drop at bytes) [] (spell_reply protocol_error) (Malformed at)
 was_refused w route before at size bytes frame r =
     subst (λ x. AnswersFrom w route (record { accepted = before }) at x [] (spell_reply protocol_error) (Malformed at)) (cut_at bytes at size) (refused w route (record { accepted = before }) at (take size (drop at bytes)) (drop (at + size) bytes) frame r)
 
@@ -106,8 +106,8 @@ unit_at bytes at size = let n : at + size - at ≡ size = omega arith in ap (λ 
 
 -- answers to all octets, with the marks and octets that were put together
 pub joined : {W : Type 0} (w : world.Ghosts W) (route : Route) (state : ClientState) (at : ℕ) (bytes old new reply out : List ℕ) (before after marks : List Mark) (end : End)
-  → after ≡ before ++ Plain ∷ [] → new ≡ old ++ reply
-  → AnswersFrom w route state at bytes (before ++ Plain ∷ marks) (old ++ (reply ++ out)) end → AnswersFrom w route state at bytes (after ++ marks) (new ++ out) end
+    → after ≡ before ++ Plain ∷ [] → new ≡ old ++ reply
+    → AnswersFrom w route state at bytes (before ++ Plain ∷ marks) (old ++ (reply ++ out)) end → AnswersFrom w route state at bytes (after ++ marks) (new ++ out) end
 joined w route state at bytes old new reply out before after marks end e f a =
     let m : before ++ Plain ∷ marks ≡ after ++ marks = sym (append_assoc before (Plain ∷ []) marks) ∙ ap (λ x. x ++ marks) (sym e) in
     let o : old ++ (reply ++ out) ≡ new ++ out = sym (append_assoc old reply out) ∙ ap (λ x. x ++ out) (sym f) in
@@ -115,12 +115,12 @@ joined w route state at bytes old new reply out before after marks end e f a =
 
 -- answers that end without a mark
 pub unmarked : {W : Type 0} (w : world.Ghosts W) (route : Route) (state : ClientState) (at : ℕ) (bytes out new : List ℕ) (marks : List Mark) (end : End)
-  → new ≡ out → AnswersFrom w route state at bytes (marks ++ []) out end → AnswersFrom w route state at bytes marks new end
+    → new ≡ out → AnswersFrom w route state at bytes (marks ++ []) out end → AnswersFrom w route state at bytes marks new end
 unmarked w route state at bytes out new marks end e a =
     subst (λ x. AnswersFrom w route state at bytes marks x end) (sym e) (subst (λ x. AnswersFrom w route state at bytes x out end) (append-nil marks) a)
 
 -- answers that end with a mark
 pub marked : {W : Type 0} (w : world.Ghosts W) (route : Route) (state : ClientState) (at : ℕ) (bytes out new : List ℕ) (marks after : List Mark) (end : End)
-  → new ≡ out → after ≡ marks → AnswersFrom w route state at bytes marks out end → AnswersFrom w route state at bytes after new end
+    → new ≡ out → after ≡ marks → AnswersFrom w route state at bytes marks out end → AnswersFrom w route state at bytes after new end
 marked w route state at bytes out new marks after end e f a =
     subst (λ x. AnswersFrom w route state at bytes after x end) (sym e) (subst (λ x. AnswersFrom w route state at bytes x out end) (sym f) a)

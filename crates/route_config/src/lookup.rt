@@ -11,11 +11,10 @@ use z_types::Address;
 pub fn database_named<'a>(route: &'a Route, name: &[u8]) -> Option<&'a Database>
     ensures { option_copied result ≡ database_named route.now name.now }
 {
-    route
-        .databases
+    route.databases.as_slice().iter().find(|database| database
+        .name
         .as_slice()
-        .iter()
-        .find(|database| database.name.as_slice().eq_ignore_ascii_case(name))
+        .eq_ignore_ascii_case(name))
 }
 
 /// The address of the first member of the class at a place.

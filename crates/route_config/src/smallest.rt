@@ -8,7 +8,8 @@ use std::alloc::Global;
 use z_types::{Address, Limits, List, Memory, Schema, Text};
 
 /// The text of the smallest configuration, each line ended by LF.
-const SMALLEST_TEXT: &[u8] = b"[[target]]\nname = \"alpha\"\naddress = \"test:0\"\n\n[[database]]\nname = \"Default\"\n\n[[database.leg]]\nvia = \"alpha\"\ndatabases = [\"Default\"]\n";
+const SMALLEST_TEXT: &[u8] =
+    b"[[target]]\nname = \"alpha\"\naddress = \"test:0\"\n\n[[database]]\nname = \"Default\"\n\n[[database.leg]]\nvia = \"alpha\"\ndatabases = [\"Default\"]\n";
 
 /// The route of a configuration's octets. So far only the smallest configuration is read, and
 /// every other is refused as `Stage`.

@@ -22,13 +22,13 @@ loop-at-preserved g c =
     let state : ClientState = record { accepted = c.loop-at.accepted } in
     let frame = frame_at b at size c.in-Whole.ensures in
     let r : IsReplied g.T.World c.args.route.now state (take size (drop at b)) c.loop-at.out c.answer_unit.new.out (became.Went c.in-Went.now_accepted) =
-        subst (λ u. IsReplied g.T.World c.args.route.now state u c.loop-at.out c.answer_unit.new.out (became.Went c.in-Went.now_accepted)) (unit_at b at size) (rw c.in-Went.is at c.in_ok-now_accepted-in-Whole.ensures) in
+    subst (λ u. IsReplied g.T.World c.args.route.now state u c.loop-at.out c.answer_unit.new.out (became.Went c.in-Went.now_accepted)) (unit_at b at size) (rw c.in-Went.is at c.in_ok-now_accepted-in-Whole.ensures) in
     record {
       within = omega (arith, frame.0, length-drop at b, c.loop-at.invariant.within);
       all_plain = rw c.in_ok-push-in-Went.ensures.ok (plain_more _ c.loop-at.invariant.all_plain);
       goes_on = λ marks out end a.
-        let w = went g.T.World c.args.route.now c.loop-at.accepted c.in-Went.now_accepted at size b c.loop-at.out c.answer_unit.new.out out marks end frame.0 frame.1 r a in
-        joined g.T.World c.args.route.now unknown_client 0 b c.loop-at.out c.answer_unit.new.out w.0 out c.loop-at.marks c.push.new.self marks end c.in_ok-push-in-Went.ensures.ok w.1 (c.loop-at.invariant.goes_on (Plain ∷ marks) (w.0 ++ out) end w.2);
+          let w = went g.T.World c.args.route.now c.loop-at.accepted c.in-Went.now_accepted at size b c.loop-at.out c.answer_unit.new.out out marks end frame.0 frame.1 r a in
+          joined g.T.World c.args.route.now unknown_client 0 b c.loop-at.out c.answer_unit.new.out w.0 out c.loop-at.marks c.push.new.self marks end c.in_ok-push-in-Went.ensures.ok w.1 (c.loop-at.invariant.goes_on (Plain ∷ marks) (w.0 ++ out) end w.2);
     }
 
 pub returns-in-Closed : goal.returns-in-Closed
@@ -39,7 +39,7 @@ returns-in-Closed g c =
     let state : ClientState = record { accepted = c.loop-at.accepted } in
     let frame = frame_at b at size c.in-Whole.ensures in
     let r : IsReplied g.T.World c.args.route.now state (take size (drop at b)) c.loop-at.out c.answer_unit.new.out became.Closed =
-        subst (λ u. IsReplied g.T.World c.args.route.now state u c.loop-at.out c.answer_unit.new.out became.Closed) (unit_at b at size) (rw c.in-Closed.is at c.in_ok-now_accepted-in-Whole.ensures) in
+    subst (λ u. IsReplied g.T.World c.args.route.now state u c.loop-at.out c.answer_unit.new.out became.Closed) (unit_at b at size) (rw c.in-Closed.is at c.in_ok-now_accepted-in-Whole.ensures) in
     let w = was_closed g.T.World c.args.route.now c.loop-at.accepted at size b c.loop-at.out c.answer_unit.new.out frame.1 r in
     record {
       same_number = refl;
