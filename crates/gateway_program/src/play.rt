@@ -1,0 +1,95 @@
+//! A script, read and played.
+
+ghost use Rattle.std.specs.Prelude.{◌≤◌, length, Some};
+ghost use Rattle.gateway_program.specs.Outcome.{IsRefusal, Played, ScriptPlayed, ScriptDone};
+
+use crate::say::{fault_line, say, script_line};
+use crate::status::Status;
+use gw_outside::{FileGot, Files, Sink, Targets, write_all};
+use replay::{print, run};
+use route_config::Route;
+use script::{Event, ScriptFault, read_script};
+use std::alloc::Global;
+use z_types::{List, Text};
+
+/// The most octets of a script.
+const SCRIPT_LIMIT: usize = 16_777_216;
+
+/// Plays the script of a name.
+pub(crate) fn play_script<T: Targets, F: Files, K: Sink>(
+    alloc: Global,
+    route: &Route,
+    targets: &T,
+    files: &mut F,
+    name: &Text,
+    out: &mut K,
+) -> Status
+    ensures { ScriptDone T.World route.now name.now (record { told = F.told files.old; faults = F.faults files.old; faults_after = F.faults files.new }) (record { old = K.received out.old; new = K.received out.new; faults = K.faults out.old; faults_after = K.faults out.new }) result }
+{
+    match files.read_all(alloc, name, SCRIPT_LIMIT) {
+        FileGot::Whole(text) => play_text(alloc, route, targets, text.as_slice(), out),
+        FileGot::Longer => refuse(alloc, out, 0),
+        FileGot::Failed => match fault_line(alloc, name) {
+            Ok(line) => {
+                say(out, line.as_slice());
+                Status::ReadFault
+            }
+            Err(_) => Status::Memory,
+        },
+        FileGot::Memory => Status::Memory,
+    }
+}
+
+/// Plays a script of these octets.
+fn play_text<T: Targets, K: Sink>(
+    alloc: Global,
+    route: &Route,
+    targets: &T,
+    text: &[u8],
+    out: &mut K,
+) -> Status
+    ensures { ScriptPlayed T.World route.now (Some text.now) (record { old = K.received out.old; new = K.received out.new; faults = K.faults out.old; faults_after = K.faults out.new }) result }
+{
+    match read_script(alloc, text) {
+        Ok(events) => play(alloc, route, targets, &events, out),
+        Err(ScriptFault::Line(number)) => refuse(alloc, out, number),
+        Err(ScriptFault::Memory) => Status::Memory,
+    }
+}
+
+/// Refuses a script at a line.
+fn refuse<K: Sink>(alloc: Global, out: &mut K, number: u64) -> Status
+    ensures { IsRefusal number (record { old = K.received out.old; new = K.received out.new; faults = K.faults out.old; faults_after = K.faults out.new }) result }
+{
+    match script_line(alloc, number) {
+        Ok(line) => {
+            say(out, line.as_slice());
+            Status::Script
+        }
+        Err(_) => Status::Memory,
+    }
+}
+
+/// Plays events, and prints the page of their report.
+fn play<T: Targets, K: Sink>(
+    alloc: Global,
+    route: &Route,
+    targets: &T,
+    events: &List<Event>,
+    out: &mut K,
+) -> Status
+    requires { length events.now ≤ 1 }
+    ensures { Played T.World route.now events.now (record { old = K.received out.old; new = K.received out.new; faults = K.faults out.old; faults_after = K.faults out.new }) result }
+{
+    let Ok(report) = run(alloc, route, targets, events) else {
+        return Status::Memory;
+    };
+    let Ok(text) = print(alloc, &report) else {
+        return Status::Memory;
+    };
+    if write_all(out, text.as_slice()) {
+        Status::Ok
+    } else {
+        Status::WriteFault
+    }
+}
