@@ -76,12 +76,12 @@ ReplayDone w config script r p other = IfSome (r.told config) (λ text. text ≡
 
 -- Words exactly where the words are no command
 abbrev pub CommandDone : {W : Type 0} → world.Ghosts W → Option (List ℕ × List ℕ) → Reads → Print → Status → Type 0
-CommandDone w None r p status = (status ≡ status.Words) × Says p.old p.new p.faults p.faults_after usage_line
-CommandDone w (Some (config, script)) r p status = ReplayDone w config script r p status
+CommandDone w None r p ended = (ended ≡ status.Words) × Says p.old p.new p.faults p.faults_after usage_line
+CommandDone w (Some (config, script)) r p ended = ReplayDone w config script r p ended
 
 -- what the program did
 abbrev pub IsDone : {W : Type 0} → world.Ghosts W → List (List ℕ) → Reads → Print → Status → Type 0
-IsDone w words r p status = CommandDone w (command_of words) r p status
+IsDone w words r p ended = CommandDone w (command_of words) r p ended
 
 -- a script is refused at a line, which is printed, or no memory could be had
 abbrev pub IsRefusal : ℕ → Print → Status → Type 0

@@ -26,5 +26,5 @@ pub(crate) fn command_of(words: &[Text]) -> Option<(&Text, &Text)>
 fn is_replay(word: &Text) -> bool
     ensures { result ≡ is_replay word.now }
 {
-    word.as_slice() == b"replay"
+    word.as_slice() == b"replay".as_slice()
 }

@@ -2,11 +2,16 @@
 #![tactic(auto)]
 
 mod command;
+mod files;
+mod output;
 mod play;
+mod program;
 mod say;
 mod status;
 mod top;
 
-fn main(rt: HostRuntime) {
-    let _ = rt.alloc();
+use std::process::ExitCode;
+
+fn main(rt: HostRuntime) -> ExitCode {
+    program::run(&rt)
 }
