@@ -8,6 +8,8 @@ mod play;
 mod program;
 mod say;
 mod status;
+#[cfg(test)]
+mod tests;
 mod top;
 
 use std::process::ExitCode;
