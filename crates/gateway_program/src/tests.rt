@@ -5,6 +5,7 @@ ghost use Rattle.std.specs.Prelude.{◌≢◌, ℕ, List, [], ◌∷◌, Some, N
 ghost use lib.Pointwise.{pointwise};
 ghost use Rattle.gw_outside.specs.Files.{FileFits};
 
+use crate::program::{HELP, command};
 use crate::status::Status;
 use crate::top::top;
 use gw_outside::{FileGot, Files, Sink, Took};
@@ -243,6 +244,26 @@ fn each_status_comes_with_its_line(rt: HostRuntime) -> Result<(), Fail> {
         ends(alloc, &run, CONFIG, b"", 5, Status::WriteFault, b"clien")?,
         "a write that fails"
     );
+    Ok(())
+}
+
+/// Whether one word, over the system's files, ends well and prints this.
+fn tells(runtime: &HostRuntime, word: &str, printed: &[u8]) -> Result<bool, Memory> {
+    let alloc = runtime.alloc();
+    let words = [Text::copy_of(alloc, word.as_bytes())?];
+    let mut out = FakeSink {
+        received: Vec::new(alloc),
+        room: 1000,
+        faults: 0,
+    };
+    let status = command(alloc, runtime, &words, &mut out);
+    Ok(status == Status::Ok && out.received.as_slice() == printed)
+}
+
+#[test]
+fn the_program_tells_of_itself(rt: HostRuntime) -> Result<(), Fail> {
+    assert!(rt; tells(&rt, "--help", HELP)?, "help");
+    assert!(rt; tells(&rt, "--version", b"zaklumen 0.1.0\n")?, "version");
     Ok(())
 }
 

@@ -19,7 +19,7 @@ const CONFIG_LIMIT: usize = 262_144;
 
 /// Does what the words after the program's name say, and answers how it ended. It prints only when
 /// its work is done. The words are refused first, then the configuration, then the script.
-pub(crate) fn top<T: Targets, F: Files, K: Sink>(
+pub fn top<T: Targets, F: Files, K: Sink>(
     alloc: Global,
     words: &[Text],
     files: &mut F,
