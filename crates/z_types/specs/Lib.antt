@@ -10,9 +10,11 @@ pub mod Diagnostic
 pub mod Address
 pub mod Key
 pub mod Scan
+pub mod Limits
 pub mod Marks
 pub mod Memory
 pub mod Records
 pub mod Asked
 pub mod Requests
 pub mod Replies
+pub mod Schema

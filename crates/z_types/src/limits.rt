@@ -1,5 +1,9 @@
 //! What one connection may use (this project's own).
 
+ghost use Rattle.z_types.specs.Limits.{limits_exact};
+
+use crate::Exact;
+
 /// The most that one connection may use.
 #[derive(Clone, Copy, PartialEq, Eq, Debug)]
 pub struct Limits {
@@ -11,4 +15,10 @@ pub struct Limits {
     pub records: u32,
     /// Result sets at a time, 1 to 1000.
     pub sets: u32,
+}
+
+impl Exact for Limits {
+    ghost exact_eq = { limits_exact };
+
+    ghost exact_clone = { λ a b h. h };
 }

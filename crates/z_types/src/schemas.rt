@@ -1,6 +1,8 @@
 //! Record schemas of SRU (SRU 1.2, recordSchema).
 
-use crate::Text;
+ghost use Rattle.z_types.specs.Schema.{schema_exact, schema_cloned};
+
+use crate::{Exact, Text};
 
 /// A schema that an SRU client can ask for. Its texts have 1 to 128 octets.
 #[derive(PartialEq, Eq, Clone, Drop)]
@@ -11,4 +13,10 @@ pub struct Schema {
     pub uri: Text,
     /// The element set name that targets give its records under.
     pub element: Text,
+}
+
+impl Exact for Schema {
+    ghost exact_eq = { schema_exact };
+
+    ghost exact_clone = { schema_cloned };
 }

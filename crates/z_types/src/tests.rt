@@ -454,6 +454,46 @@ impl Sample for End {
     }
 }
 
+impl Sample for Limits {
+    const COUNT: u8 = 5;
+
+    fn sample(_: Global, which: u8) -> Result<Limits, Memory> {
+        let mut limits = Limits {
+            units: 1,
+            searches: 1,
+            records: 1,
+            sets: 1,
+        };
+        match which {
+            1 => limits.units = 2,
+            2 => limits.searches = 2,
+            3 => limits.records = 2,
+            4 => limits.sets = 2,
+            _ => {}
+        }
+        Ok(limits)
+    }
+}
+
+impl Sample for Schema {
+    const COUNT: u8 = 4;
+
+    fn sample(alloc: Global, which: u8) -> Result<Schema, Memory> {
+        let mut schema = Schema {
+            name: text(alloc, b"dc")?,
+            uri: text(alloc, b"dc")?,
+            element: text(alloc, b"dc")?,
+        };
+        match which {
+            1 => schema.name = text(alloc, b"mods")?,
+            2 => schema.uri = text(alloc, b"mods")?,
+            3 => schema.element = text(alloc, b"mods")?,
+            _ => {}
+        }
+        Ok(schema)
+    }
+}
+
 #[test]
 fn each_sample_equals_its_copy_and_no_other_sample(rt: HostRuntime) -> Result<(), Fail> {
     let alloc = rt.alloc();
@@ -477,6 +517,8 @@ fn each_sample_equals_its_copy_and_no_other_sample(rt: HostRuntime) -> Result<()
     assert!(rt; all_differ::<Reply>(alloc)?, "replies");
     assert!(rt; all_differ::<Mark>(alloc)?, "marks");
     assert!(rt; all_differ::<End>(alloc)?, "ends");
+    assert!(rt; all_differ::<Limits>(alloc)?, "limits");
+    assert!(rt; all_differ::<Schema>(alloc)?, "schemas");
     Ok(())
 }
 
