@@ -1,7 +1,7 @@
 -- Where elements of indefinite length end: what is found is so, and each fault comes where it is due.
 use Rattle.std.proofs.Common.{◌≡◌, ◌∙◌, ◌≢◌, ◌⊎◌, ℕ, ◌-◌, ◌<◌, zero, suc, inl, inr, List, [], ◌∷◌, ◌++◌, length, Some, None, Result, Ok, Err, sym, ap, subst, append_assoc, arith, refl}
 use Rattle.std.specs.List.{flat_map, AllByRecursion}
-use Rattle.std.proofs.lemmas.List.{length-append, append-nil, append_cancel_left}
+use Rattle.std.proofs.lemmas.List.{length-append, append_cancel_left}
 use Rattle.z_ber.specs.declared.fault.BerFault.{BerFault}
 use Rattle.z_ber.specs.declared.fault.BerFault.TheVariants.{Short, BadTag, BadLength, TooLarge, TooDeep}
 use Rattle.z_ber.specs.declared.step.Step.{Step}
@@ -60,10 +60,10 @@ abbrev pub Closes : ℕ → ℕ → List ℕ → List ℕ → Type 0
 Closes zero room bytes rest = bytes ≡ rest
 Closes (suc opened) room bytes rest = ClosesOne room (λ after. Closes opened (suc room) after rest) bytes
 
-closes_end : (o room : ℕ) (bytes after rest : List ℕ) → bytes ≡ end_of_contents ++ after → Closes o (suc room) after rest → Closes (suc o) room bytes rest
+pub closes_end : (o room : ℕ) (bytes after rest : List ℕ) → bytes ≡ end_of_contents ++ after → Closes o (suc room) after rest → Closes (suc o) room bytes rest
 closes_end o room bytes after rest e c = record { frames = []; after = after; each = tt; spelled = e; behind = c }
 
-closes_frame : (o room : ℕ) (bytes f after rest : List ℕ) → Inner room f → bytes ≡ f ++ after → Closes (suc o) room after rest → Closes (suc o) room bytes rest
+pub closes_frame : (o room : ℕ) (bytes f after rest : List ℕ) → Inner room f → bytes ≡ f ++ after → Closes (suc o) room after rest → Closes (suc o) room bytes rest
 closes_frame o room bytes f after rest i e c = record {
   frames = f ∷ c.frames;
   after = c.after;
@@ -75,7 +75,7 @@ closes_frame o room bytes f after rest i e c = record {
 indefinite_apart : (k : ℕ) (f b : List ℕ) (t : Tag) → Indefinite k f t b → f ≢ end_of_contents
 indefinite_apart k f b t d e = head_apart d.head t (b ++ end_of_contents) [] d.header (sym (append_assoc d.head b end_of_contents) ∙ sym d.spelled ∙ e)
 
-closes_open : (o k : ℕ) (bytes head after rest : List ℕ) (t : Tag) → IsHeader head t None → bytes ≡ head ++ after → Closes (suc (suc o)) k after rest → Closes (suc o) (suc k) bytes rest
+pub closes_open : (o k : ℕ) (bytes head after rest : List ℕ) (t : Tag) → IsHeader head t None → bytes ≡ head ++ after → Closes (suc (suc o)) k after rest → Closes (suc o) (suc k) bytes rest
 closes_open o k bytes head after rest t h e c =
     let f : List ℕ = (head ++ joined c.frames) ++ end_of_contents in
     let d : Indefinite k f t (joined c.frames) = record { head = head; header = h; frames = c.frames; each = c.each; inside = refl; spelled = refl } in
@@ -93,7 +93,7 @@ ok_one x y r p q = cc
 pub ok_err : {P : Type 0} (x : List ℕ) (e : BerFault) (r : Result (List ℕ) BerFault) → r ≡ Ok x → r ≡ Err e → P
 ok_err x e r p q = absurd cc
 
-err_one : (d e : BerFault) (r : Result (List ℕ) BerFault) → r ≡ Err d → r ≡ Err e → d ≡ e
+pub err_one : (d e : BerFault) (r : Result (List ℕ) BerFault) → r ≡ Err d → r ≡ Err e → d ≡ e
 err_one d e r p q = cc
 
 pub bytes_of : (b x y : List ℕ) → IsBytes b → b ≡ x ++ y → IsBytes y
@@ -122,7 +122,7 @@ close_at-sound (suc n) rest (suc o) r b fits e = sound_step n o r b rest fits (c
 -- ---- what is so is found
 
 -- what elements that close begin with: the end of contents, a definite element, or an indefinite header
-data Peeled (o : ℕ) (room : ℕ) (bytes rest : List ℕ) : Type 0 where
+pub data Peeled (o : ℕ) (room : ℕ) (bytes rest : List ℕ) : Type 0 where
   peel_end : (after : List ℕ) → bytes ≡ end_of_contents ++ after → Closes o (suc room) after rest → Peeled o room bytes rest
   peel_whole : (level : ℕ) (frame body after : List ℕ) (t : Tag) → room ≡ suc level → IsDefinite frame t body → frame ≢ end_of_contents → bytes ≡ frame ++ after → Closes (suc o) room after rest → Peeled o room bytes rest
   peel_open : (level : ℕ) (head after : List ℕ) (t : Tag) → room ≡ suc level → IsHeader head t None → bytes ≡ head ++ after → Closes (suc (suc o)) level after rest → Peeled o room bytes rest
@@ -148,7 +148,7 @@ peel_frames o (suc k) bytes rest after (f ∷ fs) each e c =
     regroup : (a b c d : List ℕ) → ((a ++ b) ++ c) ++ d ≡ a ++ (b ++ (c ++ d))
     regroup a b c d = append_assoc (a ++ b) c d ∙ append_assoc a b (c ++ d)
 
-peel : (o room : ℕ) (bytes rest : List ℕ) → Closes (suc o) room bytes rest → Peeled o room bytes rest
+pub peel : (o room : ℕ) (bytes rest : List ℕ) → Closes (suc o) room bytes rest → Peeled o room bytes rest
 peel o room bytes rest c = peel_frames o room bytes rest c.after c.frames c.each c.spelled c.behind
 
 abbrev Complete : ℕ → List ℕ → Type 0
@@ -190,7 +190,7 @@ whole_open f h c x y s t p q e =
     let one = heads_one p.head h s t (Some (length c)) None (c ++ x) y p.header q (sym (append_assoc p.head c x) ∙ ap (λ o. o ++ x) (sym p.spelled) ∙ e) in
     none_some (length c) None refl (sym one.1)
 
-behind_more : (b f after more : List ℕ) → b ≡ f ++ after → b ++ more ≡ f ++ (after ++ more)
+pub behind_more : (b f after more : List ℕ) → b ≡ f ++ after → b ++ more ≡ f ++ (after ++ more)
 behind_more b f after more e = ap (λ o. o ++ more) e ∙ append_assoc f after more
 
 stuck : (o r : ℕ) (b more rest : List ℕ) → IsStuck r b → Peeled o r (b ++ more) rest → ⊥
@@ -199,84 +199,76 @@ stuck o r b more rest s (peel_whole k frame body after t room p apart e c) =
     s.1 k room (more, (p.head, body ++ after, (t, Some (length body), p.header), e ∙ ap (λ x. x ++ after) p.spelled ∙ append_assoc p.head body after))
 stuck o r b more rest s (peel_open k head after t room p e c) = s.1 k room (more, (head, after, (t, None, p), e))
 
-none_step : (n o r : ℕ) (b : List ℕ) (d : BerFault) → d ≢ Short → IsBytes b → NoClosing n → (s : Result (Step × List ℕ) BerFault) → StepRead r b s → close_on (close_at n) o r s ≡ Err d → (more rest : List ℕ) → Peeled o r (b ++ more) rest → ⊥
-none_step n o r b d long fits ih (Ok (End, after)) h e more rest (peel_end after' e' c) =
+-- what must close behind a step
+abbrev Follows : ℕ → ℕ → List ℕ → List ℕ → Result (Step × List ℕ) BerFault → Type 0
+Follows o r more rest (Ok (End, after)) = Closes o (suc r) (after ++ more) rest
+Follows o r more rest (Ok (Whole, after)) = Closes (suc o) r (after ++ more) rest
+Follows o r more rest (Ok (Open, after)) = Closes (suc (suc o)) (r - 1) (after ++ more) rest
+Follows o r more rest (Err fault) = Unit {0}
+
+-- a step that is found is a step of each continuation that closes
+follows : (o r : ℕ) (b more rest : List ℕ) (s : Result (Step × List ℕ) BerFault) → StepRead r b s → Peeled o r (b ++ more) rest → Follows o r more rest s
+follows o r b more rest (Ok (End, after)) h (peel_end after' e' c) =
     let same : after ++ more ≡ after' = append_cancel_left end_of_contents _ _ (sym (behind_more b end_of_contents after more h) ∙ e') in
-    ih o (suc r) after d long (bytes_of b end_of_contents after fits h) e more rest (subst (λ (x : List ℕ). Closes o (suc r) x rest) (sym same) c)
-none_step n o r b d long fits ih (Ok (End, after)) h e more rest (peel_whole k frame body after' t room p apart e' c) =
+    subst (λ (x : List ℕ). Closes o (suc r) x rest) (sym same) c
+follows o r b more rest (Ok (End, after)) h (peel_whole k frame body after' t room p apart e' c) =
     whole_end frame body after' (after ++ more) t p apart (sym e' ∙ behind_more b end_of_contents after more h)
-none_step n o r b d long fits ih (Ok (End, after)) h e more rest (peel_open k head after' t room p e' c) =
-    head_apart head t after' (after ++ more) p (sym e' ∙ behind_more b end_of_contents after more h)
-none_step n o r b d long fits ih (Ok (Whole, after)) h e more rest (peel_end after' e' c) =
+follows o r b more rest (Ok (End, after)) h (peel_open k head after' t room p e' c) =
+    absurd (head_apart head t after' (after ++ more) p (sym e' ∙ behind_more b end_of_contents after more h))
+follows o r b more rest (Ok (Whole, after)) h (peel_end after' e' c) =
     whole_end h.frame h.body (after ++ more) after' h.tag h.definite h.apart (sym (behind_more b h.frame after more h.spelled) ∙ e')
-none_step n o r b d long fits ih (Ok (Whole, after)) h e more rest (peel_whole k frame body after' t room p apart e' c) =
+follows o r b more rest (Ok (Whole, after)) h (peel_whole k frame body after' t room p apart e' c) =
     let same : after ++ more ≡ after' = whole_one h.frame frame h.body body (after ++ more) after' h.tag t h.definite p (sym (behind_more b h.frame after more h.spelled) ∙ e') in
-    ih (suc o) r after d long (bytes_of b h.frame after fits h.spelled) e more rest (subst (λ (x : List ℕ). Closes (suc o) r x rest) (sym same) c)
-none_step n o r b d long fits ih (Ok (Whole, after)) h e more rest (peel_open k head after' t room p e' c) =
+    subst (λ (x : List ℕ). Closes (suc o) r x rest) (sym same) c
+follows o r b more rest (Ok (Whole, after)) h (peel_open k head after' t room p e' c) =
     whole_open h.frame head h.body (after ++ more) after' h.tag t h.definite p (sym (behind_more b h.frame after more h.spelled) ∙ e')
-none_step n o r b d long fits ih (Ok (Open, after)) h e more rest (peel_end after' e' c) =
-    head_apart h.head h.tag (after ++ more) after' h.header (sym (behind_more b h.head after more h.spelled) ∙ e')
-none_step n o r b d long fits ih (Ok (Open, after)) h e more rest (peel_whole k frame body after' t room p apart e' c) =
+follows o r b more rest (Ok (Open, after)) h (peel_end after' e' c) =
+    absurd (head_apart h.head h.tag (after ++ more) after' h.header (sym (behind_more b h.head after more h.spelled) ∙ e'))
+follows o r b more rest (Ok (Open, after)) h (peel_whole k frame body after' t room p apart e' c) =
     whole_open frame h.head body after' (after ++ more) t h.tag p h.header (sym e' ∙ behind_more b h.head after more h.spelled)
-none_step n o r b d long fits ih (Ok (Open, after)) h e more rest (peel_open k head after' t room p e' c) =
+follows o r b more rest (Ok (Open, after)) h (peel_open k head after' t room p e' c) =
     let one = heads_one h.head head h.tag t None None (after ++ more) after' h.header p (sym (behind_more b h.head after more h.spelled) ∙ e') in
     let less : k ≡ r - 1 = omega (arith, room) in
-    ih (suc (suc o)) (r - 1) after d long (bytes_of b h.head after fits h.spelled) e more rest (subst (λ (x : List ℕ). Closes (suc (suc o)) (r - 1) x rest) (sym one.2) (subst (λ (x : ℕ). Closes (suc (suc o)) x after' rest) less c))
-none_step n o r b d long fits ih (Err Short) h e more rest p = long (err_one d Short _ e refl)
-none_step n o r b d long fits ih (Err BadTag) h e more rest p = stuck o r b more rest h p
-none_step n o r b d long fits ih (Err BadLength) h e more rest p = stuck o r b more rest h p
-none_step n o r b d long fits ih (Err (TooLarge k)) h e more rest p = stuck o r b more rest h p
-none_step n o r b d long fits ih (Err TooDeep) h e more rest p = stuck o r b more rest h p
+    subst (λ (x : List ℕ). Closes (suc (suc o)) (r - 1) x rest) (sym one.2) (subst (λ (x : ℕ). Closes (suc (suc o)) x after' rest) less c)
+follows o r b more rest (Err fault) h p = tt
+
+-- what closes behind a step that is found
+pub followed : (o r : ℕ) (b more rest : List ℕ) (s : Result (Step × List ℕ) BerFault) → StepRead r b s → Closes (suc o) r (b ++ more) rest → Follows o r more rest s
+followed o r b more rest s h c = follows o r b more rest s h (peel o r (b ++ more) rest c)
+
+none_step : (n o r : ℕ) (b : List ℕ) (d : BerFault) → d ≢ Short → IsBytes b → NoClosing n → (s : Result (Step × List ℕ) BerFault) → StepRead r b s → close_on (close_at n) o r s ≡ Err d → (more rest : List ℕ) → Closes (suc o) r (b ++ more) rest → ⊥
+none_step n o r b d long fits ih (Ok (End, after)) h e more rest c =
+    ih o (suc r) after d long (bytes_of b end_of_contents after fits h) e more rest (followed o r b more rest (Ok (End, after)) h c)
+none_step n o r b d long fits ih (Ok (Whole, after)) h e more rest c =
+    ih (suc o) r after d long (bytes_of b h.frame after fits h.spelled) e more rest (followed o r b more rest (Ok (Whole, after)) h c)
+none_step n o r b d long fits ih (Ok (Open, after)) h e more rest c =
+    ih (suc (suc o)) (r - 1) after d long (bytes_of b h.head after fits h.spelled) e more rest (followed o r b more rest (Ok (Open, after)) h c)
+none_step n o r b d long fits ih (Err Short) h e more rest c = long (err_one d Short _ e refl)
+none_step n o r b d long fits ih (Err BadTag) h e more rest c = stuck o r b more rest h (peel o r (b ++ more) rest c)
+none_step n o r b d long fits ih (Err BadLength) h e more rest c = stuck o r b more rest h (peel o r (b ++ more) rest c)
+none_step n o r b d long fits ih (Err (TooLarge k)) h e more rest c = h
+none_step n o r b d long fits ih (Err TooDeep) h e more rest c = stuck o r b more rest h (peel o r (b ++ more) rest c)
 
 pub close_at-none : (n : ℕ) → NoClosing n
 close_at-none n zero r b d long fits e more rest c = ok_err b d _ (close_at-closed n r b) e
 close_at-none zero (suc o) r b d long fits e more rest c = long (err_one d Short _ e refl)
 close_at-none (suc n) (suc o) r b d long fits e more rest c =
-    none_step n o r b d long fits (close_at-none n) (step_at r b) (step_at-read r b fits) e more rest (peel o r (b ++ more) rest c)
+    none_step n o r b d long fits (close_at-none n) (step_at r b) (step_at-read r b fits) e more rest c
 
--- ---- some continuation closes where octets are wanting
+-- ---- no element within is too large
 
--- ends alone close
-pub ends : (o r : ℕ) → (more : List ℕ) × Closes o r more []
-ends zero r = ([], refl)
-ends (suc o) r = let m = ends o (suc r) in (end_of_contents ++ m.0, closes_end o r (end_of_contents ++ m.0) m.0 [] refl m.1)
+large_step : (k n o r : ℕ) (b : List ℕ) → IsBytes b → ((o r : ℕ) (b : List ℕ) → IsBytes b → close_at n o r b ≡ Err (TooLarge k) → ⊥) → (s : Result (Step × List ℕ) BerFault) → StepRead r b s → close_on (close_at n) o r s ≡ Err (TooLarge k) → ⊥
+large_step k n o r b fits ih (Ok (End, after)) h e = ih o (suc r) after (bytes_of b end_of_contents after fits h) e
+large_step k n o r b fits ih (Ok (Whole, after)) h e = ih (suc o) r after (bytes_of b h.frame after fits h.spelled) e
+large_step k n o r b fits ih (Ok (Open, after)) h e = ih (suc (suc o)) (r - 1) after (bytes_of b h.head after fits h.spelled) e
+large_step k n o r b fits ih (Err Short) h e = absurd cc
+large_step k n o r b fits ih (Err BadTag) h e = absurd cc
+large_step k n o r b fits ih (Err BadLength) h e = absurd cc
+large_step k n o r b fits ih (Err (TooLarge j)) h e = h
+large_step k n o r b fits ih (Err TooDeep) h e = absurd cc
 
-abbrev Opening : ℕ → Type 0
-Opening n = (o r : ℕ) (b : List ℕ) → IsBytes b → length b < n → close_at n o r b ≡ Err Short → (more : List ℕ) × Closes o r (b ++ more) []
-
-short_is : {P : Type 0} (d : BerFault) (r : Result (List ℕ) BerFault) → r ≡ Err d → r ≡ Err Short → (d ≡ Short → P) → P
-short_is d r p q f = f (err_one d Short r p q)
-
-opening_step : (n o r : ℕ) (b : List ℕ) → IsBytes b → length b < suc n → Opening n → (s : Result (Step × List ℕ) BerFault) → StepRead r b s → close_on (close_at n) o r s ≡ Err Short → (more : List ℕ) × Closes (suc o) r (b ++ more) []
-opening_step n o r b fits lt ih (Ok (End, after)) h e =
-    let m = ih o (suc r) after (bytes_of b end_of_contents after fits h) (omega (arith, ap length h, length-append end_of_contents after)) e in
-    (m.0, closes_end o r (b ++ m.0) (after ++ m.0) [] (behind_more b end_of_contents after m.0 h) m.1)
-opening_step n o r b fits lt ih (Ok (Whole, after)) h e =
-    let d = h.definite in
-    let m = ih (suc o) r after (bytes_of b h.frame after fits h.spelled) (omega (arith, ap length h.spelled, length-append h.frame after, ap length d.spelled, length-append d.head h.body, length-header d.head h.tag (Some (length h.body)) d.header)) e in
-    let inner : Inner r h.frame = ((h.tag, h.body, subst (λ (k : ℕ). IsExtent k h.frame h.tag h.body) (sym h.room-is) (extent-definite h.level h.frame h.body h.tag h.definite)), h.apart) in
-    (m.0, closes_frame o r (b ++ m.0) h.frame (after ++ m.0) [] inner (behind_more b h.frame after m.0 h.spelled) m.1)
-opening_step n o r b fits lt ih (Ok (Open, after)) h e =
-    let m = ih (suc (suc o)) (r - 1) after (bytes_of b h.head after fits h.spelled) (omega (arith, ap length h.spelled, length-append h.head after, length-header h.head h.tag None h.header)) e in
-    let less : r - 1 ≡ h.level = omega (arith, h.room-is) in
-    let c : Closes (suc (suc o)) h.level (after ++ m.0) [] = subst (λ (k : ℕ). Closes (suc (suc o)) k (after ++ m.0) []) less m.1 in
-    (m.0, subst (λ (k : ℕ). Closes (suc o) k (b ++ m.0) []) (sym h.room-is) (closes_open o h.level (b ++ m.0) h.head (after ++ m.0) [] h.tag h.header (behind_more b h.head after m.0 h.spelled) c))
-opening_step n o r b fits lt ih (Err Short) h e =
-    elim h.goes [
-      | inl end-is ↦
-          let m = ends o (suc r) in
-          (h.more ++ m.0, closes_end o r (b ++ (h.more ++ m.0)) m.0 [] (sym (append_assoc b h.more m.0) ∙ ap (λ x. x ++ m.0) end-is) m.1)
-      | inr w ↦
-          let m = ends (suc o) r in
-          let inner : Inner r w.frame = ((w.tag, w.body, subst (λ (k : ℕ). IsExtent k w.frame w.tag w.body) (sym w.room-is) (extent-definite w.level w.frame w.body w.tag w.definite)), w.apart) in
-          (h.more ++ m.0, closes_frame o r (b ++ (h.more ++ m.0)) w.frame m.0 [] inner (sym (append_assoc b h.more m.0) ∙ ap (λ x. x ++ m.0) (w.spelled ∙ append-nil w.frame)) m.1)
-    ]
-opening_step n o r b fits lt ih (Err BadTag) h e = short_is BadTag _ refl e (λ d. absurd cc)
-opening_step n o r b fits lt ih (Err BadLength) h e = short_is BadLength _ refl e (λ d. absurd cc)
-opening_step n o r b fits lt ih (Err (TooLarge k)) h e = short_is (TooLarge k) _ refl e (λ d. absurd cc)
-opening_step n o r b fits lt ih (Err TooDeep) h e = short_is TooDeep _ refl e (λ d. absurd cc)
-
-pub close_at-opening : (n : ℕ) → Opening n
-close_at-opening n zero r b fits lt e = ok_err b Short _ (close_at-closed n r b) e
-close_at-opening zero (suc o) r b fits lt e = absurd (omega arith)
-close_at-opening (suc n) (suc o) r b fits lt e = opening_step n o r b fits lt (close_at-opening n) (step_at r b) (step_at-read r b fits) e
+-- TooLarge is of a frame's own header alone
+pub never_large : (k n o r : ℕ) (b : List ℕ) → IsBytes b → close_at n o r b ≡ Err (TooLarge k) → ⊥
+never_large k n zero r b fits e = ok_err b (TooLarge k) _ (close_at-closed n r b) e
+never_large k zero (suc o) r b fits e = absurd cc
+never_large k (suc n) (suc o) r b fits e = large_step k n o r b fits (never_large k n) (step_at r b) (step_at-read r b fits) e

@@ -103,6 +103,17 @@ fronts (u ∷ a) (v ∷ b) x y n e =
     let r = fronts a b x y (omega arith) h.1 in
     (let p = h.0 in let q = r.0 in cc, r.1)
 
+-- a list in front of another is shorter or goes past it
+pub front_split : (a b x y : List ℕ) → a ++ x ≡ b ++ y → length a ≤ length b → (m : List ℕ) × (a ++ m ≡ b) × (x ≡ m ++ y)
+front_split [] b x y e le = (b, refl, e)
+front_split (u ∷ a) [] x y e le = absurd (omega arith)
+front_split (u ∷ a) (v ∷ b) x y e le =
+    let h : u ≡ v = (let p = e in cc) in
+    let t : a ++ x ≡ b ++ y = (let p = e in cc) in
+    let r = front_split a b x y t (omega arith) in
+    let q = r.1 in
+    (r.0, cc, r.2)
+
 pub length_octets-short : (n : ℕ) → n < 128 → length_octets n ≡ n ∷ []
 unfolding length_octets
 length_octets-short n lt = rw (lt-ltb n 128 lt) refl

@@ -16,7 +16,8 @@ use Rattle.z_ber.proofs.HeaderReading.{HeaderParts, HeaderRead, Whole, header_at
 use Rattle.z_ber.proofs.FrameReading.{ok_is, some_is}
 use Rattle.z_ber.proofs.StepReading.{header-completes}
 use Rattle.z_ber.proofs.TreeLaws.{none_some}
-use Rattle.z_ber.proofs.CloseReading.{Indefinite, extent-definite, extent-indefinite, extent-cases, Closes, joined, ok_err, bytes_of, close_at-sound, close_at-complete, close_at-none, close_at-opening}
+use Rattle.z_ber.proofs.CloseReading.{Indefinite, extent-definite, extent-indefinite, extent-cases, Closes, joined, ok_err, bytes_of, close_at-sound, close_at-complete, close_at-none}
+use Rattle.z_ber.proofs.LeastReading.{close_at-opening}
 
 -- ---- the header of a frame
 
@@ -103,7 +104,19 @@ none_inside k b t body e fits w long p = λ o.
           close_at-none (suc (length body)) 1 k body e long (bytes_of b w.head body fits w.spelled) p o.0 s.1 c
     ]
 
-inside_read : (k : ℕ) (b : List ℕ) (t : Tag) (body : List ℕ) → IsBytes b → (w : Whole b t None body) → (r : Result (List ℕ) BerFault) → close_at (suc (length body)) 1 k body ≡ r → IsExtentRead (suc k) b (inside_at t body r)
+-- behind its header an element that closes is a frame
+pub closes_begins : (k : ℕ) (b more rest : List ℕ) (t : Tag) (body : List ℕ) → Whole b t None body → Closes 1 k (body ++ more) rest → (s : Begins (IsFrameAt (suc k)) (b ++ more)) × (s.1 ≡ rest)
+closes_begins k b more rest t body w c =
+    let d : Indefinite k ((w.head ++ joined c.frames) ++ end_of_contents) t (joined c.frames) = record { head = w.head; header = w.header; frames = c.frames; each = c.each; inside = refl; spelled = refl } in
+    let s : b ++ more ≡ ((w.head ++ joined c.frames) ++ end_of_contents) ++ rest =
+    ap (λ o. o ++ more) w.spelled ∙ append_assoc w.head body more ∙ ap (λ o. w.head ++ o) (c.spelled ∙ ap (λ o. joined c.frames ++ (end_of_contents ++ o)) c.behind) ∙ regroup w.head (joined c.frames) end_of_contents rest
+    in
+    (((w.head ++ joined c.frames) ++ end_of_contents, rest, (t, joined c.frames, extent-indefinite k _ _ t d), s), refl)
+  where
+    regroup : (a b c d : List ℕ) → a ++ (b ++ (c ++ d)) ≡ ((a ++ b) ++ c) ++ d
+    regroup a b c d = sym (append_assoc (a ++ b) c d ∙ append_assoc a b (c ++ d))
+
+pub inside_read : (k : ℕ) (b : List ℕ) (t : Tag) (body : List ℕ) → IsBytes b → (w : Whole b t None body) → (r : Result (List ℕ) BerFault) → close_at (suc (length body)) 1 k body ≡ r → IsExtentRead (suc k) b (inside_at t body r)
 inside_read k b t body fits w (Ok rest) e =
     let c = close_at-sound (suc (length body)) rest 1 k body (bytes_of b w.head body fits w.spelled) e in
     let parts : body ≡ joined c.frames ++ (end_of_contents ++ rest) = c.spelled ∙ ap (λ o. joined c.frames ++ (end_of_contents ++ o)) c.behind in
@@ -120,16 +133,8 @@ inside_read k b t body fits w (Ok rest) e =
     regroup a b c d = sym (append_assoc (a ++ b) c d ∙ append_assoc a b (c ++ d))
 inside_read k b t body fits w (Err Short) e =
     let m = close_at-opening (suc (length body)) 1 k body (bytes_of b w.head body fits w.spelled) (omega arith) e in
-    let c = m.1 in
-    let d : Indefinite k ((w.head ++ joined c.frames) ++ end_of_contents) t (joined c.frames) = record { head = w.head; header = w.header; frames = c.frames; each = c.each; inside = refl; spelled = refl } in
-    let s : b ++ m.0 ≡ ((w.head ++ joined c.frames) ++ end_of_contents) ++ [] =
-    ap (λ o. o ++ m.0) w.spelled ∙ append_assoc w.head body m.0 ∙ ap (λ o. w.head ++ o) (c.spelled ∙ ap (λ o. joined c.frames ++ (end_of_contents ++ o)) c.behind) ∙ regroup w.head (joined c.frames) end_of_contents []
-    in
-    (λ s. closed k b t body w e s, (m.0, ((w.head ++ joined c.frames) ++ end_of_contents, [], (t, joined c.frames, extent-indefinite k _ _ t d), s)))
+    (λ s. closed k b t body w e s, (m.0, (closes_begins k b m.0 [] t body w m.1).0))
   where
-    regroup : (a b c d : List ℕ) → a ++ (b ++ (c ++ d)) ≡ ((a ++ b) ++ c) ++ d
-    regroup a b c d = sym (append_assoc (a ++ b) c d ∙ append_assoc a b (c ++ d))
-
     closed : (k : ℕ) (b : List ℕ) (t : Tag) (body : List ℕ) → Whole b t None body → close_at (suc (length body)) 1 k body ≡ Err Short → Begins (IsFrameAt (suc k)) b → ⊥
     closed k b t body w e s =
         let whole : Begins (IsFrameAt (suc k)) (b ++ []) = (s.0, s.1, s.2, append-nil b ∙ s.3) in

@@ -178,6 +178,17 @@ least_after (d ∷ ends) (c ∷ digits) more rest m n le e =
     let h = heads c d (digits ++ more) (ends ++ rest) e in
     least_after ends digits more rest (m * 256 + c) (n * 256 + d) (omega (arith, h.0)) h.1
 
+-- a long form that has come in part goes on with as many octets as its first says, and no smaller number
+pub longer : (lead count : ℕ) (digits more ends rest : List ℕ) (c : Bool) (n : ℕ) → lead ≡ 128 + count → 0 < count → (lead ∷ digits) ++ more ≡ ends ++ rest → IsLength c ends (Some n) → (length ends ≡ 1 + count) × (number_from_digits 256 (padded count digits) ≤ n)
+longer lead count digits more ends rest c n lead-is some e (inl low) =
+    let g = heads lead n (digits ++ more) rest (e ∙ ap (λ o. o ++ rest) low.1) in absurd (omega (arith, low.0, g.0))
+longer lead count digits more ends rest c n lead-is some e (inr long) =
+    let g = heads lead (128 + length long.digits) (digits ++ more) (long.digits ++ rest) (e ∙ ap (λ o. o ++ rest) long.spelled) in
+    let count-is : length long.digits ≡ count = omega (arith, g.0) in
+    let least = least_after long.digits digits more rest 0 0 (lit≤ tt) g.1 in
+    let least-is : number_from_digits 256 (padded count digits) ≤ number_from_digits 256 long.digits = subst (λ (k : ℕ). number_from_digits 256 (padded k digits) ≤ number_from_digits 256 long.digits) count-is least in
+    (omega (arith, ap length long.spelled, count-is), omega (arith, least-is, long.number))
+
 -- no frame goes on from a long form whose least number is too large
 none_long : (bytes : List ℕ) (t : Tag) (lead count : ℕ) (digits : List ℕ) → IsTag t → bytes ≡ tag_octets t ++ (lead ∷ digits) → 0 < count → lead ≡ 128 + count → 1048576 < length (tag_octets t) + 1 + count + number_from_digits 256 (padded count digits) → ¬ Opens IsDefiniteFrame bytes
 none_long bytes t lead count digits valid s some lead-is over = λ o.
@@ -195,16 +206,6 @@ none_long bytes t lead count digits valid s some lead-is over = λ o.
     let ends-is : (lead ∷ digits) ++ o.0 ≡ h.ends ++ rest = ap (λ (p : Tag × List ℕ). p.1) one in
     let long = longer lead count digits o.0 h.ends rest b.2.tag.constructed (length b.2.body) lead-is some ends-is h.lengths in
     omega (arith, over, b.2.small, ap length b.2.spelled, length-append b.2.head b.2.body, ap length h.spelled, length-append (tag_octets b.2.tag) h.ends, ap (λ (x : Tag). length (tag_octets x)) same, long.0, long.1)
-  where
-    longer : (lead count : ℕ) (digits more ends rest : List ℕ) (c : Bool) (n : ℕ) → lead ≡ 128 + count → 0 < count → (lead ∷ digits) ++ more ≡ ends ++ rest → IsLength c ends (Some n) → (length ends ≡ 1 + count) × (number_from_digits 256 (padded count digits) ≤ n)
-    longer lead count digits more ends rest c n lead-is some e (inl low) =
-        let g = heads lead n (digits ++ more) rest (e ∙ ap (λ o. o ++ rest) low.1) in absurd (omega (arith, low.0, g.0))
-    longer lead count digits more ends rest c n lead-is some e (inr long) =
-        let g = heads lead (128 + length long.digits) (digits ++ more) (long.digits ++ rest) (e ∙ ap (λ o. o ++ rest) long.spelled) in
-        let count-is : length long.digits ≡ count = omega (arith, g.0) in
-        let least = least_after long.digits digits more rest 0 0 (lit≤ tt) g.1 in
-        let least-is : number_from_digits 256 (padded count digits) ≤ number_from_digits 256 long.digits = subst (λ (k : ℕ). number_from_digits 256 (padded k digits) ≤ number_from_digits 256 long.digits) count-is least in
-        (omega (arith, ap length long.spelled, count-is), omega (arith, least-is, long.number))
 
 errs_one : {A : Type 0} (r : Result A BerFault) (d e : BerFault) → r ≡ Err d → r ≡ Err e → d ≡ e
 errs_one r d e p q = cc

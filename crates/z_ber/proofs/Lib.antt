@@ -6,11 +6,13 @@ pub mod ElementLaws
 pub mod ElementReading
 pub mod ExtentReading
 pub mod FrameReading
+pub mod HeaderLeast
 pub mod HeaderReading
 pub mod IntOctets
 pub mod IntReading
 pub mod Kept
 pub mod LendLaws
+pub mod LeastReading
 pub mod LengthReading
 pub mod OidReading
 pub mod OneSplit

@@ -1,5 +1,5 @@
 -- What reading the identifier octets gives is what they spell, and nothing else.
-use Rattle.std.proofs.Common.{◌≡◌, ◌∙◌, ◌⊎◌, ℕ, ◌+◌, ◌-◌, ◌*◌, ◌^◌, ◌/◌, ◌%◌, ◌<◌, ◌≤◌, Bool, true, false, ◌||◌, ◌==◌, ltb, eqb, lit≤, lit<, zero, suc, inl, inr, List, [], ◌∷◌, ◌++◌, get_or, map, Result, Ok, Err, sym, ap, subst, append_assoc, arith, refl}
+use Rattle.std.proofs.Common.{◌≡◌, ◌∙◌, ◌⊎◌, ℕ, ◌+◌, ◌-◌, ◌*◌, ◌^◌, ◌/◌, ◌%◌, ◌<◌, ◌≤◌, Bool, true, false, ◌||◌, ◌==◌, ltb, eqb, lit≤, lit<, zero, suc, inl, inr, List, [], ◌∷◌, ◌++◌, length, get_or, map, Result, Ok, Err, sym, ap, subst, append_assoc, arith, refl}
 use Rattle.std.specs.Int.Digits.{digits_of, number_from_digits_after, AllBelowBase}
 use Rattle.std.proofs.lemmas.Int.Digits.{digits_of_step, number_after_ge, number_digits_of, all_below_base_digits_of, first_digits_of}
 use Rattle.std.proofs.lemmas.Bool.{cases_lt, lt-ltb, le-ltb, ltb-false, ne_eqb}
@@ -43,9 +43,10 @@ pub record Numbered (high : ℕ) (bytes : List ℕ) (n : ℕ) (rest : List ℕ) 
   pub most : n < 2 ^ 31
   pub spelled : marked high ++ bytes ≡ septets n ++ rest
 
--- some continuation spells a number
+-- some continuation of one octet spells a number
 pub record Numbers (high : ℕ) (bytes : List ℕ) : Type 0 where
   pub more : List ℕ
+  pub one : length more ≡ 1
   pub number : ℕ
   pub least : 31 ≤ number
   pub most : number < 2 ^ 31
@@ -80,6 +81,7 @@ read-more high d rest lt pos (Ok x) same h = record {
 }
 read-more high d rest lt pos (Err Short) same h = record {
   more = h.more;
+  one = h.one;
   number = h.number;
   least = h.least;
   most = h.most;
@@ -126,6 +128,7 @@ IsOut-no number pos lt = rw (ne_eqb number 0 (λ e. omega arith), le-ltb 1677721
 pub septets_at-read : (high : ℕ) (bytes : List ℕ) → high < 2 ^ 24 → IsBytes bytes → NumberRead high bytes (septets_at high bytes)
 septets_at-read high [] lt fits = record {
   more = 31 ∷ [];
+  one = refl;
   number = high * 128 + 31;
   least = omega arith;
   most = omega arith;
@@ -181,9 +184,10 @@ septets_at-again n rest least most =
 
 -- ---- identifier octets
 
--- some continuation is the identifier octets of a tag
+-- some continuation of one octet is the identifier octets of a tag
 pub record Tags (bytes : List ℕ) : Type 0 where
   pub more : List ℕ
+  pub one : length more ≡ 1
   pub tag : Tag
   pub valid : IsTag tag
   pub spelled : bytes ++ more ≡ tag_octets tag
@@ -225,6 +229,7 @@ high-read lead rest lt le (Err Short) h =
     let whole : 64 * (lead / 64) + form_bit (lead / 32 % 2 == 1) + 31 ≡ lead = lead-is lead 31 (omega arith) in
     record {
       more = h.more;
+      one = h.one;
       tag = t;
       valid = (omega arith, h.most);
       spelled = ap (λ o. lead ∷ o) h.spelled ∙ sym (tag_octets-high t h.least ∙ ap (λ l. l ∷ septets h.number) whole);
@@ -236,6 +241,7 @@ pub tag_at-read : (bytes : List ℕ) → IsBytes bytes → TagRead bytes (tag_at
 unfolding tag_at
 tag_at-read [] fits = record {
   more = 0 ∷ [];
+  one = refl;
   tag = record { class = 0; constructed = false; number = 0 };
   valid = (lit< tt, lit< tt);
   spelled = sym (tag_octets-low (record { class = 0; constructed = false; number = 0 }) (lit< tt));

@@ -83,12 +83,6 @@ IsExtentRead levels bytes (Ok found) = BeginsWith levels bytes found.0 found.1 f
 IsExtentRead levels bytes (Err Short) = ¬ Begins (IsFrameAt levels) bytes × Opens (IsFrameAt levels) bytes
 IsExtentRead levels bytes (Err _) = ¬ Opens (IsFrameAt levels) bytes
 
--- what reading a whole frame answers: the frame that the octets begin with; or they begin with none, are no more than a frame may have, and some continuation begins with one of any size; or no continuation begins with a frame
-abbrev pub IsWholeAnswer : List ℕ → Result ℕ BerFault → Type 0
-IsWholeAnswer bytes (Ok size) = (size ≤ length bytes) × IsFrame (take size bytes)
-IsWholeAnswer bytes (Err Short) = ¬ Begins IsFrame bytes × Opens (IsFrameAt 64) bytes × (length bytes ≤ 1048576)
-IsWholeAnswer bytes (Err _) = ¬ Opens IsFrame bytes
-
--- octets begin with a header of the indefinite form
-abbrev pub BeginsIndefinite : List ℕ → Type 0
-BeginsIndefinite bytes = (tag : Tag) × (head : List ℕ) × (rest : List ℕ) × IsHeader head tag None × (bytes ≡ head ++ rest)
+-- octets are a header of the indefinite form, and go on with these
+abbrev pub BeginsIndefinite : List ℕ → List ℕ → Type 0
+BeginsIndefinite bytes body = (tag : Tag) × (head : List ℕ) × IsHeader head tag None × (bytes ≡ head ++ body)

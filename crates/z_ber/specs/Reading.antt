@@ -212,10 +212,50 @@ extent_behind room (Err fault) = Err fault
 unfoldable pub extent_at : ℕ → List ℕ → Result (Tag × List ℕ × List ℕ) BerFault
 extent_at room bytes = extent_behind room (header_at bytes)
 
--- more octets than a frame may have are open no longer
-abbrev pub refused : BerFault → ℕ → BerFault
-refused Short size = if nat_le size 1048576 then Short else BadLength
-refused BadTag size = BadTag
-refused BadLength size = BadLength
-refused (TooLarge n) size = TooLarge n
-refused TooDeep size = TooDeep
+-- ---- how many octets must still come at least
+
+-- of length octets, and of as many contents octets as their least number says
+abbrev pub wanting_behind_tag : List ℕ → ℕ
+wanting_behind_tag [] = 1
+wanting_behind_tag (lead ∷ digits) =
+    let count = min (lead - 128) 8 in
+    count - length digits + number_from_digits 256 (padded count digits)
+
+-- of a header: the last identifier octet and a length octet, or what is wanting behind the identifier octets
+abbrev pub wanting_in_header : Result (Tag × List ℕ) BerFault → ℕ
+wanting_in_header (Ok tag) = wanting_behind_tag tag.1
+wanting_in_header (Err fault) = 2
+
+-- of an element: its contents octets, or what is wanting of its header
+abbrev pub wanting_in_element : List ℕ → Result (Tag × Option ℕ × List ℕ) BerFault → ℕ
+wanting_in_element bytes (Ok (tag, None, body)) = 0
+wanting_in_element bytes (Ok (tag, Some len, body)) = len - length body
+wanting_in_element bytes (Err fault) = wanting_in_header (tag_at bytes)
+
+-- where so many elements are open: the rest of an end of contents or of an element, and an end of contents for each that is open then
+unfoldable pub least_to_come : ℕ → List ℕ → ℕ
+least_to_come opened [] = 2 * opened
+least_to_come opened (zero ∷ []) = 2 * opened - 1
+least_to_come opened (zero ∷ second ∷ after) = wanting_in_element (zero ∷ second ∷ after) (header_at (zero ∷ second ∷ after)) + 2 * opened
+least_to_come opened (suc first ∷ after) = wanting_in_element (suc first ∷ after) (header_at (suc first ∷ after)) + 2 * opened
+
+-- one step on
+abbrev pub least_on : (ℕ → ℕ → List ℕ → ℕ) → ℕ → ℕ → List ℕ → Result (Step × List ℕ) BerFault → ℕ
+least_on next opened room bytes (Ok (End, after)) = next opened (suc room) after
+least_on next opened room bytes (Ok (Whole, after)) = next (suc opened) room after
+least_on next opened room bytes (Ok (Open, after)) = next (suc (suc opened)) (room - 1) after
+least_on next opened room bytes (Err fault) = least_to_come (suc opened) bytes
+
+-- before so many elements end, where so many levels are left in the innermost, in so many steps at most
+abbrev pub least_at : ℕ → ℕ → ℕ → List ℕ → ℕ
+least_at steps zero room bytes = 0
+least_at zero (suc opened) room bytes = 0
+least_at (suc steps) (suc opened) room bytes = least_on (least_at steps) opened room bytes (step_at room bytes)
+
+-- octets of which more must come than a frame may have are open no longer
+abbrev pub refused : ℕ → BerFault → BerFault
+refused size Short = if nat_le size 1048576 then Short else BadLength
+refused size BadTag = BadTag
+refused size BadLength = BadLength
+refused size (TooLarge n) = TooLarge n
+refused size TooDeep = TooDeep

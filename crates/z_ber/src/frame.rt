@@ -1,11 +1,12 @@
-//! Frames of a definite length at the front of octets (X.690:2021, 8.1.3.4, 8.1.3.5).
+//! Frames at the front of octets (X.690:2021, 8.1.3.4 to 8.1.3.6).
 
 ghost use Rattle.std.specs.Prelude.{◌≡◌, ◌↔◌, ℕ, ◌+◌, ◌-◌, ◌*◌, ◌^◌, ◌<◌, ◌≤◌, List, length, take, drop, nat_le, IfOk, IfErr, Ok, Err};
 ghost use Rattle.z_ber.specs.Reading.{Gives, tag_at, header_at, has_room_after, has_room_behind, body_at, frame_behind, frame_at, refused};
-ghost use Rattle.z_ber.specs.Frames.{IsDefiniteFrame, IsFrameAnswer, IsWholeAnswer, BeginsIndefinite};
+ghost use Rattle.z_ber.specs.Frames.{IsDefiniteFrame, IsFrame, IsFrameAnswer, BeginsIndefinite};
 
-use crate::extent::read_extent;
+use crate::extent::close;
 use crate::read::{padded_number, read_header, read_tag};
+use crate::wanting::least_to_come;
 use crate::{BerFault, Tag};
 
 /// No frame takes more octets than these.
@@ -86,22 +87,23 @@ pub fn definite_frame(bytes: &[u8]) -> Result<usize, BerFault>
 /// The size of the frame that octets begin with: an element of definite length, whatever its
 /// contents are, or one of indefinite length with the frames in it.
 pub fn whole(bytes: &[u8]) -> Result<usize, BerFault>
-    ensures { IsWholeAnswer bytes.now result }
+    ensures { IsFrameAnswer IsFrame bytes.now result }
 {
     match read_header(bytes) {
-        Ok((_, None, _)) => indefinite_frame(bytes),
+        Ok((_, None, body)) => indefinite_frame(bytes, body),
         Ok((_, Some(_), _)) => definite_frame(bytes),
         Err(_) => definite_frame(bytes),
     }
 }
 
-/// The fault, where more octets than a frame may have are open no longer.
-fn refused(fault: BerFault, size: usize) -> BerFault
-    ensures { result ≡ refused fault size }
+/// The fault, where octets of which so many have come and so many must come are open no longer if
+/// that is more than a frame may have.
+fn refused(size: usize, more: u64, fault: BerFault) -> BerFault
+    ensures { result ≡ refused (size + more) fault }
 {
     match fault {
         BerFault::Short => {
-            if size as u64 <= FRAME_MAX {
+            if is_small(size as u64, more) {
                 BerFault::Short
             } else {
                 BerFault::BadLength
@@ -111,13 +113,13 @@ fn refused(fault: BerFault, size: usize) -> BerFault
     }
 }
 
-/// A frame of indefinite length at the front.
-fn indefinite_frame(bytes: &[u8]) -> Result<usize, BerFault>
-    requires { BeginsIndefinite bytes.now }
-    ensures { IsWholeAnswer bytes.now result }
+/// A frame of indefinite length at the front, and what stands behind its header.
+fn indefinite_frame(bytes: &[u8], body: &[u8]) -> Result<usize, BerFault>
+    requires { BeginsIndefinite bytes.now body.now }
+    ensures { IsFrameAnswer IsFrame bytes.now result }
 {
-    match read_extent(63, bytes) {
-        Ok((_, _, rest)) => {
+    match close(1, 63, body) {
+        Ok(rest) => {
             let size = bytes.len() - rest.len();
             if size as u64 <= FRAME_MAX {
                 Ok(size)
@@ -125,9 +127,9 @@ fn indefinite_frame(bytes: &[u8]) -> Result<usize, BerFault>
                 Err(BerFault::BadLength)
             }
         }
-        Err(fault) => {
-            let fault = refused(fault, bytes.len());
-            Err(fault)
+        Err(stop) => {
+            let more = least_to_come(stop.opened, stop.rest);
+            Err(refused(bytes.len(), more, stop.fault))
         }
     }
 }

@@ -16,6 +16,7 @@ mod step;
 mod strict;
 mod tag;
 mod values;
+mod wanting;
 
 pub use element::Element;
 pub use fault::BerFault;

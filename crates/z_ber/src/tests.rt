@@ -7,7 +7,7 @@ use z_types::{Oid, Text};
 /// Octets, the size of their header and its length, or why there is none.
 type HeaderCase = (&'static [u8], Result<(u32, usize, Option<u64>), BerFault>);
 
-const HEADERS: [HeaderCase; 24] = [
+const HEADERS: [HeaderCase; 30] = [
     // 8.1.3.4 and 8.1.3.5: the lengths 38 and 201
     (&[0x02, 0x26], Ok((2, 2, Some(38)))),
     (&[0x02, 0x81, 0xc9], Ok((2, 3, Some(201)))),
@@ -39,6 +39,18 @@ const HEADERS: [HeaderCase; 24] = [
         &[0x04, 0x89, 0, 0, 0, 0, 0, 0, 0, 0, 1],
         Err(BerFault::BadLength),
     ),
+    (
+        &[0x04, 0x88, 255, 255, 255, 255, 255, 255, 255, 255],
+        Ok((4, 10, Some(18446744073709551615))),
+    ),
+    (&[0x04, 0x83, 0, 0, 0], Ok((4, 5, Some(0)))),
+    (&[0x04, 0x84, 0, 1, 0, 0], Ok((4, 6, Some(65536)))),
+    (&[0x04, 0x85, 1, 0, 0, 0, 2], Ok((4, 7, Some(4294967298)))),
+    (
+        &[0x04, 0x86, 1, 0, 0, 0, 0, 0],
+        Ok((4, 8, Some(1099511627776))),
+    ),
+    (&[0x04, 0x87, 0, 0, 0, 0, 0, 1, 1], Ok((4, 9, Some(257)))),
     (&[0x04, 0xff], Err(BerFault::BadLength)),
     (&[0x04, 0x82, 0x01], Err(BerFault::Short)),
     (&[0x04], Err(BerFault::Short)),
@@ -65,7 +77,10 @@ fn headers_are_read_as_x690_spells_them(rt: HostRuntime) {
     }
 }
 
-const FRAMES: [(&[u8], Result<usize, BerFault>); 8] = [
+/// Octets, and the size of the frame that they begin with, or why there is none.
+type FrameCase = (&'static [u8], Result<usize, BerFault>);
+
+const FRAMES: [FrameCase; 9] = [
     (&[0x04, 0x02, 7, 8, 9], Ok(4)),
     (&[0x30, 0x00], Ok(2)),
     (&[0x04, 0x02, 7], Err(BerFault::Short)),
@@ -76,10 +91,15 @@ const FRAMES: [(&[u8], Result<usize, BerFault>); 8] = [
         &[0x04, 0x83, 0x10, 0x00, 0x00],
         Err(BerFault::TooLarge(1048581)),
     ),
+    // the largest length is judged at once
+    (
+        &[0x04, 0x88, 255, 255, 255, 255, 255, 255, 255, 255],
+        Err(BerFault::TooLarge(18446744073709551615)),
+    ),
     (&[0x30, 0x80, 0x00, 0x00], Err(BerFault::BadLength)),
 ];
 
-const WHOLE_FRAMES: [(&[u8], Result<usize, BerFault>); 7] = [
+const WHOLE_FRAMES: [FrameCase; 16] = [
     (&[0x04, 0x02, 7, 8, 9], Ok(4)),
     (
         &[0x30, 0x80, 0x31, 0x80, 0, 0, 0x04, 0x02, 0, 0, 0, 0, 9],
@@ -90,7 +110,80 @@ const WHOLE_FRAMES: [(&[u8], Result<usize, BerFault>); 7] = [
     (&[0x30, 0x80, 0x04, 0x80], Err(BerFault::BadLength)),
     (&[0x30, 0x80, 0x1f, 0x80], Err(BerFault::BadTag)),
     (&[0xb6, 0x84, 0x10], Err(BerFault::BadLength)),
+    (
+        &[0x04, 0x83, 0x10, 0x00, 0x00],
+        Err(BerFault::TooLarge(1048581)),
+    ),
+    // within: contents that with the ends of contents fill a frame, or pass its bound by one octet
+    (
+        &[0x30, 0x80, 0x04, 0x83, 0x0f, 0xff, 0xf7],
+        Err(BerFault::Short),
+    ),
+    (
+        &[0x30, 0x80, 0x04, 0x83, 0x0f, 0xff, 0xf8],
+        Err(BerFault::BadLength),
+    ),
+    (
+        &[0x30, 0x80, 0x31, 0x80, 0x04, 0x83, 0x0f, 0xff, 0xf3],
+        Err(BerFault::Short),
+    ),
+    (
+        &[0x30, 0x80, 0x31, 0x80, 0x04, 0x83, 0x0f, 0xff, 0xf4],
+        Err(BerFault::BadLength),
+    ),
+    (&[0x30, 0x80, 0x04, 0x83, 0x0f, 0xff], Err(BerFault::Short)),
+    (&[0x30, 0x80, 0x04, 0x83, 0x10], Err(BerFault::BadLength)),
+    (
+        &[0x30, 0x80, 0x04, 0x88, 0, 0, 0, 0, 0, 0x10],
+        Err(BerFault::BadLength),
+    ),
+    (
+        &[
+            0x30, 0x80, 0x04, 0x88, 255, 255, 255, 255, 255, 255, 255, 255,
+        ],
+        Err(BerFault::BadLength),
+    ),
 ];
+
+/// Behind 1048571 octets of an indefinite element whose contents are one octet string so far: five
+/// more fill a frame.
+const LAST_OCTETS: [FrameCase; 18] = [
+    (&[], Err(BerFault::Short)),
+    (&[0, 0], Ok(1048573)),
+    // identifier octets in part, then all of them: an octet that ends them, a length, the end
+    (&[0x1f], Err(BerFault::Short)),
+    (&[0x1f, 0x81], Err(BerFault::BadLength)),
+    (&[5], Err(BerFault::Short)),
+    // length octets in part
+    (&[5, 0x81], Err(BerFault::Short)),
+    (&[5, 0x82], Err(BerFault::BadLength)),
+    (&[5, 0x81, 0], Err(BerFault::Short)),
+    (&[5, 0x81, 1], Err(BerFault::BadLength)),
+    // contents in part
+    (&[5, 1], Err(BerFault::Short)),
+    (&[5, 2], Err(BerFault::BadLength)),
+    (&[0x30, 0x80], Err(BerFault::BadLength)),
+    // the end in part
+    (&[5, 1, 7], Err(BerFault::Short)),
+    (&[5, 1, 7, 0], Err(BerFault::Short)),
+    (&[5, 1, 7, 0, 0], Ok(1048576)),
+    (&[5, 1, 7, 5], Err(BerFault::BadLength)),
+    (&[5, 1, 7, 5, 0], Err(BerFault::BadLength)),
+    (&[5, 2, 7, 8, 0, 0], Err(BerFault::BadLength)),
+];
+
+#[test]
+fn octets_are_open_while_what_must_come_fits(rt: HostRuntime) -> Result<(), Fail> {
+    let mut octets = vec![in rt.alloc(); 0x30, 0x80, 0x04, 0x83, 0x0f, 0xff, 0xf4]?;
+    let contents = vec![in rt.alloc(); 1; 0xf_fff4]?;
+    octets.extend_from_slice(contents.as_slice())?;
+    for (last, expected) in LAST_OCTETS {
+        octets.truncate(1_048_571);
+        octets.extend_from_slice(last)?;
+        assert_eq!(rt; whole(octets.as_slice()), expected, "{last:?}");
+    }
+    Ok(())
+}
 
 #[test]
 fn frames_are_cut_at_their_end(rt: HostRuntime) {
@@ -174,7 +267,10 @@ fn level_64_is_read_and_level_65_is_not(rt: HostRuntime) {
         octets[2 * level] = 0x30;
         octets[2 * level + 1] = 0x80;
     }
-    assert!(rt; Element::first(&octets[2..258]).is_ok());
+    let deepest = &octets[2..258];
+    assert!(rt; Element::first(deepest).is_ok());
+    assert_eq!(rt; whole(deepest), Ok(256));
+    assert_eq!(rt; whole(&octets), Err(BerFault::TooDeep));
     match Element::first(&octets) {
         Err(fault) => assert_eq!(rt; fault, BerFault::TooDeep),
         Ok(_) => assert!(rt; false),
