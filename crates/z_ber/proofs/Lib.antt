@@ -23,3 +23,4 @@ pub mod StrictReading
 pub mod TreeLaws
 pub mod ValueLaws
 pub mod WholeReading
+pub mod WrittenLaws

@@ -22,7 +22,9 @@ pub use element::Element;
 pub use fault::BerFault;
 pub use frame::{FRAME_MAX, definite_frame, whole};
 pub use laws::{
-    lends_root, one_bits, one_bool, one_element, one_extent, one_int, one_oid, one_split, one_tree,
+    lends_root, lends_written, lends_written_child, one_bits, one_bool, one_element, one_extent,
+    one_int, one_oid, one_split, one_tree, reads_bits, reads_bool, reads_int, reads_oid,
+    written_extent,
 };
 pub use oid::oid_of;
 pub use put::{put_bits, put_bool, put_bytes, put_int, put_oid, put_tree};
