@@ -116,11 +116,12 @@ mod tests {
         Ok(())
     }
 
-    // The first is X.690's own example (8.19.5). The second is the identifier of the attribute set
-    // bib-1 (ANSI/NISO Z39.50-2003); its octets and the others' are worked out by hand from 8.19.2
-    // and 8.19.4.
+    // The first two are X.690's own examples (8.19.5), in this edition and in the one of 2002. The
+    // third is the identifier of the attribute set bib-1 (ANSI/NISO Z39.50-2003); its octets and the
+    // others' are worked out by hand from 8.19.2 and 8.19.4.
     #[test]
     fn identifiers_are_read_from_their_written_form(rt: HostRuntime) -> Result<(), Fail> {
+        reads_as(&rt, &[0x88, 0x37, 0x03], &[2, 999, 3])?;
         reads_as(&rt, &[0x81, 0x34, 0x03], &[2, 100, 3])?;
         reads_as(
             &rt,

@@ -185,8 +185,37 @@ fn octets_are_open_while_what_must_come_fits(rt: HostRuntime) -> Result<(), Fail
     Ok(())
 }
 
+/// Elements as X.690 prints them.
+const EXAMPLES: [&[u8]; 11] = [
+    // 8.2.2: TRUE
+    &[0x01, 0x01, 0xff],
+    // 8.6.4.2: the bits 0A3B5F291CD, whole and in parts
+    &[0x03, 0x07, 0x04, 0x0a, 0x3b, 0x5f, 0x29, 0x1c, 0xd0],
+    &[
+        0x23, 0x80, 0x03, 0x03, 0x00, 0x0a, 0x3b, 0x03, 0x05, 0x04, 0x5f, 0x29, 0x1c, 0xd0, 0x00,
+        0x00,
+    ],
+    // 8.8.2: NULL
+    &[0x05, 0x00],
+    // 8.9.3: a name and a BOOLEAN in a SEQUENCE
+    &[
+        0x30, 0x0a, 0x16, 0x05, b'S', b'm', b'i', b't', b'h', 0x01, 0x01, 0xff,
+    ],
+    // 8.14: one name under five tags
+    &[0x1a, 0x05, b'J', b'o', b'n', b'e', b's'],
+    &[0x43, 0x05, b'J', b'o', b'n', b'e', b's'],
+    &[0xa2, 0x07, 0x43, 0x05, b'J', b'o', b'n', b'e', b's'],
+    &[0x67, 0x07, 0x43, 0x05, b'J', b'o', b'n', b'e', b's'],
+    &[0x82, 0x05, b'J', b'o', b'n', b'e', b's'],
+    // 8.19.5: the object identifier 2.999.3
+    &[0x06, 0x03, 0x88, 0x37, 0x03],
+];
+
 #[test]
 fn frames_are_cut_at_their_end(rt: HostRuntime) {
+    for octets in EXAMPLES {
+        assert_eq!(rt; whole(octets), Ok(octets.len()));
+    }
     for (octets, expected) in FRAMES {
         assert_eq!(rt; definite_frame(octets), expected);
     }
@@ -204,7 +233,7 @@ fn written_elements_are_those_of_x690(rt: HostRuntime) -> Result<(), Fail> {
     put_bits(&mut out, Tag::universal(3), 0x4081)?;
     put_bits(&mut out, Tag::universal(3), 0)?;
     put_bytes(&mut out, Tag::context(105), b"ab")?;
-    let oid = Oid::copy_of(rt.alloc(), &[2, 100, 3])?;
+    let oid = Oid::copy_of(rt.alloc(), &[2, 999, 3])?;
     put_oid(&mut out, Tag::universal(6), &oid)?;
     put_tree(&mut out, Tag::constructed_context(1), &[5, 0])?;
     let expected: [u8; 36] = [
@@ -213,7 +242,7 @@ fn written_elements_are_those_of_x690(rt: HostRuntime) -> Result<(), Fail> {
         2, 2, 0, 0x80, 2, 1, 0x80, // 8.6.2: bits 0, 7 and 14
         3, 3, 1, 0x81, 0x02, 3, 1, 0, // 8.1.2.4
         0x9f, 0x69, 2, b'a', b'b', // 8.19.5
-        6, 3, 0x81, 0x34, 3, // 8.1.1
+        6, 3, 0x88, 0x37, 3, // 8.1.1
         0xa1, 2, 5, 0, // none
         0, 0, 0, 0,
     ];
@@ -221,15 +250,60 @@ fn written_elements_are_those_of_x690(rt: HostRuntime) -> Result<(), Fail> {
     Ok(())
 }
 
+/// Contents, and the number that they are the written form of (8.3.2, 8.3.3).
+const INTEGERS: [(&[u8], Option<i64>); 13] = [
+    (&[], None),
+    (&[0], Some(0)),
+    (&[0x7f], Some(127)),
+    (&[0, 0x80], Some(128)),
+    (&[0xff], Some(-1)),
+    (&[0x80], Some(-128)),
+    (&[0xff, 0x7f], Some(-129)),
+    // the first nine bits are alike
+    (&[0, 0x7f], None),
+    (&[0xff, 0x80], None),
+    // the bounds of 64 bits
+    (
+        &[0x7f, 255, 255, 255, 255, 255, 255, 255],
+        Some(9223372036854775807),
+    ),
+    (&[0x80, 0, 0, 0, 0, 0, 0, 0], Some(-9223372036854775808)),
+    (&[0, 0x80, 0, 0, 0, 0, 0, 0, 0], None),
+    (&[0xff, 0x7f, 255, 255, 255, 255, 255, 255, 255], None),
+];
+
+/// Contents, and the bits that they are the written form of (8.6.2, 11.2.2).
+const BITS: [(&[u8], Option<u32>); 11] = [
+    (&[], None),
+    (&[0], Some(0)),
+    (&[1], None),
+    (&[7, 0x80], Some(1)),
+    (&[1, 0x81, 0x02], Some(0x4081)),
+    (&[0, 0x00, 0x00, 0x00, 0x01], Some(0x8000_0000)),
+    (&[0, 255, 255, 255, 255], Some(0xffff_ffff)),
+    // a count of unused bits that is not theirs, a zero bit at the end, an octet of them, 33 bits
+    (&[8, 0x80], None),
+    (&[0, 0x81, 0x02], None),
+    (&[7, 0x80, 0x00], None),
+    (&[7, 0, 0, 0, 0, 0x80], None),
+];
+
 #[test]
-fn what_is_written_is_read_back(rt: HostRuntime) {
-    assert_eq!(rt; int_of(&[0, 0x80]), Some(128));
-    assert_eq!(rt; int_of(&[0x80]), Some(-128));
-    assert_eq!(rt; int_of(&[0, 0x7f]), None);
-    assert_eq!(rt; bits_of(&[1, 0x81, 0x02]), Some(0x4081));
-    assert_eq!(rt; bits_of(&[0, 0x81, 0x02]), None);
+fn contents_are_read_in_their_written_form_alone(rt: HostRuntime) {
+    for (contents, expected) in INTEGERS {
+        assert_eq!(rt; int_of(contents), expected, "{contents:?}");
+    }
+    for (contents, expected) in BITS {
+        assert_eq!(rt; bits_of(contents), expected, "{contents:?}");
+    }
+    assert_eq!(rt; bool_of(&[0]), Some(false));
     assert_eq!(rt; bool_of(&[0xff]), Some(true));
     assert_eq!(rt; bool_of(&[1]), None);
+    assert_eq!(rt; bool_of(&[]), None);
+}
+
+#[test]
+fn an_element_is_read_in_its_written_form_alone(rt: HostRuntime) {
     match written(&[0x9f, 0x69, 2, b'a', b'b', 7]) {
         Some(found) => {
             assert_eq!(rt; found.tag.number, 105);
