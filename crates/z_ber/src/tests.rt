@@ -81,9 +81,11 @@ fn headers_are_read_as_x690_spells_them(rt: HostRuntime) {
 type FrameCase = (&'static [u8], Result<usize, BerFault>);
 
 const FRAMES: [FrameCase; 9] = [
+    // 8.1.3.4: a header and its contents, whole and in part
     (&[0x04, 0x02, 7, 8, 9], Ok(4)),
     (&[0x30, 0x00], Ok(2)),
     (&[0x04, 0x02, 7], Err(BerFault::Short)),
+    // 8.1.3.5: a length in part, whose least number has room in 1048576 octets, or has none
     (&[0x04, 0x83, 0x0f, 0xff], Err(BerFault::Short)),
     (&[0x04, 0x83, 0x10], Err(BerFault::BadLength)),
     (&[0xb6, 0x84, 0x10], Err(BerFault::BadLength)),
@@ -96,25 +98,29 @@ const FRAMES: [FrameCase; 9] = [
         &[0x04, 0x88, 255, 255, 255, 255, 255, 255, 255, 255],
         Err(BerFault::TooLarge(18446744073709551615)),
     ),
+    // 8.1.3.6: the indefinite form is none of these
     (&[0x30, 0x80, 0x00, 0x00], Err(BerFault::BadLength)),
 ];
 
 const WHOLE_FRAMES: [FrameCase; 16] = [
     (&[0x04, 0x02, 7, 8, 9], Ok(4)),
+    // 8.1.5: the first 0000 in an element's place ends an indefinite element
     (
         &[0x30, 0x80, 0x31, 0x80, 0, 0, 0x04, 0x02, 0, 0, 0, 0, 9],
         Ok(12),
     ),
     (&[0x30, 0x80, 0x05, 0x00, 0], Err(BerFault::Short)),
     (&[0x30, 0x80, 0x00, 0x01, 7, 0, 0], Ok(7)),
+    // 8.1.3.2, 8.1.2.4.2: an indefinite primitive, and a number with zeros in front, within
     (&[0x30, 0x80, 0x04, 0x80], Err(BerFault::BadLength)),
     (&[0x30, 0x80, 0x1f, 0x80], Err(BerFault::BadTag)),
+    // a definite frame that is too large, in part and with its whole header
     (&[0xb6, 0x84, 0x10], Err(BerFault::BadLength)),
     (
         &[0x04, 0x83, 0x10, 0x00, 0x00],
         Err(BerFault::TooLarge(1048581)),
     ),
-    // within: contents that with the ends of contents fill a frame, or pass its bound by one octet
+    // contents within that with the ends of contents fill a frame, or pass its bound by one octet
     (
         &[0x30, 0x80, 0x04, 0x83, 0x0f, 0xff, 0xf7],
         Err(BerFault::Short),

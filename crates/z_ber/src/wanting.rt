@@ -1,7 +1,7 @@
 //! How many octets must still come before elements of indefinite length can end (X.690:2021, 8.1.2,
 //! 8.1.3, 8.1.5).
 
-ghost use Rattle.std.specs.Prelude.{◌≡◌, ℕ, ◌+◌, ◌-◌, ◌*◌, ◌^◌, ◌<◌, ◌≤◌, length, min};
+ghost use Rattle.std.specs.Prelude.{◌≡◌, ◌-◌, ◌^◌, min};
 ghost use Rattle.z_ber.specs.Reading.{tag_at, header_at, wanting_behind_tag, wanting_in_header, wanting_in_element, least_to_come};
 
 use crate::read::{padded_number, read_header, read_tag};
@@ -20,7 +20,7 @@ fn wanting_behind_tag(rest: &[u8]) -> u64
     }
 }
 
-/// How many octets are wanting of a header and its contents.
+/// How many octets are wanting of a header that has come in part, and of its contents.
 fn wanting_in_header(bytes: &[u8]) -> u64
     ensures { result ≡ min (wanting_in_header (tag_at bytes.now)) (2 ^ 64 - 1) }
 {
@@ -41,7 +41,7 @@ fn wanting_in_element(bytes: &[u8]) -> u64
     }
 }
 
-/// How many octets must still come where so many elements are open.
+/// How many octets must still come at least where so many elements are open.
 #[tactic(auto, unfolding(crate::specs::Reading::least_to_come))]
 pub fn least_to_come(opened: u32, rest: &[u8]) -> u64
     ensures { result ≡ min (least_to_come opened rest.now) (2 ^ 64 - 1) }
