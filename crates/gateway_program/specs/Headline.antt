@@ -5,15 +5,14 @@
 -- of a route with private sessions with the targets and no pool, under the marks that the report lists, one for
 -- each request. How its connection ended follows from those octets alone. No other client, no session with a
 -- target and no clock is in that answer: so two replays that feed a client the same octets write it the same.
-use Rattle.std.specs.Prelude.{◌≡◌, ℕ, List, Option, Ok}
+use Rattle.std.specs.Prelude.{◌≡◌, ℕ, List, Option}
 use Rattle.z_types.specs.declared.world.World as world
 use Rattle.route_config.specs.Smallest.{smallest_text, smallest_route}
 use Rattle.script.specs.declared.event.Event.{Event}
-use Rattle.script.specs.Script.{script_of}
-use Rattle.gateway_program.specs.Outcome.{HasPrinted}
+use Rattle.gateway_program.specs.Outcome.{HasPrinted, IsPlayable}
 
 pub record IsReplay {W : Type 0} (w : world.Ghosts W) (config script : List ℕ) (old new : Option (List ℕ)) : Type 0 where
   pub route : config ≡ smallest_text
   pub events : List Event
-  pub scripted : script_of script ≡ Ok events
+  pub scripted : IsPlayable script events
   pub printed : HasPrinted w smallest_route events old new

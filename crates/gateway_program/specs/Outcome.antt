@@ -1,5 +1,5 @@
 -- When each status comes, and what is printed with it (this project's own)
-use Rattle.std.specs.Prelude.{◌≡◌, ◌≢◌, ◌⊎◌, ℕ, ◌<◌, List, Option, None, Some, Result, Ok, Err, IfSome, length}
+use Rattle.std.specs.Prelude.{◌≡◌, ◌≢◌, ◌⊎◌, ℕ, ◌<◌, ◌≤◌, List, Option, None, Some, Ok, Err, IfSome, length}
 use Rattle.gw_outside.specs.Counts.{Rose}
 use Rattle.gw_outside.specs.Written.{appended, ReceivedPrefix}
 use Rattle.z_types.specs.declared.world.World as world
@@ -42,27 +42,42 @@ Played w route events p status.WriteFault = HasPrintedPart w route events p.old 
 Played w route events p status.Memory = p.new ≡ p.old
 Played w route events p other = ⊥
 
--- a script's octets are refused at a line, or at line 0 where there are too many
+-- the most octets of a script
+abbrev pub script_limit : ℕ
+script_limit = 16777216
+
+-- octets are a script of these events
+abbrev pub IsPlayable : List ℕ → List Event → Type 0
+IsPlayable text events = (length text ≤ script_limit) × (script_of text ≡ Ok events)
+
+-- octets are no script, because of this line, or of line 0 where there are too many
 abbrev pub IsRefusedAt : ℕ → List ℕ → Type 0
-IsRefusedAt number text = ((16777216 < length text) × (number ≡ 0)) ⊎ (script_of text ≡ Err (Line number))
+IsRefusedAt number text =
+    ((script_limit < length text) × (number ≡ 0)) ⊎ ((length text ≤ script_limit) × (script_of text ≡ Err (Line number)))
 
 -- a script of these octets, where they are told, was played; or it is refused, at the line that is printed
 abbrev pub ScriptPlayed : {W : Type 0} → world.Ghosts W → Route → Option (List ℕ) → Print → Status → Type 0
-ScriptPlayed w route told p status.Ok = (events : List Event) × IfSome told (λ text. script_of text ≡ Ok events) × Played w route events p status.Ok
-ScriptPlayed w route told p status.WriteFault = (events : List Event) × IfSome told (λ text. script_of text ≡ Ok events) × Played w route events p status.WriteFault
+ScriptPlayed w route told p status.Ok = (events : List Event) × IfSome told (λ text. IsPlayable text events) × Played w route events p status.Ok
+ScriptPlayed w route told p status.WriteFault = (events : List Event) × IfSome told (λ text. IsPlayable text events) × Played w route events p status.WriteFault
 ScriptPlayed w route told p status.Script = (number : ℕ) × IfSome told (IsRefusedAt number) × Says p.old p.new p.faults p.faults_after (script_line number)
 ScriptPlayed w route told p status.Memory = p.new ≡ p.old
 ScriptPlayed w route told p other = ⊥
 
--- the files before and after: what they tell of a name, and their faults
+-- the files before and after: what they tell of a name, their faults, and the name of the file whose read failed last
 pub record Reads : Type 0 where
   pub told : List ℕ → Option (List ℕ)
   pub faults : ℕ
   pub faults_after : ℕ
+  pub failed_after : Option (List ℕ)
+
+-- the read of the file of this name failed, and the line says so
+abbrev pub IsUnread : List ℕ → Reads → Print → Type 0
+IsUnread name r p =
+    Rose r.faults r.faults_after × IfSome r.failed_after (λ failed. failed ≡ name) × Says p.old p.new p.faults p.faults_after (fault_line name)
 
 -- the script of a name was played, or could not be read
 abbrev pub ScriptDone : {W : Type 0} → world.Ghosts W → Route → List ℕ → Reads → Print → Status → Type 0
-ScriptDone w route script r p status.ReadFault = Rose r.faults r.faults_after × Says p.old p.new p.faults p.faults_after (fault_line script)
+ScriptDone w route script r p status.ReadFault = IsUnread script r p
 ScriptDone w route script r p other = ScriptPlayed w route (r.told script) p other
 
 -- Config exactly where the configuration is another than the smallest; and else the script decides
@@ -70,8 +85,7 @@ abbrev pub ReplayDone : {W : Type 0} → world.Ghosts W → List ℕ → List �
 ReplayDone w config script r p status.Config = IfSome (r.told config) (λ text. text ≢ smallest_text) × Says p.old p.new p.faults p.faults_after config_line
 ReplayDone w config script r p status.Memory = p.new ≡ p.old
 ReplayDone w config script r p status.ReadFault =
-    Rose r.faults r.faults_after
-    × (Says p.old p.new p.faults p.faults_after (fault_line config) ⊎ (IfSome (r.told config) (λ text. text ≡ smallest_text) × Says p.old p.new p.faults p.faults_after (fault_line script)))
+    IsUnread config r p ⊎ (IfSome (r.told config) (λ text. text ≡ smallest_text) × IsUnread script r p)
 ReplayDone w config script r p other = IfSome (r.told config) (λ text. text ≡ smallest_text) × ScriptDone w smallest_route script r p other
 
 -- Words exactly where the words are no command
@@ -88,3 +102,9 @@ abbrev pub IsRefusal : ℕ → Print → Status → Type 0
 IsRefusal number p status.Script = Says p.old p.new p.faults p.faults_after (script_line number)
 IsRefusal number p status.Memory = p.new ≡ p.old
 IsRefusal number p other = ⊥
+
+-- a file of this name could not be read, which is printed, or no memory could be had
+abbrev pub IsUnreadTold : List ℕ → Print → Status → Type 0
+IsUnreadTold name p status.ReadFault = Says p.old p.new p.faults p.faults_after (fault_line name)
+IsUnreadTold name p status.Memory = p.new ≡ p.old
+IsUnreadTold name p other = ⊥

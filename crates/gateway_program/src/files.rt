@@ -23,7 +23,7 @@ impl<'a, R: rt::Files> SystemFiles<'a, R> {
         SystemFiles { runtime, faults: 0 }
     }
 
-    /// A fault more.
+    /// One fault more.
     fn failed(&mut self) -> FileGot
         ensures failed { result ≡ FileGot.Failed }
         ensures counted { Rose self.old.faults self.new.faults }
@@ -38,6 +38,8 @@ impl<R: rt::Files> Files for SystemFiles<'_, R> {
     ghost faults = { λ files. files.faults };
 
     ghost told = { λ files name. None };
+
+    ghost last_failed = { λ files. None };
 
     fn read_all(&mut self, alloc: Global, name: &Text, limit: usize) -> FileGot {
         let Ok(path) = str::from_utf8(name.as_slice()) else {

@@ -1,7 +1,7 @@
 //! A script, read and played.
 
 ghost use Rattle.std.specs.Prelude.{◌≤◌, length, Some};
-ghost use Rattle.gateway_program.specs.Outcome.{IsRefusal, Played, ScriptPlayed, ScriptDone};
+ghost use Rattle.gateway_program.specs.Outcome.{IsRefusal, IsUnreadTold, Played, ScriptPlayed, ScriptDone};
 
 use crate::say::{fault_line, say, script_line};
 use crate::status::Status;
@@ -24,19 +24,26 @@ pub(crate) fn play_script<T: Targets, F: Files, K: Sink>(
     name: &Text,
     out: &mut K,
 ) -> Status
-    ensures { ScriptDone T.World route.now name.now (record { told = F.told files.old; faults = F.faults files.old; faults_after = F.faults files.new }) (record { old = K.received out.old; new = K.received out.new; faults = K.faults out.old; faults_after = K.faults out.new }) result }
+    ensures { ScriptDone T.World route.now name.now (record { told = F.told files.old; faults = F.faults files.old; faults_after = F.faults files.new; failed_after = F.last_failed files.new }) (record { old = K.received out.old; new = K.received out.new; faults = K.faults out.old; faults_after = K.faults out.new }) result }
 {
     match files.read_all(alloc, name, SCRIPT_LIMIT) {
         FileGot::Whole(text) => play_text(alloc, route, targets, text.as_slice(), out),
         FileGot::Longer => refuse(alloc, out, 0),
-        FileGot::Failed => match fault_line(alloc, name) {
-            Ok(line) => {
-                say(out, line.as_slice());
-                Status::ReadFault
-            }
-            Err(_) => Status::Memory,
-        },
+        FileGot::Failed => unread(alloc, out, name),
         FileGot::Memory => Status::Memory,
+    }
+}
+
+/// Tells that the file of a name could not be read.
+pub(crate) fn unread<K: Sink>(alloc: Global, out: &mut K, name: &Text) -> Status
+    ensures { IsUnreadTold name.now (record { old = K.received out.old; new = K.received out.new; faults = K.faults out.old; faults_after = K.faults out.new }) result }
+{
+    match fault_line(alloc, name) {
+        Ok(line) => {
+            say(out, line.as_slice());
+            Status::ReadFault
+        }
+        Err(_) => Status::Memory,
     }
 }
 
@@ -48,6 +55,7 @@ fn play_text<T: Targets, K: Sink>(
     text: &[u8],
     out: &mut K,
 ) -> Status
+    requires { length text.now ≤ 16777216 }
     ensures { ScriptPlayed T.World route.now (Some text.now) (record { old = K.received out.old; new = K.received out.new; faults = K.faults out.old; faults_after = K.faults out.new }) result }
 {
     match read_script(alloc, text) {

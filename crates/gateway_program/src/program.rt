@@ -1,6 +1,7 @@
 //! The program over the real files, output and test targets.
 
 ghost use Rattle.std.specs.Prelude.{◌≡◌, ◌≢◌};
+ghost use Rattle.gw_outside.specs.Counts.{Rose};
 ghost use Rattle.gw_outside.specs.Written.{appended};
 
 use crate::files::SystemFiles;
@@ -62,13 +63,14 @@ pub(crate) fn command<R: Files, K: Sink>(
         }
     }
     let mut files = SystemFiles::new(runtime);
-    top(alloc, words, &mut files, output, &TestWorld::new())
+    top(alloc, words, &mut files, output, &TestWorld)
 }
 
 /// Prints a text of the program's own.
 fn tell<K: Sink>(output: &mut K, text: &[u8]) -> Status
     ensures told { result ≡ Status.Ok → K.received output.new ≡ appended (K.received output.old) text.now }
-    ensures fault { result ≢ Status.Ok → result ≡ Status.WriteFault }
+    ensures status { result ≢ Status.Ok → result ≡ Status.WriteFault }
+    ensures fault { result ≢ Status.Ok → Rose (K.faults output.old) (K.faults output.new) }
 {
     if write_all(output, text) {
         Status::Ok

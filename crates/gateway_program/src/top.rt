@@ -6,8 +6,8 @@ ghost use Rattle.gateway_program.specs.Headline.{IsReplay};
 ghost use Rattle.gateway_program.specs.Lines.{Says, config_line};
 
 use crate::command::command_of;
-use crate::play::play_script;
-use crate::say::{CONFIG_REFUSED, USAGE, fault_line, say};
+use crate::play::{play_script, unread};
+use crate::say::{CONFIG_REFUSED, USAGE, say};
 use crate::status::Status;
 use gw_outside::{FileGot, Files, Sink, Targets};
 use route_config::{RouteFault, read_route};
@@ -32,7 +32,7 @@ pub fn top<T: Targets, F: Files, K: Sink>(
         → IsReplay T.World config_text script_text (K.received out.old) (K.received out.new) }
 
     // Each status comes exactly as its definition says, with what is printed.
-    ensures done { IsDone T.World words.now (record { told = F.told files.old; faults = F.faults files.old; faults_after = F.faults files.new }) (record { old = K.received out.old; new = K.received out.new; faults = K.faults out.old; faults_after = K.faults out.new }) result }
+    ensures done { IsDone T.World words.now (record { told = F.told files.old; faults = F.faults files.old; faults_after = F.faults files.new; failed_after = F.last_failed files.new }) (record { old = K.received out.old; new = K.received out.new; faults = K.faults out.old; faults_after = K.faults out.new }) result }
 {
     match command_of(words) {
         Some((config, script)) => replay(alloc, config, script, files, out, targets),
@@ -52,7 +52,7 @@ fn replay<T: Targets, F: Files, K: Sink>(
     out: &mut K,
     targets: &T,
 ) -> Status
-    ensures { ReplayDone T.World config.now script.now (record { told = F.told files.old; faults = F.faults files.old; faults_after = F.faults files.new }) (record { old = K.received out.old; new = K.received out.new; faults = K.faults out.old; faults_after = K.faults out.new }) result }
+    ensures { ReplayDone T.World config.now script.now (record { told = F.told files.old; faults = F.faults files.old; faults_after = F.faults files.new; failed_after = F.last_failed files.new }) (record { old = K.received out.old; new = K.received out.new; faults = K.faults out.old; faults_after = K.faults out.new }) result }
 {
     match files.read_all(alloc, config, CONFIG_LIMIT) {
         FileGot::Whole(text) => match read_route(alloc, text.as_slice()) {
@@ -61,13 +61,7 @@ fn replay<T: Targets, F: Files, K: Sink>(
             Err(RouteFault::Memory) => Status::Memory,
         },
         FileGot::Longer => refuse(out),
-        FileGot::Failed => match fault_line(alloc, config) {
-            Ok(line) => {
-                say(out, line.as_slice());
-                Status::ReadFault
-            }
-            Err(_) => Status::Memory,
-        },
+        FileGot::Failed => unread(alloc, out, config),
         FileGot::Memory => Status::Memory,
     }
 }

@@ -63,6 +63,7 @@ struct FakeFiles {
     name: Text,
     bytes: Text,
     faults: u64,
+    last_failed: Option<Text>,
 }
 
 impl Files for FakeFiles {
@@ -70,8 +71,14 @@ impl Files for FakeFiles {
 
     ghost told = { λ s name. if pointwise ◌==◌ s.name name then Some s.bytes else None };
 
+    ghost last_failed = { λ s. s.last_failed };
+
     fn read_all(&mut self, _: Global, name: &Text, limit: usize) -> FileGot {
         if self.name != *name {
+            let Ok(name) = copy(name) else {
+                return FileGot::Memory;
+            };
+            self.last_failed = Some(name);
             self.faults = self.faults.saturating_add(1);
             return FileGot::Failed;
         }
@@ -133,6 +140,7 @@ fn read_word(alloc: Global, name: &[u8], limit: usize) -> Result<&'static str, M
         name: Text::copy_of(alloc, b"a")?,
         bytes: Text::copy_of(alloc, b"xy")?,
         faults: 0,
+        last_failed: None,
     };
     match files.read_all(alloc, &Text::copy_of(alloc, name)?, limit) {
         FileGot::Whole(_) => Ok("whole"),

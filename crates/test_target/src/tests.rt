@@ -50,7 +50,7 @@ fn answer(
         attr_set: Oid::copy_of(alloc, &[1, 2, 840, 10003, 3, 1])?,
         root,
     };
-    match TestWorld::new().search(alloc, address, &databases(alloc, names)?, &query) {
+    match TestWorld.search(alloc, address, &databases(alloc, names)?, &query) {
         Told::Good(hits) => Ok((hits, Text::new(alloc))),
         Told::Refused(diag) => Ok((diag.condition, diag.addinfo)),
         Told::Memory => Err(Memory),

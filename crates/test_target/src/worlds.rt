@@ -17,14 +17,7 @@ use z_types::{Address, Diag, List, Memory, Rpn, RpnQuery, Text, World, copy};
 /// The built-in test targets, each an unchanging database. No other target can be asked here: it is
 /// unavailable (bib-1, 109).
 #[derive(Drop)]
-pub struct TestWorld {}
-
-impl TestWorld {
-    /// The test targets.
-    pub fn new() -> TestWorld {
-        TestWorld {}
-    }
-}
+pub struct TestWorld;
 
 impl World for TestWorld {
     ghost told = { told_of };
