@@ -1,5 +1,5 @@
 -- what became of a unit is what became of the request that it reads as
-use Rattle.std.proofs.Common.{◌≡◌, ◌++◌, ℕ, List, inl, inr}
+use Rattle.std.proofs.Common.{ℕ, List, inr}
 use Rattle.z_types.specs.declared.requests.Request.{Request}
 use Rattle.z_types.specs.declared.world.World as world
 use Rattle.route_config.specs.declared.route.Route.{Route}

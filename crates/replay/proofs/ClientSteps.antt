@@ -1,6 +1,6 @@
 -- how what a client is answered goes on
-use Rattle.std.proofs.Common.{◌≡◌, ◌⊎◌, ◌≤◌, ◌<◌, ◌+◌, ◌-◌, ◌∙◌, ℕ, Bool, true, false, List, [], ◌∷◌, ◌++◌, length, take, drop, refl, sym, ap, subst, inl, inr, arith, append_assoc, length-append}
-use Rattle.std.specs.List.{flat_map, AllByRecursion}
+use Rattle.std.proofs.Common.{◌≡◌, ◌≤◌, ◌<◌, ◌+◌, ◌-◌, ◌∙◌, ℕ, Bool, List, [], ◌∷◌, ◌++◌, length, take, drop, refl, sym, ap, subst, inl, inr, arith, append_assoc, length-append}
+use Rattle.std.specs.List.{AllByRecursion}
 use Rattle.std.proofs.lemmas.List.{append-nil, take-append-drop, take_rest, drop-drop}
 use Rattle.std.proofs.lemmas.Grind.{common_steps}
 use Rattle.z_types.specs.declared.marks.Mark.{Mark}
@@ -9,7 +9,6 @@ use Rattle.z_types.specs.declared.marks.End.{End}
 use Rattle.z_types.specs.declared.marks.End.TheVariants.{Closed, Finished, Malformed, Cut}
 use Rattle.z_types.specs.declared.world.World as world
 use Rattle.z_ber.specs.Frames.{IsDefiniteFrame}
-use Rattle.z_ber.specs.Header.{Begins, Opens}
 use Rattle.route_config.specs.declared.route.Route.{Route}
 use Rattle.unit_forms.specs.Replies.{spell_reply}
 use Rattle.unit_forms.proofs.Peel.{tag_octets-some}

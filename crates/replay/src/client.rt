@@ -1,6 +1,6 @@
 //! One client's connection: its units are answered in order (ANSI/NISO Z39.50-2003, 4.2).
 
-ghost use Rattle.std.specs.Prelude.{IfOk};
+ghost use Rattle.std.specs.Prelude.{◌≡◌, IfOk};
 ghost use Rattle.replay.specs.Report.{IsClientReport};
 
 use crate::ClientReport;
@@ -37,46 +37,33 @@ pub fn answer<T: Targets>(
                     }
                     Answered::Closed => {
                         marks.push(Mark::Plain)?;
-                        return Ok(ClientReport {
-                            number,
-                            bytes: out,
-                            marks,
-                            end: End::Closed,
-                        });
+                        return Ok(ended(number, out, marks, End::Closed));
                     }
                     Answered::Refused => {
-                        return Ok(ClientReport {
-                            number,
-                            bytes: out,
-                            marks,
-                            end: End::Malformed(at as u64),
-                        });
+                        return Ok(ended(number, out, marks, End::Malformed(at as u64)));
                     }
                 }
             }
             Framed::Open => {
-                return Ok(ClientReport {
-                    number,
-                    bytes: out,
-                    marks,
-                    end: End::Cut((bytes.len() - at) as u64),
-                });
+                return Ok(ended(number, out, marks, End::Cut((bytes.len() - at) as u64)));
             }
             Framed::Bad => {
                 put_reply(alloc, &mut out, protocol_error())?;
-                return Ok(ClientReport {
-                    number,
-                    bytes: out,
-                    marks,
-                    end: End::Malformed(at as u64),
-                });
+                return Ok(ended(number, out, marks, End::Malformed(at as u64)));
             }
         }
     }
-    Ok(ClientReport {
+    Ok(ended(number, out, marks, End::Finished))
+}
+
+/// The report of a client of this number, whose connection ended so.
+fn ended(number: u32, bytes: Text, marks: List<Mark>, end: End) -> ClientReport
+    ensures { result ≡ record { number = number; bytes = bytes; marks = marks; end = end } }
+{
+    ClientReport {
         number,
-        bytes: out,
+        bytes,
         marks,
-        end: End::Finished,
-    })
+        end,
+    }
 }

@@ -1,7 +1,5 @@
-use Rattle.std.proofs.Common.{◌≡◌, ◌<◌, ◌∙◌, ◌++◌, ◌-◌, ◌∷◌, [], ℕ, List, take, drop, length, sym, ap, subst, refl, arith, length-drop}
+use Rattle.std.proofs.Common.{◌∙◌, ◌++◌, ◌-◌, ◌∷◌, [], take, drop, length, sym, ap, subst, refl, arith, length-drop}
 use Rattle.std.proofs.lemmas.List.{append-nil, take_rest}
-use Rattle.z_ber.specs.Frames.{IsDefiniteFrame}
-use Rattle.z_ber.specs.Header.{Begins, Opens}
 use Rattle.z_types.specs.declared.marks.Mark.TheVariants.{Plain}
 use Rattle.z_types.specs.declared.marks.End.TheVariants.{Closed, Finished, Malformed, Cut}
 use Rattle.unit_forms.specs.Replies.{spell_reply}
@@ -41,11 +39,11 @@ returns-in-Closed g c =
     let r : IsReplied g.T.World c.args.route.now state (take size (drop at b)) c.loop-at.out c.answer_unit.new.out became.Closed =
     subst (λ u. IsReplied g.T.World c.args.route.now state u c.loop-at.out c.answer_unit.new.out became.Closed) (unit_at b at size) (rw c.in-Closed.is at c.in_ok-now_accepted-in-Whole.ensures) in
     let w = was_closed g.T.World c.args.route.now c.loop-at.accepted at size b c.loop-at.out c.answer_unit.new.out frame.1 r in
-    record {
+    rw c.ended.ensures (record {
       same_number = refl;
       answers = marked g.T.World c.args.route.now unknown_client 0 b (c.loop-at.out ++ w.0) _ (c.loop-at.marks ++ Plain ∷ []) _ Closed w.1 c.in_ok-push-in-Closed.ensures.ok (c.loop-at.invariant.goes_on (Plain ∷ []) w.0 Closed w.2);
       all_plain = rw c.in_ok-push-in-Closed.ensures.ok (plain_more _ c.loop-at.invariant.all_plain);
-    }
+    })
 
 pub returns-in-Refused : goal.returns-in-Refused
 returns-in-Refused g c =
@@ -56,11 +54,11 @@ returns-in-Refused g c =
     let frame = frame_at b at size c.in-Whole.ensures in
     let h = rw c.in-Refused.is at c.in_ok-now_accepted-in-Whole.ensures in
     let r : IsRefused state (take size (drop at b)) = subst (λ u. IsRefused state u) (unit_at b at size) h.0 in
-    record {
+    rw c.ended-in-Refused.ensures (record {
       same_number = refl;
       answers = unmarked g.T.World c.args.route.now unknown_client 0 b (c.loop-at.out ++ spell_reply protocol_error) _ _ (Malformed at) h.1 (c.loop-at.invariant.goes_on [] _ (Malformed at) (was_refused g.T.World c.args.route.now c.loop-at.accepted at size b frame.1 r));
       all_plain = c.loop-at.invariant.all_plain;
-    }
+    })
 
 pub returns-in-Open : goal.returns-in-Open
 returns-in-Open g c =
@@ -70,11 +68,11 @@ returns-in-Open g c =
     let open_ : IsOpen (drop at b) = subst (λ x. IsOpen x) (take_rest b at) c.in-Open.ensures in
     let rest = was_open g.T.World c.args.route.now state at (drop at b) (rw length-drop (omega arith)) open_ in
     let cut = subst (λ n. AnswersFrom g.T.World c.args.route.now state at (drop at b) [] [] (Cut n)) (length-drop at b) rest in
-    record {
+    rw c.ended-in-Open.ensures (record {
       same_number = refl;
       answers = unmarked g.T.World c.args.route.now unknown_client 0 b (c.loop-at.out ++ []) _ _ (Cut (length b - at)) (sym (append-nil _)) (c.loop-at.invariant.goes_on [] [] (Cut (length b - at)) cut);
       all_plain = c.loop-at.invariant.all_plain;
-    }
+    })
 
 pub returns-in-Bad : goal.returns-in-Bad
 returns-in-Bad g c =
@@ -82,19 +80,19 @@ returns-in-Bad g c =
     let at = c.loop-at.at in
     let state : ClientState = record { accepted = c.loop-at.accepted } in
     let bad : IsBad (drop at b) = subst (λ x. IsBad x) (take_rest b at) c.in-Bad.ensures in
-    record {
+    rw c.ended-in-Bad.ensures (record {
       same_number = refl;
       answers = unmarked g.T.World c.args.route.now unknown_client 0 b (c.loop-at.out ++ spell_reply protocol_error) _ _ (Malformed at) (c.in_ok-put_reply-in-Bad.ensures ∙ ap (λ r. c.loop-at.out ++ spell_reply r) c.protocol_error.ensures) (c.loop-at.invariant.goes_on [] _ (Malformed at) (was_bad g.T.World c.args.route.now state at (drop at b) (rw length-drop (omega arith)) bad));
       all_plain = c.loop-at.invariant.all_plain;
-    }
+    })
 
 pub returns : goal.returns
 returns g c =
     let b = c.args.bytes.now in
     let at = c.loop-at.at in
     let state : ClientState = record { accepted = c.loop-at.accepted } in
-    record {
+    rw c.ended-2.ensures (record {
       same_number = refl;
       answers = unmarked g.T.World c.args.route.now unknown_client 0 b (c.loop-at.out ++ []) _ _ Finished (sym (append-nil _)) (c.loop-at.invariant.goes_on [] [] Finished (was_finished g.T.World c.args.route.now state at (drop at b) (drop_past b at (omega arith))));
       all_plain = c.loop-at.invariant.all_plain;
-    }
+    })
