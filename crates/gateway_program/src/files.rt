@@ -19,7 +19,9 @@ pub(crate) struct SystemFiles<'a, R: rt::Files> {
 
 impl<'a, R: rt::Files> SystemFiles<'a, R> {
     /// The files of this runtime, of which none has failed yet.
-    pub(crate) fn new(runtime: &'a R) -> SystemFiles<'a, R> {
+    pub(crate) fn new(runtime: &'a R) -> SystemFiles<'a, R>
+        ensures { result.faults ≡ 0 }
+    {
         SystemFiles { runtime, faults: 0 }
     }
 

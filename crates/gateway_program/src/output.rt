@@ -15,7 +15,9 @@ pub(crate) struct SystemOutput<W: Write + Drop> {
 
 impl<W: Write + Drop> SystemOutput<W> {
     /// This writer, which has not failed yet.
-    pub(crate) fn new(writer: W) -> SystemOutput<W> {
+    pub(crate) fn new(writer: W) -> SystemOutput<W>
+        ensures { result.faults ≡ 0 }
+    {
         SystemOutput { writer, faults: 0 }
     }
 }

@@ -1,0 +1,132 @@
+//! Elements of BER, and walks through them.
+
+use std::alloc::Global;
+use z_ber::{Element, Tag, put_bytes, put_tree, whole};
+use z_types::{Memory, Text};
+
+/// How the elements stand.
+#[derive(Clone, Copy)]
+pub enum Shape {
+    /// One child that has all octets.
+    Flat,
+    /// Children of five octets each.
+    Small,
+    /// Children of five octets each, on level 64, in elements of definite length.
+    Deep,
+    /// The same in elements of indefinite length.
+    Open,
+    /// One child that has all octets, which come in pieces of 256.
+    Pieces,
+    /// Children in an element of indefinite length, which come in pieces of 256.
+    OpenPieces,
+}
+
+/// How many octets come at a time.
+const PIECE: usize = 256;
+
+/// How many elements there are in an element, with itself, down to so many levels.
+fn count(levels: u32, mut element: Element<'_>) -> u64 {
+    let mut found = 1u64;
+    if levels == 0 {
+        return found;
+    }
+    for _ in 0..element.body().len() {
+        let Ok(Some(child)) = element.next_child() else {
+            return found;
+        };
+        found = found.saturating_add(count(levels - 1, child));
+    }
+    found
+}
+
+/// Children of five octets each, in about so many octets.
+fn small(alloc: Global, size: usize) -> Result<Text, Memory> {
+    let mut out = Text::new(alloc);
+    for _ in 0..size / 5 {
+        put_bytes(&mut out, Tag::context(17), b"abc")?;
+    }
+    Ok(out)
+}
+
+/// These elements in one.
+fn within(alloc: Global, open: bool, inner: &Text) -> Result<Text, Memory> {
+    let mut out = Text::new(alloc);
+    if open {
+        out.append(&[0xb6, 0x80])?;
+        out.append(inner.as_slice())?;
+        out.append(&[0, 0])?;
+    } else {
+        put_tree(&mut out, Tag::constructed_context(22), inner.as_slice())?;
+    }
+    Ok(out)
+}
+
+/// These elements in so many, one within another.
+fn nested(alloc: Global, levels: u32, open: bool, inner: Text) -> Result<Text, Memory> {
+    let mut out = inner;
+    for _ in 0..levels {
+        out = within(alloc, open, &out)?;
+    }
+    Ok(out)
+}
+
+/// One child that has so many octets, in an element.
+fn flat(alloc: Global, size: usize) -> Result<Text, Memory> {
+    let octets = vec![in alloc; b'a'; size]?;
+    let mut child = Text::new(alloc);
+    put_bytes(&mut child, Tag::context(17), octets.as_slice())?;
+    within(alloc, false, &child)
+}
+
+/// The octets of a shape.
+fn sample(alloc: Global, shape: Shape, size: usize) -> Result<Text, Memory> {
+    match shape {
+        Shape::Flat | Shape::Pieces => flat(alloc, size),
+        Shape::Small => nested(alloc, 1, false, small(alloc, size)?),
+        Shape::Deep => nested(alloc, 63, false, small(alloc, size)?),
+        Shape::Open => nested(alloc, 63, true, small(alloc, size)?),
+        Shape::OpenPieces => nested(alloc, 1, true, small(alloc, size)?),
+    }
+}
+
+/// Reads a unit whole: how long it is, and each element in it.
+fn read_whole(octets: &[u8]) -> u64 {
+    if whole(octets).is_err() {
+        return 0;
+    }
+    match Element::first(octets) {
+        Ok(element) => count(64, element),
+        Err(_) => 0,
+    }
+}
+
+/// Asks at each piece whether the unit is whole, and answers how many pieces there were.
+fn read_pieces(octets: &[u8]) -> u64 {
+    let mut pieces = 0u64;
+    for piece in 0..octets.len() / PIECE + 1 {
+        let come = piece
+            .saturating_add(1)
+            .saturating_mul(PIECE)
+            .min(octets.len());
+        pieces = pieces.saturating_add(1);
+        if whole(&octets[..come]).is_ok() {
+            return pieces;
+        }
+    }
+    0
+}
+
+/// Reads a shape of about so many octets so many times, and answers its octets and the elements or
+/// pieces that were read in all.
+pub fn read(alloc: Global, shape: Shape, size: usize, times: u32) -> Result<(usize, u64), Memory> {
+    let octets = sample(alloc, shape, size)?;
+    let mut parts = 0u64;
+    for _ in 0..times {
+        let read = match shape {
+            Shape::Pieces | Shape::OpenPieces => read_pieces(octets.as_slice()),
+            _ => read_whole(octets.as_slice()),
+        };
+        parts = parts.saturating_add(read);
+    }
+    Ok((octets.len(), parts))
+}

@@ -1,0 +1,69 @@
+//! Reads octets that it has made, many times, for the scripts of `bench/` to time. Its words are what
+//! is read, in how many octets about, and how many times; it prints the octets and the parts that
+//! were read.
+#![tactic(auto)]
+
+mod ber;
+mod cql;
+
+use anyhow::{Context, Result, bail};
+use std::alloc::Global;
+use std::env;
+use std::rt::Env;
+use z_types::Memory;
+
+/// What is read.
+#[derive(Clone, Copy)]
+enum Sample {
+    Ber(ber::Shape),
+    Cql(cql::Shape),
+}
+
+/// What a word names.
+fn named(word: &str) -> Option<Sample> {
+    match word {
+        "ber-flat" => Some(Sample::Ber(ber::Shape::Flat)),
+        "ber-small" => Some(Sample::Ber(ber::Shape::Small)),
+        "ber-deep" => Some(Sample::Ber(ber::Shape::Deep)),
+        "ber-open" => Some(Sample::Ber(ber::Shape::Open)),
+        "ber-pieces" => Some(Sample::Ber(ber::Shape::Pieces)),
+        "ber-open-pieces" => Some(Sample::Ber(ber::Shape::OpenPieces)),
+        "cql-clauses" => Some(Sample::Cql(cql::Shape::Clauses)),
+        "cql-strings" => Some(Sample::Cql(cql::Shape::Strings)),
+        _ => None,
+    }
+}
+
+/// Reads a sample of about so many octets so many times, and answers how many octets it has and how
+/// many parts were read in all.
+fn read(
+    alloc: Global,
+    sample: Sample,
+    size: usize,
+    times: u32,
+) -> std::result::Result<(usize, u64), Memory> {
+    match sample {
+        Sample::Ber(shape) => ber::read(alloc, shape, size, times),
+        Sample::Cql(shape) => cql::read(alloc, shape, size, times),
+    }
+}
+
+/// Does what the words after the program's name say.
+fn run<R: Env + Print + AllocGlobal>(rt: &R) -> Result<()> {
+    let mut words = env::args(rt)?.skip(1);
+    let (Some(name), Some(size), Some(times)) = (words.next(), words.next(), words.next()) else {
+        bail!("usage: bench_readers SAMPLE OCTETS TIMES");
+    };
+    let sample = named(name.as_str()).context("no such sample")?;
+    let size = size.as_str().parse::<usize>()?;
+    let times = times.as_str().parse::<u32>()?;
+    let Ok((octets, parts)) = read(rt.alloc(), sample, size, times) else {
+        bail!("no memory could be had");
+    };
+    rt.println(format_args!("{octets} octets, {parts} parts"))?;
+    Ok(())
+}
+
+fn main(rt: HostRuntime) -> Result<()> {
+    run(&rt)
+}
