@@ -4,3 +4,6 @@ pub mod RequestLemmas
 pub mod QueryLemmas
 pub mod SearchLemmas
 pub mod RequestKinds
+pub mod OneField
+pub mod OneRequest
+pub mod OneReply

@@ -1,9 +1,8 @@
 -- the parts of a query of one operand, one after another
-use Rattle.std.proofs.Common.{◌≡◌, ◌==◌, ◌<◌, ◌≤◌, ◌+◌, ◌∙◌, ℕ, false, List, [], ◌∷◌, ◌++◌, length, None, refl, sym, ap, arith, append_assoc, length-append}
+use Rattle.std.proofs.Common.{◌≡◌, ◌==◌, ◌<◌, ◌+◌, ◌∙◌, ℕ, false, List, [], ◌∷◌, ◌++◌, length, refl, sym, ap, arith, append_assoc, length-append}
 use Rattle.std.specs.List.{flat_map, AllByRecursion}
 use Rattle.z_types.specs.declared.query.Attr.{Attr}
 use Rattle.z_types.specs.declared.query.RpnQuery.{RpnQuery}
-use Rattle.z_types.specs.declared.query.Term.{Term}
 use Rattle.z_types.specs.declared.query.Term.TheVariants.{General, Number, Words}
 use Rattle.z_types.specs.Tree.{Tree, leaf, operand, and, or, and_not}
 use Rattle.z_ber.specs.Written.{element, oid_octets}
@@ -41,11 +40,12 @@ pub record Operand (tree : Tree) : Type 0 where
   pub attrs : List Attr
   pub octets : List ℕ
   pub served : AreServedAttrs attrs
+  pub is : tree ≡ leaf attrs (General octets)
   pub spelled : tree_octets tree ≡ element (constructed 0) (element (constructed 102) (element (constructed 44) (flat_map attr_octets attrs) ++ text_at 45 octets))
 
 pub operand_of : (tree : Tree) → IsServedTree tree → Operand tree
 unfolding tree_octets leaf_octets
-operand_of (leaf attrs (General octets)) served = record { attrs = attrs; octets = octets; served = served.0; spelled = refl }
+operand_of (leaf attrs (General octets)) served = record { attrs = attrs; octets = octets; served = served.0; is = refl; spelled = refl }
 operand_of (leaf attrs (Number value)) served = absurd served.1
 operand_of (leaf attrs (Words octets)) served = absurd served.1
 operand_of (operand name) served = absurd served

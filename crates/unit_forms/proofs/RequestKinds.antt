@@ -1,9 +1,6 @@
 -- the kind of a request is told by the tag of its unit
 use Rattle.std.proofs.Common.{◌≡◌, ◌≢◌, ◌==◌, ◌∙◌, ℕ, false, List, [], None, refl, sym, ap, arith}
 use Rattle.std.proofs.lemmas.List.{append-nil}
-use Rattle.z_types.specs.declared.requests.Init.{Init}
-use Rattle.z_types.specs.declared.requests.Search.{Search}
-use Rattle.z_types.specs.declared.requests.Close.{Close}
 use Rattle.z_types.specs.declared.requests.Request.{Request}
 use Rattle.z_types.specs.declared.requests.Request.TheVariants as request
 use Rattle.z_ber.specs.declared.tag.Tag.{Tag}
@@ -15,7 +12,8 @@ use Rattle.unit_forms.specs.Served.{IsServedInit, IsServedSearch, IsServedClose,
 use Rattle.unit_forms.specs.Read.{IsReadAs}
 use Rattle.unit_forms.proofs.Peel.{peel_only}
 
-distinct : (m n : ℕ) → (m == n) ≡ false → m ≢ n
+-- numbers that are tested as two are two
+pub distinct : (m n : ℕ) → (m == n) ≡ false → m ≢ n
 distinct m n h e = absurd (grind arith)
 
 -- units of two tags are two

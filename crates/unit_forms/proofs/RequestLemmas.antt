@@ -1,10 +1,9 @@
 -- the fields of a request, one after another
-use Rattle.std.proofs.Common.{◌≡◌, ◌≢◌, ◌∙◌, ℕ, List, [], ◌++◌, Option, Some, None, refl, sym, ap, append_assoc}
+use Rattle.std.proofs.Common.{◌≡◌, ◌≢◌, ◌∙◌, ℕ, List, ◌++◌, Option, Some, None, refl, sym, ap, append_assoc}
 use Rattle.std.proofs.lemmas.List.{append-nil}
 use Rattle.z_types.specs.declared.requests.Init.{Init}
 use Rattle.z_types.specs.declared.requests.Close.{Close}
 use Rattle.z_ber.specs.declared.tag.Tag.{Tag}
-use Rattle.z_ber.specs.Written.{element}
 use Rattle.z_ber.proofs.ElementLaws.{element-one}
 use Rattle.unit_forms.specs.Fields.{ref_id_field, text_at, bits_at, number_at, primitive}
 use Rattle.unit_forms.specs.Requests.{init_fields, close_fields}

@@ -1,6 +1,5 @@
 -- the fields of a Search that is served, one after another
-use Rattle.std.proofs.Common.{◌≡◌, ◌==◌, ◌∙◌, ◌+◌, ℕ, suc, true, false, take, drop, List, [], ◌∷◌, ◌++◌, length, None, codes, refl, sym, ap, append_assoc, arith}
-use Rattle.std.specs.List.{flat_map}
+use Rattle.std.proofs.Common.{◌≡◌, ◌==◌, ◌∙◌, ℕ, true, false, take, drop, List, [], ◌∷◌, ◌++◌, length, refl, sym, ap, append_assoc, arith}
 use lib.Pointwise.{pointwise}
 use Rattle.z_types.specs.Exact.{text_exact}
 use Rattle.std.proofs.lemmas.Cmp.{nat_list_eq_equiv}

@@ -1,6 +1,6 @@
 -- tags that are tested as equal are one
-use Rattle.std.proofs.Common.{◌≡◌, ◌≢◌, ◌&&◌, ◌==◌, ◌∙◌, ℕ, Bool, true, false, refl, sym, subst}
-use Rattle.std.proofs.lemmas.Bool.{eqb-true, eq-eqb}
+use Rattle.std.proofs.Common.{◌≡◌, ◌≢◌, ◌&&◌, ◌==◌, Bool, true, false, refl, subst}
+use Rattle.std.proofs.lemmas.Bool.{eq-eqb}
 use mathlib.Core.Bool.{beq}
 use Rattle.z_types.specs.Exact.{EqIsExact, exact_by, exact_both, numbers_exact, bools_exact}
 use Rattle.z_ber.specs.declared.tag.Tag.{Tag}

@@ -4,3 +4,4 @@ pub mod Requests
 pub mod Replies
 pub mod Served
 pub mod Read
+pub mod Told

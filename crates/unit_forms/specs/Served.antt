@@ -1,5 +1,5 @@
 -- Which units are read (this project's own): those of the forms below, each as it is written and in no other way.
-use Rattle.std.specs.Prelude.{◌≡◌, ℕ, ◌^◌, ◌<◌, ◌≤◌, true, List, [], ◌∷◌, ◌++◌, length, Option, None, Some, IfSome, IsTrue, codes}
+use Rattle.std.specs.Prelude.{◌≡◌, ℕ, ◌^◌, ◌<◌, ◌≤◌, true, List, ◌++◌, length, Option, None, Some, IsTrue, codes}
 use Rattle.std.specs.List.{AllByRecursion}
 use Rattle.z_types.specs.Oid.{is_oid}
 use Rattle.z_types.specs.Tree.{Tree, leaf, operand, and, or, and_not}

@@ -4,11 +4,16 @@
 
 mod elements;
 mod fields;
+mod laws;
 mod queries;
 mod replies;
 mod requests;
 mod searches;
 mod values;
 
+pub use laws::{one_reply, one_request};
 pub use replies::write_reply;
 pub use requests::read_request;
+
+#[cfg(test)]
+mod tests;

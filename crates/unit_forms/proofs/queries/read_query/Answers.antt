@@ -1,4 +1,4 @@
-use Rattle.std.proofs.Common.{sym, ◌∙◌}
+use Rattle.std.proofs.Common.{◌∙◌}
 use Rattle.unit_forms.proofs.Peel.{peel, peel_only}
 use Rattle.unit_forms.proofs.QueryLemmas.{query_of, query-made}
 use Rattle.unit_forms.proofs.queries.read_query.Goals as goal

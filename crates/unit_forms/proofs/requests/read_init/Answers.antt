@@ -1,6 +1,5 @@
-use Rattle.std.proofs.Common.{rules, ◌≡◌, ◌++◌, [], refl, sym, ap, ◌∙◌}
-use Rattle.std.proofs.lemmas.List.{append-nil}
-use Rattle.unit_forms.specs.Fields.{ref_id_field, bits_at, number_at}
+use Rattle.std.proofs.Common.{◌++◌, sym, ap, ◌∙◌}
+use Rattle.unit_forms.specs.Fields.{ref_id_field}
 use Rattle.unit_forms.proofs.Peel.{peel}
 use Rattle.unit_forms.proofs.RequestLemmas.{init-front, init-made}
 use Rattle.unit_forms.specs.Served.{IsServedInit}

@@ -1,4 +1,4 @@
-use Rattle.std.proofs.Common.{◌≡◌, ◌++◌, [], ◌∷◌, length, refl, sym, ap, ◌∙◌}
+use Rattle.std.proofs.Common.{length, refl, ap, ◌∙◌}
 use Rattle.unit_forms.specs.Served.{IsServedSearch}
 use Rattle.unit_forms.proofs.Peel.{peel, peel_only}
 use Rattle.unit_forms.proofs.SearchLemmas.{search_parts, shown-peel, search-made}

@@ -1,5 +1,4 @@
 use Rattle.unit_forms.proofs.Peel.{peel}
-use Rattle.std.proofs.Common.{◌∙◌, sym}
 use Rattle.unit_forms.proofs.values.bits_field.Goals as goal
 
 pub returns-in-None-bits_of-clause-none : goal.returns-in-None-bits_of-clause-none

@@ -1,5 +1,4 @@
 use Rattle.unit_forms.proofs.Peel.{peel}
-use Rattle.std.proofs.Common.{◌∙◌, sym}
 use Rattle.unit_forms.proofs.values.number_field.Goals as goal
 
 pub returns-in-None-number_of-clause-none : goal.returns-in-None-number_of-clause-none
