@@ -1,2 +1,3 @@
+pub mod Fault
 pub mod Lookup
 pub mod Smallest

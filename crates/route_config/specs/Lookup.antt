@@ -1,5 +1,5 @@
 -- What stands at the places of a route (this project's own)
-use Rattle.std.specs.Prelude.{ℕ, List, Option, None, Some, find, slice_get}
+use Rattle.std.specs.Prelude.{ℕ, List, Option, find, slice_get}
 use Rattle.std.specs.Str.{str_eq_ignore_ascii_case}
 use Rattle.std.specs.Option.{option_and_then}
 use Rattle.z_types.specs.declared.address.Address.{Address}

@@ -14,6 +14,20 @@ pub enum RouteFault {
     Memory,
 }
 
+impl RouteFault {
+    ghost use Rattle.route_config.specs.Fault.{number_of};
+
+    /// The number of the refusal: 0 for `Stage`, and 0 for want of memory.
+    pub fn number(&self) -> u32
+        ensures { result ≡ number_of self.now }
+    {
+        match self {
+            RouteFault::Stage => 0,
+            RouteFault::Memory => 0,
+        }
+    }
+}
+
 impl From<Memory> for RouteFault {
     ghost from_gives = { λ _ e. e ≡ no_memory };
 

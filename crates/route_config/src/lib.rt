@@ -11,3 +11,6 @@ pub use faults::RouteFault;
 pub use lookup::{database_named, first_address};
 pub use route::{Class, Database, Group, Index, PoolNumbers, Route, RouteLeg, Target};
 pub use smallest::read_route;
+
+#[cfg(test)]
+mod tests;
