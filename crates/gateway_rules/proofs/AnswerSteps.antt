@@ -1,10 +1,10 @@
 -- how the answers to a client go on by one unit, or end
-use Rattle.std.proofs.Common.{◌≡◌, ◌≢◌, ◌⊎◌, ◌+◌, ℕ, Bool, true, false, cond, List, [], ◌∷◌, ◌++◌, length, Option, Some, None, refl, sym, ap, ◌∙◌, subst, inl, inr, append_assoc, append-nil, map, ⊎_elim, MatchBool}
-use Rattle.std.specs.List.{flat_map, AllByRecursion, AllZip}
+use Rattle.std.proofs.Common.{◌≡◌, ◌⊎◌, ◌+◌, ℕ, Bool, true, false, List, [], ◌∷◌, ◌++◌, length, Some, None, refl, sym, ap, ◌∙◌, inl, inr, append_assoc, append-nil, MatchBool}
+use Rattle.std.specs.List.{flat_map}
 use Rattle.z_types.specs.declared.marks.Mark.{Mark}
 use Rattle.z_types.specs.declared.marks.Mark.TheVariants.{Plain}
 use Rattle.z_types.specs.declared.marks.End.{End}
-use Rattle.z_types.specs.declared.marks.End.TheVariants.{Closed, Finished, Malformed, Cut}
+use Rattle.z_types.specs.declared.marks.End.TheVariants.{Closed, Malformed}
 use Rattle.z_types.specs.declared.requests.Request.{Request}
 use Rattle.z_types.specs.declared.replies.Reply.{Reply}
 use Rattle.z_types.specs.declared.world.World as world
@@ -12,9 +12,9 @@ use Rattle.route_config.specs.declared.route.Route.{Route}
 use Rattle.unit_forms.specs.Replies.{spell_reply}
 use Rattle.unit_forms.specs.Served.{Reads, IsReading}
 use Rattle.z_ber.specs.Frames.{IsDefiniteFrame}
-use Rattle.gateway_rules.specs.Marks.{Cause, plain}
-use Rattle.gateway_rules.specs.Session.{replies, Fits, reply_to, protocol_error}
-use Rattle.gateway_rules.specs.Ending.{HasEnded, RestEnds, IsOpen, IsBad}
+use Rattle.gateway_rules.specs.Marks.{plain}
+use Rattle.gateway_rules.specs.Session.{reply_to, protocol_error}
+use Rattle.gateway_rules.specs.Ending.{RestEnds}
 use Rattle.gateway_rules.specs.State.{ClientState, is_in_place, state_after, is_close}
 use Rattle.gateway_rules.specs.Answers.{AnswersFrom}
 

@@ -1,5 +1,5 @@
 -- The answers to a client's octets (ANSI/NISO Z39.50-2003): those of a route with private sessions and no pool, under the marks that are listed
-use Rattle.std.specs.Prelude.{◌≡◌, ℕ, List, [], ◌++◌, Option, map}
+use Rattle.std.specs.Prelude.{◌≡◌, ℕ, List, ◌++◌, Option, map}
 use Rattle.std.specs.List.{flat_map, AllByRecursion, AllZip}
 use Rattle.z_types.specs.declared.marks.Mark.{Mark}
 use Rattle.z_types.specs.declared.marks.End.{End}

@@ -1,5 +1,5 @@
 -- What a Search is answered (ANSI/NISO Z39.50-2003, 3.2.2), as a route with private sessions answers it
-use Rattle.std.specs.Prelude.{◌≡◌, ℕ, ◌+◌, ◌-◌, ◌^◌, Bool, true, false, not, List, [], ◌∷◌, ◌++◌, Option, None, Some, Result, Ok, Err, if◌then◌else◌, nat_le, min, sum, find, filter, is_none, slice_get}
+use Rattle.std.specs.Prelude.{ℕ, ◌-◌, ◌^◌, true, false, not, List, [], ◌∷◌, Option, None, Some, Result, Ok, Err, if◌then◌else◌, nat_le, min, sum, find, filter, is_none, slice_get}
 use Rattle.std.specs.List.{flat_map}
 use Rattle.std.specs.Str.{str_eq_ignore_ascii_case}
 use Rattle.z_types.specs.Bib1.{bib1}

@@ -1,5 +1,5 @@
 -- A client's session (ANSI/NISO Z39.50-2003, 4.2 and 3.2.11): its requests answered in order from an unknown client, each under the next cause
-use Rattle.std.specs.Prelude.{◌≡◌, ℕ, Bool, true, false, List, [], ◌∷◌, Option, None, Some, if◌then◌else◌, Contains, MatchBool}
+use Rattle.std.specs.Prelude.{◌≡◌, ℕ, true, false, List, [], ◌∷◌, Option, None, Some, if◌then◌else◌, Contains, MatchBool}
 use Rattle.z_types.specs.declared.marks.Mark.{Mark}
 use Rattle.z_types.specs.declared.marks.Mark.TheVariants.{Plain, Link, Silent, Gone, Full}
 use Rattle.z_types.specs.declared.requests.Close.{Close}

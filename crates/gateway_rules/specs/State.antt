@@ -1,6 +1,5 @@
 -- What the gateway keeps of a client (this project's own): nothing of its sessions with targets, or of other clients.
 use Rattle.std.specs.Prelude.{Bool, true, false, not}
-use Rattle.z_types.specs.declared.requests.Init.{Init}
 use Rattle.z_types.specs.declared.requests.Request.{Request}
 use Rattle.z_types.specs.declared.requests.Request.TheVariants as request
 use Rattle.gateway_rules.specs.Init.{has_version}

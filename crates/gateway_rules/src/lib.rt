@@ -5,3 +5,6 @@
 mod init;
 
 pub use init::{has_version, init_reply};
+
+#[cfg(test)]
+mod tests;

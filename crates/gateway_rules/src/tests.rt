@@ -1,0 +1,62 @@
+//! Inits and what they are answered, by ANSI/NISO Z39.50-2003, 3.2.1.1.
+
+use crate::*;
+use std::test::Fail;
+use z_types::{Init, Reply, Text};
+
+/// Versions and options that are asked for, then those that are agreed to, and whether the session is
+/// accepted.
+const AGREED: [(u32, u32, u32, u32, bool); 6] = [
+    // versions 1 to 3 and all options: search, present, scan and named result sets
+    (0b111, 0xffffffff, 0b111, 0b100_0000_1000_0011, true),
+    // version 3 alone, and no option
+    (0b100, 0, 0b100, 0, true),
+    // versions 1 to 5, search and delete
+    (0b11111, 0b101, 0b111, 0b1, true),
+    // version 4 and later alone
+    (0xfffffff8, 0b11, 0, 0b11, false),
+    // no version
+    (0, 0b1, 0, 0b1, false),
+    // every option but the four
+    (0b1, 0xffffbf7c, 0b1, 0, true),
+];
+
+/// Sizes that are asked for, and those that are agreed to.
+const SIZES: [(u32, u32); 4] = [
+    (0, 0),
+    (1048575, 1048575),
+    (1048577, 1048576),
+    (2147483647, 1048576),
+];
+
+#[test]
+fn an_init_is_answered_with_what_is_common(rt: HostRuntime) -> Result<(), Fail> {
+    let alloc = rt.alloc();
+    for (versions, options, common, agreed, accepted) in AGREED {
+        for (asked, size) in SIZES {
+            let init = Init {
+                ref_id: Some(Text::copy_of(alloc, b"ab")?),
+                versions,
+                options,
+                preferred: asked,
+                exceptional: 7,
+            };
+            let expected = Reply::Init {
+                init: Init {
+                    ref_id: Some(Text::copy_of(alloc, b"ab")?),
+                    versions: common,
+                    options: agreed,
+                    preferred: size,
+                    exceptional: 7,
+                },
+                result: accepted,
+            };
+            assert!(rt;
+                init_reply(&init)? == expected,
+                "versions {versions}, size {asked}"
+            );
+            assert_eq!(rt; has_version(&init), accepted);
+        }
+    }
+    Ok(())
+}
