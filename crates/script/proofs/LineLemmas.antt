@@ -1,8 +1,8 @@
 -- where the first line of a text ends
-use Rattle.std.proofs.Common.{◌≡◌, ◌==◌, ◌+◌, ◌<◌, ◌≤◌, ℕ, Bool, true, false, not, List, [], ◌∷◌, take, drop, length, Option, Some, None, position, refl, ap, ◌∙◌, sym, subst, nat_lt, cond, arith}
-use Rattle.std.specs.List.{position_or_len, slice_split}
+use Rattle.std.proofs.Common.{◌≡◌, ◌==◌, ◌+◌, ◌≤◌, ℕ, Bool, true, false, not, List, [], ◌∷◌, take, drop, length, Some, None, position, refl, ap, ◌∙◌, nat_lt, cond, arith}
+use Rattle.std.specs.List.{position_or_len}
 use Rattle.std.proofs.lemmas.Option.{cond_some}
-use Rattle.std.proofs.lemmas.Bool.{ltb-true, lt-ltb, false≢true}
+use Rattle.std.proofs.lemmas.Bool.{ltb-true}
 use Rattle.std.proofs.lemmas.List.Splits.{slice_split_first, slice_split_none}
 use Rattle.std.proofs.lemmas.List.Sums.{prefix_len_passes}
 use Rattle.script.specs.Script.{lines}

@@ -7,3 +7,6 @@ mod read;
 
 pub use event::{Event, ScriptFault};
 pub use read::read_script;
+
+#[cfg(test)]
+mod tests;

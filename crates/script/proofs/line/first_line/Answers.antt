@@ -1,4 +1,4 @@
-use Rattle.std.proofs.Common.{arith, sym, ◌∙◌}
+use Rattle.std.proofs.Common.{sym, ◌∙◌}
 use Rattle.std.proofs.lemmas.List.{take_rest}
 use Rattle.script.proofs.LineLemmas.{lines-at, lines_whole}
 use Rattle.script.proofs.line.first_line.Goals as goal

@@ -1,4 +1,4 @@
-use Rattle.std.proofs.Common.{◌≡◌, ◌==◌, List, ℕ, [], Result, Ok, Err, refl, arith}
+use Rattle.std.proofs.Common.{◌≡◌, ◌==◌, List, [], Result, Ok, Err, refl, arith}
 use Rattle.std.proofs.lemmas.List.Sums.{count_by-le-length}
 use Rattle.std.proofs.lemmas.List.Splits.{length-slice_split}
 use Rattle.script.specs.declared.event.Event.{Event}

@@ -1,6 +1,6 @@
 use Rattle.std.proofs.Common.{◌≡◌, ◌+◌, ◌≤◌, length}
 use Rattle.std.specs.Option.{option_copied}
-use Rattle.script.specs.Script.{events_of, events_before, lines, lines_behind, script_of}
+use Rattle.script.specs.Script.{events_of, events_before, lines_behind, script_of}
 use Rattle.script.proofs.Fed.{was_fed}
 use Rattle.script.proofs.read.read_script.Given as goal
 
