@@ -24,18 +24,22 @@ use Rattle.z_ber.proofs.Closing.{close_at-closed}
 abbrev pub Indefinite : ℕ → List ℕ → Tag → List ℕ → Type 0
 Indefinite k = IsIndefinite (λ frame. (t : Tag) × (b : List ℕ) × IsExtent k frame t b)
 
+-- a definite element is an extent
 pub extent-definite : (k : ℕ) (f b : List ℕ) (t : Tag) → IsDefinite f t b → IsExtent (suc k) f t b
 unfolding IsExtent
 extent-definite k f b t d = inl d
 
+-- an indefinite element of extents one level deeper is an extent
 pub extent-indefinite : (k : ℕ) (f b : List ℕ) (t : Tag) → Indefinite k f t b → IsExtent (suc k) f t b
 unfolding IsExtent
 extent-indefinite k f b t d = inr d
 
+-- an extent has one of the two forms
 pub extent-cases : (k : ℕ) (f b : List ℕ) (t : Tag) → IsExtent (suc k) f t b → IsDefinite f t b ⊎ Indefinite k f t b
 unfolding IsExtent
 extent-cases k f b t x = x
 
+-- no extent stands where no level is left
 pub extent-none : {P : Type 0} (f b : List ℕ) (t : Tag) → IsExtent 0 f t b → P
 unfolding IsExtent
 extent-none f b t x = absurd x
@@ -48,6 +52,7 @@ Inner room frame = IsFrameAt room frame × (frame ≢ end_of_contents)
 abbrev pub joined : List (List ℕ) → List ℕ
 joined frames = flat_map (λ frame. frame) frames
 
+-- frames, an end of contents, and what is behind it
 pub record ClosesOne (room : ℕ) (Behind : List ℕ → Type 0) (bytes : List ℕ) : Type 0 where
   pub frames : List (List ℕ)
   pub after : List ℕ
@@ -60,9 +65,11 @@ abbrev pub Closes : ℕ → ℕ → List ℕ → List ℕ → Type 0
 Closes zero room bytes rest = bytes ≡ rest
 Closes (suc opened) room bytes rest = ClosesOne room (λ after. Closes opened (suc room) after rest) bytes
 
+-- an end of contents closes one element more
 pub closes_end : (o room : ℕ) (bytes after rest : List ℕ) → bytes ≡ end_of_contents ++ after → Closes o (suc room) after rest → Closes (suc o) room bytes rest
 closes_end o room bytes after rest e c = record { frames = []; after = after; each = tt; spelled = e; behind = c }
 
+-- a frame in front keeps what closes
 pub closes_frame : (o room : ℕ) (bytes f after rest : List ℕ) → Inner room f → bytes ≡ f ++ after → Closes (suc o) room after rest → Closes (suc o) room bytes rest
 closes_frame o room bytes f after rest i e c = record {
   frames = f ∷ c.frames;
@@ -75,6 +82,7 @@ closes_frame o room bytes f after rest i e c = record {
 indefinite_apart : (k : ℕ) (f b : List ℕ) (t : Tag) → Indefinite k f t b → f ≢ end_of_contents
 indefinite_apart k f b t d e = head_apart d.head t (b ++ end_of_contents) [] d.header (sym (append_assoc d.head b end_of_contents) ∙ sym d.spelled ∙ e)
 
+-- an indefinite header in front opens one element more
 pub closes_open : (o k : ℕ) (bytes head after rest : List ℕ) (t : Tag) → IsHeader head t None → bytes ≡ head ++ after → Closes (suc (suc o)) k after rest → Closes (suc o) (suc k) bytes rest
 closes_open o k bytes head after rest t h e c =
     let f : List ℕ = (head ++ joined c.frames) ++ end_of_contents in
@@ -87,15 +95,19 @@ closes_open o k bytes head after rest t h e c =
 
 -- ---- what is found is so
 
+-- one answer gives one rest
 pub ok_one : (x y : List ℕ) (r : Result (List ℕ) BerFault) → r ≡ Ok x → r ≡ Ok y → x ≡ y
 ok_one x y r p q = cc
 
+-- a rest and a fault are two answers
 pub ok_err : {P : Type 0} (x : List ℕ) (e : BerFault) (r : Result (List ℕ) BerFault) → r ≡ Ok x → r ≡ Err e → P
 ok_err x e r p q = absurd cc
 
+-- one answer gives one fault
 pub err_one : (d e : BerFault) (r : Result (List ℕ) BerFault) → r ≡ Err d → r ≡ Err e → d ≡ e
 err_one d e r p q = cc
 
+-- what is behind octets are octets
 pub bytes_of : (b x y : List ℕ) → IsBytes b → b ≡ x ++ y → IsBytes y
 bytes_of b x y fits e = IsBytes-suffix x y (subst (λ (l : List ℕ). IsBytes l) e fits)
 
@@ -114,6 +126,7 @@ sound_step n o r b rest fits ih (Ok (Open, after)) h e =
     subst (λ (k : ℕ). Closes (suc o) k b rest) (sym h.room-is) (closes_open o h.level b h.head after rest h.tag h.header h.spelled d)
 sound_step n o r b rest fits ih (Err d) h e = ok_err rest d _ e refl
 
+-- where reading finds an end, elements close
 pub close_at-sound : (n : ℕ) (rest : List ℕ) → Sound n rest
 close_at-sound n rest zero r b fits e = ok_one b rest _ (close_at-closed n r b) e
 close_at-sound zero rest (suc o) r b fits e = ok_err rest Short _ e refl
@@ -148,6 +161,7 @@ peel_frames o (suc k) bytes rest after (f ∷ fs) each e c =
     regroup : (a b c d : List ℕ) → ((a ++ b) ++ c) ++ d ≡ a ++ (b ++ (c ++ d))
     regroup a b c d = append_assoc (a ++ b) c d ∙ append_assoc a b (c ++ d)
 
+-- elements that close begin with one of three
 pub peel : (o room : ℕ) (bytes rest : List ℕ) → Closes (suc o) room bytes rest → Peeled o room bytes rest
 peel o room bytes rest c = peel_frames o room bytes rest c.after c.frames c.each c.spelled c.behind
 
@@ -165,6 +179,7 @@ complete_step n o r b rest ih lt (peel_open k head after t room h e c) =
     let less : k ≡ r - 1 = omega (arith, room) in
     ap (close_on (close_at n) o r) step ∙ ih (suc (suc o)) (r - 1) after (subst (λ (x : ℕ). Closes (suc (suc o)) x after rest) less c) (omega (arith, ap length e, length-append head after, length-header head t None h))
 
+-- where elements close, reading finds the end
 pub close_at-complete : (n : ℕ) (rest : List ℕ) → Complete n rest
 close_at-complete n rest zero r b c lt = close_at-closed n r b ∙ ap (λ (x : List ℕ). Ok x) c
 close_at-complete zero rest (suc o) r b c lt = absurd (omega arith)
@@ -190,6 +205,7 @@ whole_open f h c x y s t p q e =
     let one = heads_one p.head h s t (Some (length c)) None (c ++ x) y p.header q (sym (append_assoc p.head c x) ∙ ap (λ o. o ++ x) (sym p.spelled) ∙ e) in
     none_some (length c) None refl (sym one.1)
 
+-- more octets behind a front go behind what follows it
 pub behind_more : (b f after more : List ℕ) → b ≡ f ++ after → b ++ more ≡ f ++ (after ++ more)
 behind_more b f after more e = ap (λ o. o ++ more) e ∙ append_assoc f after more
 
@@ -249,6 +265,7 @@ none_step n o r b d long fits ih (Err BadLength) h e more rest c = stuck o r b m
 none_step n o r b d long fits ih (Err (TooLarge k)) h e more rest c = h
 none_step n o r b d long fits ih (Err TooDeep) h e more rest c = stuck o r b more rest h (peel o r (b ++ more) rest c)
 
+-- where reading meets a fault, no continuation closes
 pub close_at-none : (n : ℕ) → NoClosing n
 close_at-none n zero r b d long fits e more rest c = ok_err b d _ (close_at-closed n r b) e
 close_at-none zero (suc o) r b d long fits e more rest c = long (err_one d Short _ e refl)

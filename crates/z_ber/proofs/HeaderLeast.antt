@@ -23,10 +23,6 @@ abbrev pub asked : Option ℕ → ℕ
 asked None = 0
 asked (Some n) = n
 
--- the least that must come of a header that goes on as this one, with what is behind it
-abbrev HeaderLeast : List ℕ → Result (Tag × List ℕ) BerFault → List ℕ → Option ℕ → List ℕ → Type 0
-HeaderLeast more s head l x = wanting_in_header s + length x ≤ length more + asked l
-
 -- one octet at least ends the identifier octets, and one is the length octets
 untagged_least : (b more head x : List ℕ) (t : Tag) (l : Option ℕ) (h : IsHeader head t l) → tag_at b ≡ Err Short → b ++ more ≡ tag_octets t ++ (h.ends ++ x) → 2 + length x ≤ length more
 untagged_least b more head x t l h p e =
@@ -55,6 +51,7 @@ long_least lead count digits more ends x c (Some n) lead-is some short h e =
     let m : length (lead ∷ (digits ++ more)) ≡ length (ends ++ x) = ap length e in
     omega (arith, g.0, g.1, m, length-append digits more, length-append ends x, short)
 
+-- what is wanting of a header that has come in part comes before what is behind it
 header_least : (b more : List ℕ) → header_at b ≡ Err Short → (s : Result (Tag × List ℕ) BerFault) → tag_at b ≡ s → TagRead b s → (head x : List ℕ) (t : Tag) (l : Option ℕ) (h : IsHeader head t l) → b ++ more ≡ tag_octets t ++ (h.ends ++ x) → wanting_in_header s + length x ≤ length more + asked l
 header_least b more q (Err Short) p r head x t l h e = omega (arith, untagged_least b more head x t l h p e)
 header_least b more q (Err BadTag) p r head x t l h e = absurd (let d : Err BadTag ≡ Err Short = sym (header_at-untagged b BadTag p) ∙ q in cc)
@@ -73,11 +70,13 @@ header_least b more q (Ok (u, lead ∷ digits)) p r head x t l h e =
     let m = same_ends b more (lead ∷ digits) head x u t l h r.0 r.1 e in
     rw few (long_least lead (lead - 128) digits more h.ends x t.constructed l (omega (arith, k.0)) (omega (arith, k.0)) k.2 h.lengths m)
 
+-- an element whose contents have come is not in part
 child_open : {P : Type 0} (len : ℕ) (t : Tag) (body : List ℕ) → len ≤ length body → child_behind (Ok (t, Some len, body)) ≡ Err Short → P
 child_open len t body come e =
     let f : child_behind (Ok (t, Some len, body)) ≡ Ok (Passed, drop len body) = rw (le-ltb (length body) len come) refl in
     ok_not_err (child_behind (Ok (t, Some len, body))) (Passed, drop len body) Short f e
 
+-- the same of an element, by how its header is read
 element_step : (b more : List ℕ) → IsBytes b → (r : Result HeaderParts BerFault) → header_at b ≡ r → HeaderRead b r → child_behind r ≡ Err Short → (head x : List ℕ) (t : Tag) (l : Option ℕ) (h : IsHeader head t l) → b ++ more ≡ head ++ x → wanting_in_element b r + length x ≤ length more + asked l
 element_step b more fits (Ok (u, None, body)) p w s head x t l h e = ok_not_err (child_behind (Ok (u, None, body))) (Open, body) Short refl s
 element_step b more fits (Ok (u, Some len, body)) p w s head x t l h e =

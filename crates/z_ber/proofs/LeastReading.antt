@@ -75,12 +75,11 @@ closes_ends (suc o) r b rest c =
     let h = closes_ends o (suc r) c.after rest c.behind in
     omega (arith, h, ap length c.spelled, length-append (joined c.frames) (end_of_contents ++ c.after), length-append end_of_contents c.after)
 
-abbrev IsLeast : ℕ → List ℕ → List ℕ → List ℕ → Type 0
-IsLeast least b more rest = least + length rest ≤ length more
-
+-- where no level is left nothing is in part
 child_deep : {P : Type 0} (b : List ℕ) → child_at 0 b ≡ Err Short → P
 child_deep b e = absurd cc
 
+-- what is wanting of an element within, and the ends behind it
 child_least : (o r : ℕ) (b more rest : List ℕ) → IsBytes b → NeverEnds b → child_at r b ≡ Err Short → Peeled o r (b ++ more) rest → wanting_in_element b (header_at b) + 2 * suc o + length rest ≤ length more
 child_least o zero b more rest fits never s p = child_deep b s
 child_least o (suc k) b more rest fits never s (peel_end after e c) = absurd (never more after e)
@@ -92,6 +91,7 @@ child_least o (suc k) b more rest fits never s (peel_open j head after t room h 
     let m = element_least b more fits (sym (child_at-room k b) ∙ s) head after t None h e in
     omega (arith, m, closes_ends (suc (suc o)) j after rest c)
 
+-- what is wanting where a step cannot be made
 short_least : (o r : ℕ) (b more rest : List ℕ) → IsBytes b → step_at r b ≡ Err Short → Closes (suc o) r (b ++ more) rest → least_to_come (suc o) b + length rest ≤ length more
 unfolding step_at least_to_come
 short_least o r [] more rest fits s c = omega (arith, closes_ends (suc o) r more rest c)

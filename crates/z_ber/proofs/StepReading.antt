@@ -30,11 +30,13 @@ length-tag_octets-some t =
       | inr high ↦ omega (arith, ap length (tag_octets-high t high))
     ]
 
+-- length octets are one at least
 pub length-ends-some : (c : Bool) (ends : List ℕ) (l : Option ℕ) → IsLength c ends l → 1 ≤ length ends
 length-ends-some c ends None h = omega (arith, ap length h.1)
 length-ends-some c ends (Some n) (inl h) = omega (arith, ap length h.1)
 length-ends-some c ends (Some n) (inr h) = omega (arith, ap length h.spelled)
 
+-- a header has two octets at least
 pub length-header : (h : List ℕ) (t : Tag) (l : Option ℕ) → IsHeader h t l → 2 ≤ length h
 length-header h t l p = omega (arith, ap length p.spelled, length-append (tag_octets t) p.ends, length-tag_octets-some t, length-ends-some t.constructed p.ends l p.lengths)
 
@@ -90,6 +92,7 @@ part_completes bytes fits h (Ok (t, lead ∷ digits)) p r =
       };
     }
 
+-- a header that has come in part has a completion
 pub header-completes : (bytes : List ℕ) → IsBytes bytes → header_at bytes ≡ Err Short → Completes bytes
 header-completes bytes fits h = part_completes bytes fits h (tag_at bytes) refl (tag_at-read bytes fits)
 
@@ -104,10 +107,12 @@ step_at-child room (zero ∷ zero ∷ z) two apart = absurd (apart z refl)
 step_at-child room (zero ∷ suc s ∷ z) two apart = refl
 step_at-child room (suc f ∷ z) two apart = refl
 
+-- the end of contents is read as it
 pub step_at-end : (room : ℕ) (after : List ℕ) → step_at room (end_of_contents ++ after) ≡ Ok (End, after)
 unfolding step_at
 step_at-end room after = refl
 
+-- where levels are left an element within is read behind its header
 pub child_at-room : (k : ℕ) (b : List ℕ) → child_at (suc k) b ≡ child_behind (header_at b)
 child_at-room k b = rw (ne_eqb (suc k) 0 (λ e. omega arith)) refl
 
@@ -126,6 +131,7 @@ head_apart h t x z p e =
     let one = heads_one h end_of_contents t end_tag None (Some 0) x z p end_header e in
     none_some 0 None refl one.1
 
+-- an indefinite header is entered
 pub step_at-open : (k : ℕ) (head after : List ℕ) (t : Tag) → IsHeader head t None → step_at (suc k) (head ++ after) ≡ Ok (Open, after)
 step_at-open k head after t p =
     let two : 2 ≤ length (head ++ after) = omega (arith, length-header head t None p, length-append head after) in
@@ -142,6 +148,7 @@ pub record FoundWhole (room : ℕ) (bytes after : List ℕ) : Type 0 where
   pub apart : frame ≢ end_of_contents
   pub spelled : bytes ≡ frame ++ after
 
+-- the header of an indefinite element
 pub record FoundOpen (room : ℕ) (bytes after : List ℕ) : Type 0 where
   pub level : ℕ
   pub room-is : room ≡ suc level

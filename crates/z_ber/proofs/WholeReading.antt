@@ -82,6 +82,7 @@ whole_definite b (Err BadLength) f g h = λ o. h (f o)
 whole_definite b (Err (TooLarge n)) f g h = (h.0, λ o. h.1 (f o))
 whole_definite b (Err TooDeep) f g h = λ o. h (f o)
 
+-- behind a whole definite header
 pub whole_behind : (b : List ℕ) (t : Tag) (len : ℕ) (body : List ℕ) → Whole b t (Some len) body → (r : Result ℕ BerFault) → IsFrameAnswer IsDefiniteFrame b r → IsFrameAnswer IsFrame b r
 whole_behind b t len body w r h =
     whole_definite b r (λ o. (o.0, opens_behind b o.0 t len body w o.1)) (λ s. nothing_more b (opens_behind b [] t len body w (s.0, s.1, s.2, append-nil b ∙ s.3))) h
@@ -89,12 +90,14 @@ whole_behind b t len body w r h =
     nothing_more : (b : List ℕ) → Begins IsDefiniteFrame (b ++ []) → Begins IsDefiniteFrame b
     nothing_more b s = (s.0, s.1, s.2, sym (append-nil b) ∙ s.3)
 
+-- behind a part of a header
 pub whole_part : (b : List ℕ) → header_at b ≡ Err Short → (r : Result ℕ BerFault) → IsFrameAnswer IsDefiniteFrame b r → IsFrameAnswer IsFrame b r
 whole_part b e r h =
     whole_definite b r (λ o. opens_part b o.0 e o.1) (λ s. absurd (not_begun b Short e (header_begins b (as_extent b s)))) h
 
 -- ---- frames of indefinite length
 
+-- a frame of indefinite length that is whole and small enough
 pub whole_found : (b : List ℕ) (t : Tag) (body rest : List ℕ) → BeginsWith 64 b t body rest → length b - length rest ≤ 1048576 → IsFrameAnswer IsFrame b (Ok (length b - length rest))
 whole_found b t body rest h small =
     let n : length b - length rest ≡ length h.frame = omega (arith, ap length h.spelled, length-append h.frame rest) in
@@ -146,10 +149,11 @@ whole_over b t body w fits e over = λ o.
     let small : length o.1.0 ≤ 1048576 = o.1.2.1 in
     omega (arith, over, m, small, ap length s.3, length-append b o.0, length-append s.0 s.1)
 
--- reading inside a frame of indefinite length, where it ends and where it does not
+-- reading inside a frame of indefinite length, where it ends
 pub inside_found : (b : List ℕ) (t : Tag) (body rest : List ℕ) → Whole b t None body → IsBytes b → close_at (suc (length body)) 1 63 body ≡ Ok rest → BeginsWith 64 b t (take (length body - length rest - 2) body) rest
 inside_found b t body rest w fits e = inside_read 63 b t body fits w (Ok rest) e
 
+-- the same where a fault is met
 inside_failed : (b : List ℕ) (t : Tag) (body : List ℕ) (d : BerFault) → Whole b t None body → IsBytes b → close_at (suc (length body)) 1 63 body ≡ Err d → IsExtentRead 64 b (Err d)
 inside_failed b t body d w fits e = inside_read 63 b t body fits w (Err d) e
 
@@ -180,6 +184,7 @@ no_header b r none h =
     let bad : Opens IsFrame b → Opens IsDefiniteFrame b = λ o. absurd (none (o.0, header_begins (b ++ o.0) (as_extent (b ++ o.0) o.1))) in
     whole_definite b r bad (λ s. absurd (none ([], header_begins (b ++ []) (as_extent (b ++ []) (s.0, s.1, s.2, append-nil b ∙ s.3))))) h
 
+-- behind a header that cannot be read, or not yet
 pub whole_unread : (b : List ℕ) (e : BerFault) → IsHeaderAnswer b (Err e) → header_at b ≡ Err e → (r : Result ℕ BerFault) → IsFrameAnswer IsDefiniteFrame b r → IsFrameAnswer IsFrame b r
 whole_unread b Short a e r h = whole_part b e r h
 whole_unread b BadTag a e r h = no_header b r (λ o. a (o.0, identified (b ++ o.0) o.1)) h
@@ -195,5 +200,6 @@ begins_indefinite b t l inner e w = (t, w.head, subst (λ (k : Option ℕ). IsHe
 pub whole_behind_some : (b : List ℕ) (t : Tag) (l : Option ℕ) (len : ℕ) (body : List ℕ) → l ≡ Some len → Whole b t l body → (r : Result ℕ BerFault) → IsFrameAnswer IsDefiniteFrame b r → IsFrameAnswer IsFrame b r
 whole_behind_some b t l len body e w r h = whole_behind b t len body (subst (λ (k : Option ℕ). Whole b t k body) e w) r h
 
+-- a header of the indefinite form at the front, as reading finds it
 pub indefinite_whole : (b body : List ℕ) (x : BeginsIndefinite b body) → Whole b x.0 None body
 indefinite_whole b body x = record { head = x.1; header = x.2; spelled = x.3 }

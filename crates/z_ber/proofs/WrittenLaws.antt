@@ -37,6 +37,7 @@ length_octets-is c n lt =
       })
     ]
 
+-- an element that is written is a header and its contents
 element-definite : (t : Tag) (c : List ℕ) → IsTag t → length c < 2 ^ 64 → IsDefinite (element t c) t c
 unfolding element
 element-definite t c valid lt = record {
@@ -52,6 +53,7 @@ element-extent (suc k) t c some valid lt = extent-definite k (element t c) c t (
 
 -- ---- what is written is lent again
 
+-- octets with a written element in front begin with a frame
 begins_written : (k : ℕ) (t : Tag) (c x : List ℕ) → 0 < k → IsTag t → length c < 2 ^ 64 → Begins (IsFrameAt k) (element t c ++ x)
 begins_written k t c x some valid lt = (element t c, x, (t, c, element-extent k t c some valid lt), refl)
 
@@ -76,6 +78,7 @@ first_written t c x (Ok lent) valid lt h =
     (lent, refl, one.0, one.1)
 first_written t c x (Err d) valid lt h = not_refused 64 (element t c ++ x) d (begins_written 64 t c x (omega arith) valid lt) h
 
+-- the answer is this child, and this is left
 abbrev ChildIs : Tag → List ℕ → List ℕ → Lent → Result (Option Lent) BerFault → Type 0
 ChildIs t c x new answer = (child : Lent) × (answer ≡ Ok (Some child)) × (child.tag ≡ t) × (child.body ≡ c) × (new.left ≡ x)
 
@@ -98,18 +101,22 @@ child_written t c x old new (Err d) valid lt some e h =
 
 -- ---- what is written is read as what it was written from
 
+-- a right answer for the contents of a BOOLEAN is the value that they were written from
 pub bool-read : (v : Bool) (answer : Option Bool) → IfSome answer (λ w. bool_octets v ≡ bool_octets w) → IfNone answer ((w : Bool) → bool_octets v ≡ bool_octets w → ⊥) → answer ≡ Some v
 bool-read v (Some w) h none = ap (λ (x : Bool). Some x) (sym (bool_octets-one v w h))
 bool-read v None h none = absurd (none v refl)
 
+-- the same of an INTEGER
 pub int-read : (v : ℤ) (answer : Option ℤ) → FitsSigned w64 v → IfSome answer (λ w. int_octets v ≡ int_octets w) → IfNone answer ((w : ℤ) → FitsSigned w64 w → int_octets v ≡ int_octets w → ⊥) → answer ≡ Some v
 int-read v (Some w) fits h none = ap (λ (x : ℤ). Some x) (sym (int_octets-one v w h))
 int-read v None fits h none = absurd (none v fits refl)
 
+-- the same of a BIT STRING
 pub bits-read : (v : ℕ) (answer : Option ℕ) → v < 2 ^ 32 → IfSome answer (λ w. bits_octets v ≡ bits_octets w) → IfNone answer ((w : ℕ) → w < 2 ^ 32 → bits_octets v ≡ bits_octets w → ⊥) → answer ≡ Some v
 bits-read v (Some w) lt h none = ap (λ (x : ℕ). Some x) (sym (bits_octets-one v w h))
 bits-read v None lt h none = absurd (none v lt refl)
 
+-- the same of an OBJECT IDENTIFIER
 pub oid-read : (v : List ℕ) (answer : Option (List ℕ)) → IsTrue (is_oid v) → IfSome answer (λ w. IsTrue (is_oid w) × (oid_octets v ≡ oid_octets w)) → IfNone answer ((w : List ℕ) → IsTrue (is_oid w) → oid_octets v ≡ oid_octets w → ⊥) → answer ≡ Some v
 oid-read v (Some w) valid h none = ap (λ (x : List ℕ). Some x) (sym (oid_octets-one v w valid h.0 h.1))
 oid-read v None valid h none = absurd (none v valid refl)
