@@ -13,3 +13,14 @@ pub mod Accepting
 pub mod Accepted
 pub mod Syntax
 pub mod Writing
+pub mod Fronts
+pub mod Cuts
+pub mod Signs
+pub mod Sound
+pub mod Proper
+pub mod Laid
+pub mod Parts
+pub mod ReadsBack
+pub mod Shallow
+pub mod WrittenUtf8
+pub mod ParsesBack

@@ -12,3 +12,4 @@ pub mod Phases
 pub mod Refusals
 pub mod Numbers
 pub mod Written
+pub mod Again

@@ -1,6 +1,8 @@
 //! The text of a query.
 
-ghost use Rattle.std.specs.Prelude.{◌≡◌, ◌++◌, ◌∷◌, [], IfOk, OnOk};
+ghost use Rattle.std.specs.Prelude.{◌≡◌, ℕ, List, ◌++◌, ◌∷◌, [], IfOk, OnOk};
+ghost use Rattle.cql_parse.specs.Tree.{depth};
+ghost use Rattle.cql_parse.specs.Again.{IsTextOf, IsNestedWithin};
 ghost use Rattle.cql_parse.specs.Written.{quoted, bracketed, index_text, value_text, modifiers_text, keys_text, head_text, prefix_text, reaches_on, groups, written};
 
 use crate::{Cql, Head, Modifier, Node, SortKey};
@@ -9,9 +11,12 @@ use std::alloc::Global;
 use z_types::{List, Memory, Text};
 
 /// The text of a query: one space round relations, booleans and `sortby` and between sort keys,
-/// every term quoted, and brackets where the tree needs them.
+/// every term quoted, and brackets where the tree needs them. Where some text is a query of this
+/// tree, what is written is one too.
 pub fn write(alloc: Global, query: &Cql) -> Result<Text, Memory>
-    ensures { IfOk result (λ text. text ≡ written query.now) }
+    ensures layout { IfOk result (λ text. text ≡ written query.now) }
+    ensures again { IfOk result (λ text. (source : List ℕ) → IsTextOf source query.now → IsTextOf text query.now) }
+    ensures shallow { IfOk result (λ text. (source : List ℕ) → IsTextOf source query.now → IsNestedWithin text (depth query.now)) }
 {
     let mut out = Text::new(alloc);
     query_to(&mut out, query)?;
