@@ -46,6 +46,7 @@ quoted_on taken next b s n goes more e =
       closes = λ rest. goes (take cut.len s ++ 34 ∷ rest) ∙ ap (option_map suc) (cut.closes rest) ∙ ap Some (sym w.2);
     }
 
+-- a string that ends in these octets ends so whatever follows its quote
 pub quoted_cut : (taken : Bool) (s : List ℕ) (n : ℕ) → quoted_length taken s ≡ Some n → QuotedCut taken s n
 quoted_cut taken [] n e = no_number n e
 quoted_cut true (b ∷ s) n e = quoted_on true false b s n (λ rest. refl) (λ m. quoted_cut false s m) e
@@ -74,6 +75,7 @@ word_on taken next b s n goes more e =
       whole = goes (take w.0 s) ∙ ap (option_map suc) cut.whole;
     })
 
+-- the longest word in front of octets is a whole one
 pub word_cut : (taken : Bool) (s : List ℕ) (n : ℕ) → word_length taken s ≡ Some n → WordCut taken s n
 word_cut true [] n e = no_number n e
 word_cut false [] n e =
@@ -155,6 +157,7 @@ whole_word (b ∷ rest) h = go (word_length false (b ∷ rest)) refl
         let f : is_whole (Some n) (suc (length rest)) ≡ true = subst (λ (x : Option ℕ). is_whole x (suc (length rest)) ≡ true) e h in
         e ∙ ap Some (eqb-true n (suc (length rest)) f)
 
+-- what is one bare word may stand between quotes
 pub word_quotable : (text : List ℕ) → is_word text ≡ true → IsQuotable text
 word_quotable text h = record { closes = λ rest. word_closes false text rest (whole_word text h) }
 

@@ -31,11 +31,13 @@ drop_len text at rest e = sym (length-drop at text) ∙ ap length e
 pub octet_at : (text : List ℕ) (at k : ℕ) (rest : List ℕ) → drop at text ≡ rest → slice_index text (at + k) ≡ get_or rest k 0
 octet_at text at k rest e = sym (get_or-drop at text k 0) ∙ ap (λ (s : List ℕ). get_or s k 0) e
 
+-- the first octet of what is left
 pub first_at : (text : List ℕ) (at b : ℕ) (rest : List ℕ) → drop at text ≡ b ∷ rest → slice_index text at ≡ b
 first_at text at b rest e =
     let zero_more : at + 0 ≡ at = omega arith in
     ap (λ (i : ℕ). slice_index text i) (sym zero_more) ∙ octet_at text at 0 (b ∷ rest) e
 
+-- the next token starts behind the white space of what is left
 pub start_at : (text : List ℕ) (at : ℕ) (rest : List ℕ) → drop at text ≡ rest → next_start text at ≡ at + spaces rest
 unfolding next_start
 start_at text at rest e = ap (λ (s : List ℕ). at + spaces s) e
@@ -52,7 +54,7 @@ lexed_none = record {
   };
 }
 
--- white space is passed over
+-- from white space on the next token starts where it starts behind it
 space_next : (text : List ℕ) (at b : ℕ) (rest : List ℕ) → drop at text ≡ b ∷ rest → is_space b ≡ true → next_start text at ≡ next_start text (at + 1)
 space_next text at b rest e s =
     let behind = drop_behind text at (b ∷ []) rest e in
@@ -66,6 +68,7 @@ passed text at ls e h = go h.ts h.leads h.same
     go [] l same = record { ts = []; end = at; leads = refl; ends = e ∙ ap (next_start text) (sym l) ∙ h.ends; same = same }
     go (t ∷ ts) l same = record { ts = t ∷ ts; end = h.end; leads = (record { within = rw e l.0.within; token = rw e l.0.token }, l.1); ends = h.ends; same = same }
 
+-- white space has no lexeme
 pub lexed_space : (b : ℕ) (rest : List ℕ) (ls : List Lexeme) → is_space b ≡ true → Lexed rest ls → Lexed (b ∷ rest) ls
 lexed_space b rest ls s h = record {
   anywhere = λ text at e within.
@@ -80,6 +83,7 @@ pub record Fronts (kind : Kind) (octets rest : List ℕ) (x : Lexeme) : Type 0 w
   pub is_token : (text : List ℕ) (at : ℕ) → drop at text ≡ octets ++ rest → token_at text at ≡ Some (token kind at (length octets))
   pub is_lexeme : (text : List ℕ) (at : ℕ) → drop at text ≡ octets ++ rest → lexeme_of text (token kind at (length octets)) ≡ x
 
+-- a token in front, and the lexemes behind it
 pub lexed_front : (kind : Kind) (octets rest : List ℕ) (x : Lexeme) (ls : List Lexeme) → Fronts kind octets rest x → Lexed rest ls → Lexed (octets ++ rest) (x ∷ ls)
 lexed_front kind octets rest x ls f h = record {
   anywhere = λ text at e within.

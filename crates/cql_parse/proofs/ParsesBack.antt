@@ -36,6 +36,7 @@ written_again q p =
       query = subst (λ (ls : List Lexeme). IsQuery ls q) (sym w.same) (tree_query q p);
     }
 
+-- what is written of a text's tree is a text of that tree
 pub parses_back : (source text : List ℕ) (q : Tree) → text ≡ written q → IsTextOf source q → IsTextOf text q
 parses_back source text q e t = subst (λ (s : List ℕ). IsTextOf s q) (sym e) (written_again q (proper_text source q t))
 
@@ -47,5 +48,6 @@ written_shallow q p tokens lexed =
     let same : tree_lexemes q [] ≡ lexemes (written q) tokens = sym w.same ∙ ap (lexemes (written q)) one in
     subst (λ (ls : List Lexeme). nesting 0 ls ≤ depth q) same (tree_shallow q p)
 
+-- brackets in what is written of a text's tree are nested no deeper than the tree has levels
 pub nested_within : (source text : List ℕ) (q : Tree) → text ≡ written q → IsTextOf source q → IsNestedWithin text (depth q)
 nested_within source text q e t = subst (λ (s : List ℕ). IsNestedWithin s (depth q)) (sym e) (written_shallow q (proper_text source q t))

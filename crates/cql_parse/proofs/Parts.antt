@@ -18,13 +18,15 @@ use Rattle.cql_parse.proofs.Proper.{IsRelationText, symbol, word, ProperValue, P
 use Rattle.cql_parse.proofs.Laid.{index_lexeme, relation_lexeme, value_lexemes, modifiers_lexemes, keys_lexemes, head_lexemes, prefix_lexemes}
 use Rattle.std.proofs.Common.{⊎_elim}
 
--- tests of the lexemes written
+-- a bare word is of a class of words
 pub word_is_word : (text : List ℕ) → is_word_class (word_class text) ≡ true
 word_is_word text = ⊎_elim (λ (e : word_class text ≡ class.Word). ap is_word_class e) (λ others. ⊎_elim (λ (e : word_class text ≡ class.Boolean). ap is_word_class e) (λ (e : word_class text ≡ class.SortBy). ap is_word_class e) others) (word_classes text)
 
+-- a bare word is a term
 pub word_is_term : (text : List ℕ) → is_term (word_class text) ≡ true
 word_is_term text = ⊎_elim (λ (e : word_class text ≡ class.Word). ap is_term e) (λ others. ⊎_elim (λ (e : word_class text ≡ class.Boolean). ap is_term e) (λ (e : word_class text ≡ class.SortBy). ap is_term e) others) (word_classes text)
 
+-- a symbol is of a class of symbols
 pub sign_is_symbol : (sign : List ℕ) → IsSign sign → is_symbol (sign_lexeme sign).class ≡ true
 sign_is_symbol sign equal = refl
 sign_is_symbol sign exact = refl
@@ -34,9 +36,11 @@ sign_is_symbol sign less_or_equal = refl
 sign_is_symbol sign greater_or_equal = refl
 sign_is_symbol sign less_or_greater = refl
 
+-- an index is a term
 pub index_is_term : (name : List ℕ) → is_term (index_lexeme name).class ≡ true
 index_is_term name = by_test (is_word name) (λ w. rw w (word_is_term name)) (λ w. rw w refl)
 
+-- an index has its text, quoted or not
 index_text_is : (name : List ℕ) → (index_lexeme name).text ≡ name
 index_text_is name = by_test (is_word name) (λ w. rw w refl) (λ w. rw w refl)
 
@@ -48,6 +52,7 @@ term_no test q w b s class.Boolean h = b
 term_no test q w b s class.SortBy h = s
 term_no test q w b s _ h = absurd (false≢true h)
 
+-- a relation is one, and has its text
 pub relation_is : (text : List ℕ) → IsRelationText text → (is_relation (relation_lexeme text).class ≡ true) × ((relation_lexeme text).text ≡ text)
 relation_is text (word w c) = let e = w.word in (rw (e, c) refl, rw e refl)
 relation_is text (symbol s) = go s
@@ -110,6 +115,7 @@ end_no test none (x ∷ ls) h = go x.class h
     go class.Close e = none
     go _ e = absurd (false≢true e)
 
+-- sort keys, before the end of a query
 pub are_keys : (ks : List SortKey) (ls : List Lexeme) → has_keys ks ≡ true → ProperKeys ks → ends_query ls ≡ true → AreKeys (keys_lexemes ks ls) ks ls
 are_keys ks ls some p e = (keys_start ks ls some, are_more_keys ks ls p (end_no is_slash refl ls e) (end_no is_symbol refl ls e) (end_no is_term refl ls e))
 

@@ -60,15 +60,17 @@ plain_fronts kind octets rest plain some no_space is_token = record {
       λ i. record { class = class_of kind (here i); text = here i };
 }
 
--- brackets and slashes, whatever follows
+-- an opening bracket, whatever follows
 pub lexed_open : (rest : List ℕ) (ls : List Lexeme) → Lexed rest ls → Lexed (40 ∷ rest) (open_lexeme ∷ ls)
 unfolding token_at
 lexed_open rest ls h = lexed_front kind.Open (40 ∷ []) rest open_lexeme ls (plain_fronts kind.Open (40 ∷ []) rest (λ t s e. refl) (omega arith) refl (λ text at e. let first = first_at text at 40 rest e in rw first refl)) h
 
+-- a closing bracket, whatever follows
 pub lexed_close : (rest : List ℕ) (ls : List Lexeme) → Lexed rest ls → Lexed (41 ∷ rest) (close_lexeme ∷ ls)
 unfolding token_at
 lexed_close rest ls h = lexed_front kind.Close (41 ∷ []) rest close_lexeme ls (plain_fronts kind.Close (41 ∷ []) rest (λ t s e. refl) (omega arith) refl (λ text at e. let first = first_at text at 41 rest e in rw first refl)) h
 
+-- a slash, whatever follows
 pub lexed_slash : (rest : List ℕ) (ls : List Lexeme) → Lexed rest ls → Lexed (47 ∷ rest) (slash_lexeme ∷ ls)
 unfolding token_at
 lexed_slash rest ls h = lexed_front kind.Slash (47 ∷ []) rest slash_lexeme ls (plain_fronts kind.Slash (47 ∷ []) rest (λ t s e. refl) (omega arith) refl (λ text at e. let first = first_at text at 47 rest e in rw first refl)) h
@@ -93,7 +95,7 @@ lexed_sign sign less_or_equal b rest ls n m h = lexed_front kind.LessOrEqual (60
 lexed_sign sign greater_or_equal b rest ls n m h = lexed_front kind.GreaterOrEqual (62 ∷ 61 ∷ []) (b ∷ rest) (sign_lexeme (62 ∷ 61 ∷ [])) ls (sign_two kind.GreaterOrEqual 62 61 (b ∷ rest) (λ t s e. refl) refl (λ text at first next. rw (first, next) refl)) h
 lexed_sign sign less_or_greater b rest ls n m h = lexed_front kind.LessOrGreater (60 ∷ 62 ∷ []) (b ∷ rest) (sign_lexeme (60 ∷ 62 ∷ [])) ls (sign_two kind.LessOrGreater 60 62 (b ∷ rest) (λ t s e. refl) refl (λ text at first next. rw (first, next) refl)) h
 
--- a string between quotes, whatever follows
+-- the token of a string
 quoted_fronts : (text rest : List ℕ) → IsQuotable text → Fronts kind.Quoted (quoted text) rest (quoted_lexeme text)
 unfolding token_at quoted_at
 quoted_fronts text rest q =
@@ -114,10 +116,11 @@ quoted_fronts text rest q =
           ap quoted_lexeme here;
     }
 
+-- a string between quotes, whatever follows
 pub lexed_quoted : (text rest : List ℕ) (ls : List Lexeme) → IsQuotable text → Lexed rest ls → Lexed (quoted text ++ rest) (quoted_lexeme text ∷ ls)
 lexed_quoted text rest ls q h = lexed_front kind.Quoted (quoted text) rest (quoted_lexeme text) ls (quoted_fronts text rest q) h
 
--- a bare word before what ends words
+-- the token of a bare word
 word_fronts : (text rest : List ℕ) → is_word text ≡ true → ends_before rest ≡ true → Fronts kind.Word text rest (word_lexeme text)
 unfolding token_at word_at
 word_fronts [] rest h ends = absurd (false≢true h)
@@ -135,5 +138,6 @@ word_fronts (b ∷ more) rest h ends =
     let len = word_before false (b ∷ more) rest (whole_word (b ∷ more) h) ends in
     rw (first, open_not, close_not, slash_not, equal_not, less_not, greater_not, quote_not, e) (ap (option_map (λ (n : ℕ). token kind.Word at n)) len))
 
+-- a bare word before what ends words
 pub lexed_word : (text rest : List ℕ) (ls : List Lexeme) → is_word text ≡ true → ends_before rest ≡ true → Lexed rest ls → Lexed (text ++ rest) (word_lexeme text ∷ ls)
 lexed_word text rest ls w ends h = lexed_front kind.Word text rest (word_lexeme text) ls (word_fronts text rest w ends) h

@@ -7,13 +7,13 @@ use Rattle.cql_parse.specs.Lexemes.{lexemes}
 use Rattle.cql_parse.specs.Grammar.{IsQuery}
 use Rattle.cql_parse.specs.Nesting.{nesting}
 
--- UTF-8 whose tokens are a query of this tree
+-- UTF-8 whose tokens are a query of this tree (BNF: cqlQuery)
 pub record IsTextOf (text : List ℕ) (tree : Tree) : Type 0 where
   pub utf8 : IsUtf8 text
   pub tokens : List Token
   pub lexed : AreTokens text tokens
   pub query : IsQuery (lexemes text tokens) tree
 
--- the brackets in this text are nested so deep at most
+-- the brackets in this text are nested so deep at most (this project's own)
 abbrev pub IsNestedWithin : List ℕ → ℕ → Type 0
 IsNestedWithin text most = (tokens : List Token) → AreTokens text tokens → nesting 0 (lexemes text tokens) ≤ most

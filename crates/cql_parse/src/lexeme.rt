@@ -195,11 +195,7 @@ pub fn term<'a>(text: &'a [u8], tokens: &'a [Token]) -> Option<Front<'a>>
     ensures shorter { IfSome result (λ f. length f.rest.now < length tokens.now) }
 {
     let front = first(text, tokens)?;
-    if front.class.is_term() {
-        Some(front)
-    } else {
-        None
-    }
+    front.class.is_term().then_some(front)
 }
 
 /// The first token, where it is a bare word.
@@ -208,11 +204,7 @@ pub fn word<'a>(text: &'a [u8], tokens: &'a [Token]) -> Option<Front<'a>>
     ensures shorter { IfSome result (λ f. length f.rest.now < length tokens.now) }
 {
     let front = first(text, tokens)?;
-    if front.class.is_word() {
-        Some(front)
-    } else {
-        None
-    }
+    front.class.is_word().then_some(front)
 }
 
 /// The first token, where it is a symbol of comparison.
@@ -221,11 +213,7 @@ pub fn symbol<'a>(text: &'a [u8], tokens: &'a [Token]) -> Option<Front<'a>>
     ensures shorter { IfSome result (λ f. length f.rest.now < length tokens.now) }
 {
     let front = first(text, tokens)?;
-    if front.class.is_symbol() {
-        Some(front)
-    } else {
-        None
-    }
+    front.class.is_symbol().then_some(front)
 }
 
 /// The first token, where it is a relation.
@@ -234,11 +222,7 @@ pub fn relation<'a>(text: &'a [u8], tokens: &'a [Token]) -> Option<Front<'a>>
     ensures shorter { IfSome result (λ f. length f.rest.now < length tokens.now) }
 {
     let front = first(text, tokens)?;
-    if front.class.is_relation() {
-        Some(front)
-    } else {
-        None
-    }
+    front.class.is_relation().then_some(front)
 }
 
 /// The first token, where it is a slash.
@@ -247,11 +231,7 @@ pub fn slash<'a>(text: &'a [u8], tokens: &'a [Token]) -> Option<Front<'a>>
     ensures shorter { IfSome result (λ f. length f.rest.now < length tokens.now) }
 {
     let front = first(text, tokens)?;
-    if front.class.is_slash() {
-        Some(front)
-    } else {
-        None
-    }
+    front.class.is_slash().then_some(front)
 }
 
 /// The first token, where it is an equals sign.
@@ -260,11 +240,7 @@ pub fn equal<'a>(text: &'a [u8], tokens: &'a [Token]) -> Option<Front<'a>>
     ensures shorter { IfSome result (λ f. length f.rest.now < length tokens.now) }
 {
     let front = first(text, tokens)?;
-    if front.class.is_equal() {
-        Some(front)
-    } else {
-        None
-    }
+    front.class.is_equal().then_some(front)
 }
 
 /// The first token, where it is the sign of a prefix assignment.
@@ -273,9 +249,5 @@ pub fn greater<'a>(text: &'a [u8], tokens: &'a [Token]) -> Option<Front<'a>>
     ensures shorter { IfSome result (λ f. length f.rest.now < length tokens.now) }
 {
     let front = first(text, tokens)?;
-    if front.class.is_greater() {
-        Some(front)
-    } else {
-        None
-    }
+    front.class.is_greater().then_some(front)
 }

@@ -12,7 +12,7 @@ use z_types::{List, Memory, Text};
 
 /// The text of a query: one space round relations, booleans and `sortby` and between sort keys,
 /// every term quoted, and brackets where the tree needs them. Where some text is a query of this
-/// tree, what is written is one too.
+/// tree, what is written is one too, with brackets nested no deeper than the tree has levels.
 pub fn write(alloc: Global, query: &Cql) -> Result<Text, Memory>
     ensures layout { IfOk result (λ text. text ≡ written query.now) }
     ensures again { IfOk result (λ text. (source : List ℕ) → IsTextOf source query.now → IsTextOf text query.now) }
