@@ -5,3 +5,4 @@ pub mod Replies
 pub mod Served
 pub mod Read
 pub mod Told
+pub mod OneValue
