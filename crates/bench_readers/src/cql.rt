@@ -5,19 +5,27 @@ use cql_parse::parse;
 use std::alloc::Global;
 use z_types::{Memory, Text};
 
+/// A clause of a phrase.
+const PHRASE: &[u8] = b"dc.title = \"a guide to the description of early printed books\"";
+
 /// What a query is of.
 #[derive(Clone, Copy)]
 pub enum Shape {
     /// Clauses of an index, a relation and a word, in brackets that halve them.
-    Clauses,
+    Words,
+    /// The same with a phrase for the word.
+    Phrases,
     /// Two quoted strings.
     Strings,
 }
 
-/// As many clauses as 2 to the power of `levels`, in brackets.
-fn clauses(alloc: Global, levels: u32) -> Result<Text, Memory> {
-    let mut out = Text::copy_of(alloc, b"dc.title = librarians")?;
-    for _ in 0..levels {
+/// A clause again and again, in brackets that halve the query, for about so many octets.
+fn clauses(alloc: Global, clause: &[u8], size: usize) -> Result<Text, Memory> {
+    let mut out = Text::copy_of(alloc, clause)?;
+    for _ in 0..40 {
+        if out.len() >= size / 3 * 2 {
+            return Ok(out);
+        }
         let mut joined = Text::copy_of(alloc, b"(")?;
         joined.append(out.as_slice())?;
         joined.append(b" or ")?;
@@ -26,20 +34,6 @@ fn clauses(alloc: Global, levels: u32) -> Result<Text, Memory> {
         out = joined;
     }
     Ok(out)
-}
-
-/// How often a clause is doubled for about so many octets.
-fn levels(size: usize) -> u32 {
-    let mut levels = 0u32;
-    let mut reached = 27usize;
-    for _ in 0..40 {
-        if reached >= size {
-            return levels;
-        }
-        reached = reached.saturating_mul(2);
-        levels = levels.saturating_add(1);
-    }
-    levels
 }
 
 /// Two quoted strings of about so many octets.
@@ -68,7 +62,8 @@ fn read_once(alloc: Global, text: &[u8]) -> u64 {
 /// were read in all.
 pub fn read(alloc: Global, shape: Shape, size: usize, times: u32) -> Result<(usize, u64), Memory> {
     let text = match shape {
-        Shape::Clauses => clauses(alloc, levels(size))?,
+        Shape::Words => clauses(alloc, b"dc.title = librarians", size)?,
+        Shape::Phrases => clauses(alloc, PHRASE, size)?,
         Shape::Strings => strings(alloc, size)?,
     };
     let mut parts = 0u64;

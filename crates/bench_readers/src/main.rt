@@ -28,7 +28,8 @@ fn named(word: &str) -> Option<Sample> {
         "ber-open" => Some(Sample::Ber(ber::Shape::Open)),
         "ber-pieces" => Some(Sample::Ber(ber::Shape::Pieces)),
         "ber-open-pieces" => Some(Sample::Ber(ber::Shape::OpenPieces)),
-        "cql-clauses" => Some(Sample::Cql(cql::Shape::Clauses)),
+        "cql-words" => Some(Sample::Cql(cql::Shape::Words)),
+        "cql-phrases" => Some(Sample::Cql(cql::Shape::Phrases)),
         "cql-strings" => Some(Sample::Cql(cql::Shape::Strings)),
         _ => None,
     }

@@ -10,14 +10,21 @@ use crate::{Kind, Token};
 pub fn is_space(octet: u8) -> bool
     ensures { result ≡ is_space octet }
 {
-    matches!(octet, b' ' | b'\t' | b'\r' | b'\n')
+    octet == b' ' || octet == b'\t' || octet == b'\r' || octet == b'\n'
 }
 
 /// Whether a bare word ends before this octet (charString1).
 pub fn ends_word(octet: u8) -> bool
     ensures { result ≡ ends_word octet }
 {
-    is_space(octet) || matches!(octet, b'(' | b')' | b'=' | b'<' | b'>' | b'"' | b'/')
+    is_space(octet)
+        || octet == b'('
+        || octet == b')'
+        || octet == b'='
+        || octet == b'<'
+        || octet == b'>'
+        || octet == b'"'
+        || octet == b'/'
 }
 
 /// The offset of the first octet from `at` on that is no white space, or the text's length.
