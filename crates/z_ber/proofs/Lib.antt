@@ -12,6 +12,7 @@ pub mod IntOctets
 pub mod IntReading
 pub mod Kept
 pub mod LendLaws
+pub mod LargeReading
 pub mod LeastReading
 pub mod LengthReading
 pub mod OidReading

@@ -2,7 +2,7 @@
 
 ghost use Rattle.std.specs.Prelude.{◌≡◌, ◌↔◌, ℕ, ◌+◌, ◌-◌, ◌*◌, ◌^◌, ◌<◌, ◌≤◌, List, length, take, drop, nat_le, IfOk, IfErr, Ok, Err};
 ghost use Rattle.z_ber.specs.Reading.{Gives, tag_at, header_at, has_room_after, has_room_behind, body_at, frame_behind, frame_at, refused};
-ghost use Rattle.z_ber.specs.Frames.{IsDefiniteFrame, IsFrame, IsFrameAnswer, BeginsIndefinite};
+ghost use Rattle.z_ber.specs.Frames.{IsDefiniteFrame, IsFrame, IsFrameAnswer, IsTooLarge, BeginsIndefinite};
 
 use crate::extent::close;
 use crate::read::{padded_number, read_header, read_tag};
@@ -79,7 +79,8 @@ fn read_frame(bytes: &[u8]) -> Result<usize, BerFault>
 
 /// The size of the definite frame that octets begin with.
 pub fn definite_frame(bytes: &[u8]) -> Result<usize, BerFault>
-    ensures { IsFrameAnswer IsDefiniteFrame bytes.now result }
+    ensures answer { IsFrameAnswer IsDefiniteFrame bytes.now result }
+    ensures large { (n : ℕ) → IsTooLarge bytes.now n → result ≡ Err (BerFault.TooLarge n) }
 {
     read_frame(bytes)
 }
@@ -87,7 +88,8 @@ pub fn definite_frame(bytes: &[u8]) -> Result<usize, BerFault>
 /// The size of the frame that octets begin with: an element of definite length, whatever its
 /// contents are, or one of indefinite length with the frames in it.
 pub fn whole(bytes: &[u8]) -> Result<usize, BerFault>
-    ensures { IsFrameAnswer IsFrame bytes.now result }
+    ensures answer { IsFrameAnswer IsFrame bytes.now result }
+    ensures large { (n : ℕ) → IsTooLarge bytes.now n → result ≡ Err (BerFault.TooLarge n) }
 {
     match read_header(bytes) {
         Ok((_, None, body)) => indefinite_frame(bytes, body),
