@@ -7,7 +7,7 @@ program=$root/crates/bench_readers/out/bench_readers
     exit 1
 }
 
-# Nanoseconds that a sample of so many octets takes, read so many times.
+# Nanoseconds that it takes to read a sample of about so many octets so many times.
 nanoseconds() {
     local begun
     begun=$(date +%s%N)
@@ -15,14 +15,21 @@ nanoseconds() {
     echo $(($(date +%s%N) - begun))
 }
 
-# What a sample costs a second, without what it takes to make it, and beside a tenth of it that is read
-# ten times as often.
-compare() {
-    local made small_made whole tenth
+# The octets of a sample, and the millions of octets that are read of it in a second, without the time
+# that it takes to make it.
+speed() {
+    local octets made whole
+    octets=$("$program" "$1" "$2" 0 | cut -d ' ' -f 1)
     made=$(nanoseconds "$1" "$2" 0)
     whole=$(nanoseconds "$1" "$2" "$3")
-    small_made=$(nanoseconds "$1" $(($2 / 10)) 0)
-    tenth=$(nanoseconds "$1" $(($2 / 10)) $(($3 * 10)))
-    awk -v n="$2" -v times="$3" -v whole=$((whole - made)) -v tenth=$((tenth - small_made)) 'BEGIN {
-        printf "  %.1f MB/s; ten times the octets took %.1f times as long\n", n * times * 1000 / whole, 10 * whole / tenth }'
+    awk -v n="$octets" -v times="$3" -v ns=$((whole - made)) 'BEGIN { printf "%d %.1f\n", n, n * times * 1000 / ns }'
+}
+
+# The speed of a sample, and of one of about a tenth of its octets, that is read ten times as often.
+compare() {
+    local large small
+    large=$(speed "$1" "$2" "$3")
+    small=$(speed "$1" $(($2 / 10)) $(($3 * 10)))
+    echo "$large $small" | awk -v what="$1" '{
+        printf "%s: %d octets at %s MB/s, %d at %s; ten times the octets take %.1f times as long\n", what, $1, $2, $3, $4, 10 * $4 / $2 }'
 }

@@ -35,32 +35,48 @@ fn is_refused(rt: &(impl Abort + AllocGlobal), text: &[u8], place: usize) -> Res
     Ok(())
 }
 
-#[test]
-fn a_query_is_written_in_one_way(rt: HostRuntime) -> Result<(), Fail> {
-    is_written(&rt, b"dc.title = \"a b\"", b"dc.title = \"a b\"")?;
-    is_written(&rt, b"\"dc.title\" = a", b"dc.title = \"a\"")?;
-    is_written(&rt, b"a or b and c", b"\"a\" or \"b\" and \"c\"")?;
-    is_written(&rt, b"a or (b and c)", b"\"a\" or (\"b\" and \"c\")")?;
-    is_written(&rt, b"((a))", b"\"a\"")?;
-    is_written(
-        &rt,
+/// Texts, and how their queries are written; with the rule of CQL 1.2's BNF that decides.
+const WRITTEN: [(&[u8], &[u8]); 17] = [
+    // searchClause: index relation searchTerm; a term is quoted, an index that is one word is not
+    (b"dc.title = \"a b\"", b"dc.title = \"a b\""),
+    (b"\"dc.title\" = a", b"dc.title = \"a\""),
+    (b"\"\" exact \"\"", b"\"\" exact \"\""),
+    // cqlQuery: booleans of one precedence that group to the left; brackets are kept where they group
+    // to the right, and nowhere else
+    (b"a or b and c", b"\"a\" or \"b\" and \"c\""),
+    (b"a or (b and c)", b"\"a\" or (\"b\" and \"c\")"),
+    (b"(a or b) and c", b"\"a\" or \"b\" and \"c\""),
+    (b"((a))", b"\"a\""),
+    // boolean and sortby in any case of letters; sortSpec: each key an index with its modifiers
+    (
         b"a AND b sortBy \"x y\"/z=1 c",
         b"\"a\" and \"b\" sortby \"x y\"/z=\"1\" c",
-    )?;
-    is_written(&rt, b"> d = \"u\" a", b"> d = \"u\" \"a\"")?;
-    is_written(&rt, b"a or >u b", b"\"a\" or (> \"u\" \"b\")")
-}
-
-#[test]
-fn words_are_terms_wherever_a_term_is_due(rt: HostRuntime) -> Result<(), Fail> {
-    is_written(&rt, b"and and and", b"\"and\" and \"and\"")?;
-    is_written(&rt, b"sortby sortby sortby", b"\"sortby\" sortby sortby")?;
-    is_written(&rt, b"a any/x<1 b", b"a any/x<\"1\" \"b\"")?;
-    is_written(
-        &rt,
+    ),
+    // prefixAssignment: with a prefix and without, and in brackets within a larger query
+    (b"> d = \"u\" a", b"> d = \"u\" \"a\""),
+    (b"a or >u b", b"\"a\" or (> \"u\" \"b\")"),
+    // a prefix assignment's query goes on as far as it can
+    (b">u a or b", b"> \"u\" \"a\" or \"b\""),
+    // term: a boolean word and sortby too, wherever a term is due
+    (b"and and and", b"\"and\" and \"and\""),
+    (b"sortby sortby sortby", b"\"sortby\" sortby sortby"),
+    // modifier: a symbol behind its word belongs to it, and a second modifier may follow
+    (b"a any/x<1 b", b"a any/x<\"1\" \"b\""),
+    (b"a =/x/y b", b"a =/x/y \"b\""),
+    (
         b"a prox/unit=word/distance>3 b",
         b"\"a\" prox/unit=\"word\"/distance>\"3\" \"b\"",
-    )
+    ),
+    // charString2: an escaped quote is part of the string
+    (b"\"a\\\"b\"", b"\"a\\\"b\""),
+];
+
+#[test]
+fn a_query_is_written_in_one_way(rt: HostRuntime) -> Result<(), Fail> {
+    for (text, wanted) in WRITTEN {
+        is_written(&rt, text, wanted)?;
+    }
+    Ok(())
 }
 
 #[test]
@@ -76,21 +92,38 @@ fn booleans_group_to_the_left(rt: HostRuntime) -> Result<(), Fail> {
     Ok(())
 }
 
+/// Texts that are no query, and the place of the first token that none has there; with the rule of
+/// CQL 1.2's BNF that is broken.
+const REFUSED: [(&[u8], usize); 15] = [
+    // cqlQuery: there is a clause
+    (b"", 0),
+    (b"/", 0),
+    // and behind it a boolean, sortby or the end
+    (b"a b", 3),
+    (b"a (b)", 2),
+    (b"a /x", 2),
+    (b"a and", 5),
+    // brackets are opened and closed
+    (b"a )", 2),
+    (b"(a", 2),
+    // searchClause: a symbol behind a modifier's word is the modifier's, and then a term is due
+    (b"a = /x < b", 10),
+    (b"a =/\"x\" b", 4),
+    // prefixAssignment: a prefix is a bare word, and `=` alone assigns
+    (b"> \"d\" = u a", 6),
+    (b"> d == u a", 4),
+    // sortSpec: there is a key, and behind sortby every term is one
+    (b"a sortby", 8),
+    (b">u a sortby b and (c)", 18),
+    (b"(a sortby b) c", 13),
+];
+
 #[test]
 fn a_fault_is_at_the_first_token_that_no_query_has(rt: HostRuntime) -> Result<(), Fail> {
-    is_refused(&rt, b"", 0)?;
-    is_refused(&rt, b"a b", 3)?;
-    is_refused(&rt, b"a )", 2)?;
-    is_refused(&rt, b"(a", 2)?;
-    is_refused(&rt, b"a and", 5)?;
-    is_refused(&rt, b"a = /x < b", 10)?;
-    is_refused(&rt, b"a /x", 2)?;
-    is_refused(&rt, b"a (b)", 2)?;
-    is_refused(&rt, b"a =/\"x\" b", 4)?;
-    is_refused(&rt, b"> \"d\" = u a", 6)?;
-    is_refused(&rt, b"> d == u a", 4)?;
-    is_refused(&rt, b">u a sortby b and (c)", 18)?;
-    is_refused(&rt, b"a sortby", 8)
+    for (text, place) in REFUSED {
+        is_refused(&rt, text, place)?;
+    }
+    Ok(())
 }
 
 /// A text with so many brackets round a word.
