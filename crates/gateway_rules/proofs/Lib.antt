@@ -1,1 +1,3 @@
 pub mod AnswerSteps
+pub mod OneCourse
+pub mod OneAnswer

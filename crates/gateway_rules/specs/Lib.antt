@@ -5,3 +5,4 @@ pub mod Search
 pub mod Session
 pub mod Ending
 pub mod Answers
+pub mod OneAnswer

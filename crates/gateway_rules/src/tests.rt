@@ -1,8 +1,10 @@
-//! Inits and what they are answered, by ANSI/NISO Z39.50-2003, 3.2.1.1.
+//! Inits and what they are answered, by ANSI/NISO Z39.50-2003, 3.2.1.1; and the laws, at a world.
+
+ghost use Rattle.std.specs.Prelude.{List, [], ◌∷◌, None, Ok, Err};
 
 use crate::*;
 use std::test::Fail;
-use z_types::{Init, Reply, Text};
+use z_types::{Init, Reply, Text, World};
 
 /// Versions and options that are asked for, then those that are agreed to, and whether the session is
 /// accepted.
@@ -58,5 +60,26 @@ fn an_init_is_answered_with_what_is_common(rt: HostRuntime) -> Result<(), Fail> 
             assert_eq!(rt; has_version(&init), accepted);
         }
     }
+    Ok(())
+}
+
+/// Targets that hold nothing.
+#[derive(Drop)]
+struct EmptyWorld {}
+
+impl World for EmptyWorld {
+    ghost told = { λ _. Unit {0} };
+
+    ghost search = { λ _ _. Ok 0 };
+
+    ghost record_ = { λ _ _ _ _ _. Err (record { set = 1 ∷ 2 ∷ []; condition = 13; addinfo = [] }) };
+
+    ghost scan = { λ _ _ _. Ok (record { position = None; entries = [] }) };
+}
+
+#[test]
+fn the_laws_hold_at_a_world_that_is_empty(_: HostRuntime) -> Result<(), Fail> {
+    one_answer::<EmptyWorld>();
+    one_end::<EmptyWorld, EmptyWorld>();
     Ok(())
 }
