@@ -5,8 +5,9 @@ use cql_parse::parse;
 use std::alloc::Global;
 use z_types::{Memory, Text};
 
-/// A clause of a phrase.
-const PHRASE: &[u8] = b"dc.title = \"a guide to the description of early printed books\"";
+/// A clause of a title, as long as titles of old books are.
+const PHRASE: &[u8] =
+    b"dc.title = \"a guide to the description of early printed books in the libraries of the province, with plates and an index of printers\"";
 
 /// What a query is of.
 #[derive(Clone, Copy)]
