@@ -1,5 +1,7 @@
 //! Elements of BER, and walks through them.
 
+ghost use Rattle.std.specs.Prelude.{◌≡◌, IfOk};
+
 use std::alloc::Global;
 use z_ber::{Element, Tag, put_bytes, put_tree, whole};
 use z_types::{Memory, Text};
@@ -118,7 +120,14 @@ fn read_pieces(octets: &[u8]) -> u64 {
 
 /// Reads a shape of about so many octets so many times, and answers its octets and the elements or
 /// pieces that were read in all.
-pub fn read(alloc: Global, shape: Shape, size: usize, times: u32) -> Result<(usize, u64), Memory> {
+pub(crate) fn read(
+    alloc: Global,
+    shape: Shape,
+    size: usize,
+    times: u32,
+) -> Result<(usize, u64), Memory>
+    ensures { times ≡ 0 → IfOk result (λ read. read.1 ≡ 0) }
+{
     let octets = sample(alloc, shape, size)?;
     let mut parts = 0u64;
     for _ in 0..times {

@@ -1,5 +1,8 @@
 //! Queries of CQL, and their trees.
 
+ghost use Rattle.std.specs.Prelude.{◌≡◌, IfOk};
+ghost use Rattle.bench_readers.specs.Counted.{AreTokensCounted};
+
 use cql_lex::tokens;
 use cql_parse::parse;
 use std::alloc::Global;
@@ -49,7 +52,9 @@ fn strings(alloc: Global, size: usize) -> Result<Text, Memory> {
 }
 
 /// The tokens of a query that has a tree, counted; 0 where it has none.
-fn read_once(alloc: Global, text: &[u8]) -> u64 {
+fn read_once(alloc: Global, text: &[u8]) -> u64
+    ensures { AreTokensCounted text.now result }
+{
     let Ok(tokens) = tokens(alloc, text) else {
         return 0;
     };
@@ -61,7 +66,14 @@ fn read_once(alloc: Global, text: &[u8]) -> u64 {
 
 /// Reads a query of about so many octets so many times, and answers its octets and the tokens that
 /// were read in all.
-pub fn read(alloc: Global, shape: Shape, size: usize, times: u32) -> Result<(usize, u64), Memory> {
+pub(crate) fn read(
+    alloc: Global,
+    shape: Shape,
+    size: usize,
+    times: u32,
+) -> Result<(usize, u64), Memory>
+    ensures { times ≡ 0 → IfOk result (λ read. read.1 ≡ 0) }
+{
     let text = match shape {
         Shape::Words => clauses(alloc, b"dc.title = librarians", size)?,
         Shape::Phrases => clauses(alloc, PHRASE, size)?,
