@@ -1,5 +1,5 @@
 pub mod Counts
-pub mod Read
-pub mod Written
+pub mod Sources
+pub mod Sinks
 pub mod Files
 pub mod Targets

@@ -26,17 +26,18 @@ pub trait Files {
     ghost faults: { Self → ℕ };
 
     /// The octets of the file of a name, where they are told. Reading changes none.
-    ghost told: { Self → List ℕ → Option (List ℕ) };
+    ghost contents: { Self → List ℕ → Option (List ℕ) };
 
     /// The name of the file whose read failed last, where it is told.
     ghost last_failed: { Self → Option (List ℕ) };
 
     /// Reads the file of that name whole, unless it is longer than `limit` octets.
     fn read_all(&mut self, alloc: Global, name: &Text, limit: usize) -> FileGot
-        ensures fits { FileFits (told self.old name.now) limit result }
+        ensures fits { FileFits (contents self.old name.now) limit result }
         ensures failed { result ≡ FileGot.Failed → Rose (faults self.old) (faults self.new) }
-        ensures named { result ≡ FileGot.Failed → IfSome (last_failed self.new) (λ last. last ≡ name.now) }
+        ensures named { result ≡ FileGot.Failed
+            → IfSome (last_failed self.new) (λ last. last ≡ name.now) }
         ensures kept { result ≢ FileGot.Failed → last_failed self.new ≡ last_failed self.old }
-        ensures told { (other : List ℕ) → told self.new other ≡ told self.old other }
+        ensures contents { (other : List ℕ) → contents self.new other ≡ contents self.old other }
         ensures faults { faults self.old ≤ faults self.new };
 }

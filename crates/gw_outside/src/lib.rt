@@ -14,4 +14,4 @@ pub use clocks::Clock;
 pub use files::{FileGot, Files};
 pub use sinks::{Sink, Took, write_all};
 pub use sources::{Got, Source};
-pub use targets::{Targets, Told};
+pub use targets::{TargetAnswer, Targets};

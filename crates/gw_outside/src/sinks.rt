@@ -2,7 +2,7 @@
 
 ghost use Rattle.std.specs.Prelude.{◌≡◌, ◌≤◌, ◌<◌, ℕ, List, Option, length, IsTrue, false};
 ghost use Rattle.gw_outside.specs.Counts.{Rose};
-ghost use Rattle.gw_outside.specs.Written.{TookFits, ReceivedPrefix, appended};
+ghost use Rattle.gw_outside.specs.Sinks.{TookFits, ReceivedPrefix, appended};
 
 /// What a write took.
 #[derive(Clone, Copy, PartialEq, Eq, Debug)]
@@ -32,7 +32,8 @@ pub trait Sink {
 /// Writes all of it, or answers `false` after a fault, when a front of it was received.
 pub fn write_all<K: Sink>(sink: &mut K, bytes: &[u8]) -> bool
     ensures all { IsTrue result → K.received sink.new ≡ appended (K.received sink.old) bytes.now }
-    ensures part { result ≡ false → ReceivedPrefix (K.received sink.old) (K.received sink.new) bytes.now }
+    ensures part { result ≡ false
+        → ReceivedPrefix (K.received sink.old) (K.received sink.new) bytes.now }
     ensures cause { result ≡ false → Rose (K.faults sink.old) (K.faults sink.new) }
     ensures faults { K.faults sink.old ≤ K.faults sink.new }
 {

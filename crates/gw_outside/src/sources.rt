@@ -2,7 +2,7 @@
 
 ghost use Rattle.std.specs.Prelude.{◌≡◌, ◌≤◌, ◌<◌, ℕ, List, Option, length};
 ghost use Rattle.gw_outside.specs.Counts.{Rose};
-ghost use Rattle.gw_outside.specs.Read.{GotFits};
+ghost use Rattle.gw_outside.specs.Sources.{GotFits};
 
 /// What a read gave.
 #[derive(Clone, Copy, PartialEq, Eq, Debug)]

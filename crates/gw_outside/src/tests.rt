@@ -1,6 +1,8 @@
 //! Fakes of the outside: each trait can be met, and a sink that fails at named calls.
 
-ghost use Rattle.std.specs.Prelude.{ℕ, List, [], ◌∷◌, Some, None, Ok, Err, drop, if◌then◌else◌, ◌==◌};
+ghost use Rattle.std.specs.Prelude.{[], ◌∷◌, Some, None, Ok, Err, refl, drop, if◌then◌else◌, ◌==◌};
+ghost use Rattle.std.proofs.Math.Nat.{min-le_right};
+ghost use Rattle.z_types.specs.Bounds.{most_number};
 ghost use lib.Pointwise.{pointwise};
 
 use crate::*;
@@ -69,7 +71,7 @@ struct FakeFiles {
 impl Files for FakeFiles {
     ghost faults = { λ s. s.faults };
 
-    ghost told = { λ s name. if pointwise ◌==◌ s.name name then Some s.bytes else None };
+    ghost contents = { λ s name. if pointwise ◌==◌ s.name name then Some s.bytes else None };
 
     ghost last_failed = { λ s. s.last_failed };
 
@@ -104,11 +106,15 @@ impl World for FakeTargets {
     ghost record_ = { λ _ _ _ _ _. Err (record { set = 1 ∷ 2 ∷ []; condition = 13; addinfo = [] }) };
 
     ghost scan = { λ _ _ _. Ok (record { position = None; entries = [] }) };
+
+    ghost hits_are_counts = { λ _ _. min-le_right 0 most_number };
+
+    ghost whole_is_not_gone = { λ _ _ _ _ _. refl };
 }
 
 impl Targets for FakeTargets {
-    fn search(&self, _: Global, _: &Address, _: &List<Text>, _: &RpnQuery) -> Told<u32> {
-        Told::Good(0)
+    fn search(&self, _: Global, _: &Address, _: &List<Text>, _: &RpnQuery) -> TargetAnswer<u32> {
+        TargetAnswer::Good(0)
     }
 }
 
@@ -168,7 +174,7 @@ fn fakes_meet_the_traits(rt: HostRuntime) -> Result<(), Fail> {
         attr_set: Oid::copy_of(alloc, &[1, 2])?,
         root: Rpn::operand(Text::new(alloc)),
     };
-    let told = FakeTargets {}.search(alloc, &Address::Test(0), &List::new(alloc), &query);
-    assert!(rt; matches!(told, Told::Good(0)));
+    let answer = FakeTargets {}.search(alloc, &Address::Test(0), &List::new(alloc), &query);
+    assert!(rt; matches!(answer, TargetAnswer::Good(0)));
     Ok(())
 }

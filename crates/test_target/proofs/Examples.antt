@@ -8,7 +8,8 @@ use Rattle.z_types.specs.declared.query.Term.TheVariants.{General}
 use Rattle.z_types.specs.declared.records.Item.TheVariants.{Record, Surrogate}
 use Rattle.z_types.specs.declared.records.Form.TheVariants.{Single, Octets}
 use Rattle.z_types.specs.declared.scan.ScanAsk.{ScanAsk}
-use Rattle.test_target.specs.Diagnostics.{bib1}
+use Rattle.z_types.specs.Bib1.{bib1}
+use Rattle.z_types.specs.declared.conditions.Condition.TheVariants.{TemporarySystemError, ElementSetNameNotValid, RecordSyntaxNotSupported}
 use Rattle.test_target.specs.Searches.{search_at}
 use Rattle.test_target.specs.Records.{record_at, xml, sutrs}
 use Rattle.test_target.specs.Scans.{first_term, position_among}
@@ -36,15 +37,15 @@ number_in_sutrs : record_at 0 (title (codes "a")) 3 (Some sutrs) (Some (codes "B
 unfolding title digits
 number_in_sutrs = refl
 
-syntax_before_element : record_at 0 (title (codes "a")) 1 (Some (1 ∷ 2 ∷ 840 ∷ [])) (Some (codes "X")) ≡ Err (bib1 239 (codes "1.2.840"))
+syntax_before_element : record_at 0 (title (codes "a")) 1 (Some (1 ∷ 2 ∷ 840 ∷ [])) (Some (codes "X")) ≡ Err (bib1 RecordSyntaxNotSupported (codes "1.2.840"))
 unfolding title digits
 syntax_before_element = refl
 
-unknown_element : record_at 0 (title (codes "a")) 1 None (Some (codes "X")) ≡ Err (bib1 25 (codes "X"))
+unknown_element : record_at 0 (title (codes "a")) 1 None (Some (codes "X")) ≡ Err (bib1 ElementSetNameNotValid (codes "X"))
 unfolding title
 unknown_element = refl
 
-thirteenth_is_a_diagnostic : record_at 5 (title (codes "b")) 7 None None ≡ Ok (Surrogate (bib1 2 (codes "13")))
+thirteenth_is_a_diagnostic : record_at 5 (title (codes "b")) 7 None None ≡ Ok (Surrogate (bib1 TemporarySystemError (codes "13")))
 unfolding title digits
 thirteenth_is_a_diagnostic = refl
 

@@ -21,6 +21,6 @@ octets_of (General text) = text
 octets_of (Number number) = signed_decimal number
 octets_of (Words text) = text
 
--- every so many records a term is found
+-- a term is found at every n-th record, where n is 2 to 8
 abbrev pub modulus : Term → ℕ
 modulus term = 2 + sum (octets_of term) % 7

@@ -8,7 +8,8 @@ use Rattle.z_types.specs.declared.diagnostic.Diag.{Diag}
 use Rattle.z_types.specs.declared.records.Item.{Item}
 use Rattle.z_types.specs.declared.records.Item.TheVariants.{Record, Surrogate}
 use Rattle.z_types.specs.declared.records.Form.TheVariants.{Single, Octets}
-use Rattle.test_target.specs.Diagnostics.{bib1}
+use Rattle.z_types.specs.Bib1.{bib1}
+use Rattle.z_types.specs.declared.conditions.Condition.TheVariants.{TemporarySystemError, PresentRequestOutOfRange, ElementSetNameNotValid, RecordSyntaxNotSupported}
 use Rattle.test_target.specs.Databases.{same_name}
 use Rattle.test_target.specs.Searches.{found_in}
 
@@ -43,12 +44,12 @@ abbrev pub full_text : ℕ → Place → List ℕ
 full_text n place =
     decimal n ++ 46 ∷ [] ++ place.name ++ 46 ∷ [] ++ decimal place.number
 
--- the text of a record in an element set, of which F, dc and none are full and B is the number, or 25
+-- the text of a record in an element set: F, dc and none are full, B is the number, and there is no other
 abbrev pub text_in : ℕ → Place → Option (List ℕ) → Result (List ℕ) Diag
 text_in n place None = Ok (full_text n place)
 text_in n place (Some element) =
     if same_name element (codes "F") || same_name element (codes "dc") then Ok (full_text n place)
-    else (if same_name element (codes "B") then Ok (decimal place.number) else Err (bib1 25 element))
+    else (if same_name element (codes "B") then Ok (decimal place.number) else Err (bib1 ElementSetNameNotValid element))
 
 -- a text in XML
 abbrev pub in_xml : List ℕ → Item
@@ -58,17 +59,17 @@ in_xml text = Record xml Octets (codes "<r>" ++ text ++ codes "</r>")
 abbrev pub in_sutrs : List ℕ → Item
 in_sutrs text = Record sutrs Single (27 ∷ length text ∷ text)
 
--- how a text is written in a syntax, of which none is XML, or 239
+-- how a text is written in a syntax, where none asks for XML and there is no other than these
 abbrev pub form_in : Option (List ℕ) → Result (List ℕ → Item) Diag
 form_in None = Ok in_xml
 form_in (Some syntax) =
     if same_oid syntax xml then Ok in_xml
-    else (if same_oid syntax sutrs then Ok in_sutrs else Err (bib1 239 (dotted syntax)))
+    else (if same_oid syntax sutrs then Ok in_sutrs else Err (bib1 RecordSyntaxNotSupported (dotted syntax)))
 
--- record 13 of Default is a diagnostic in its place, 2
+-- record 13 of Default is a diagnostic in its place
 abbrev pub shown_at : Place → Item → Item
 shown_at place item =
-    if same_name place.name (codes "Default") && (place.number == 13) then Surrogate (bib1 2 (codes "13")) else item
+    if same_name place.name (codes "Default") && (place.number == 13) then Surrogate (bib1 TemporarySystemError (codes "13")) else item
 
 -- the record in its form, or the diagnostic of its syntax, or else of its element set
 abbrev pub written : Place → Result (List ℕ → Item) Diag → Result (List ℕ) Diag → Result Item Diag
@@ -76,9 +77,9 @@ written place (Err diag) text = Err diag
 written place (Ok form) (Err diag) = Err diag
 written place (Ok form) (Ok text) = Ok (shown_at place (form text))
 
--- what is answered for a place; there is none past the hits, 13
+-- what is answered for a place; there is none past the hits
 abbrev pub record_in : ℕ → Option Place → Option (List ℕ) → Option (List ℕ) → Result Item Diag
-record_in n None syntax element = Err (bib1 13 [])
+record_in n None syntax element = Err (bib1 PresentRequestOutOfRange [])
 record_in n (Some place) syntax element = written place (form_in syntax) (text_in n place element)
 
 -- the record at a position, counted from 1, in a syntax and an element set

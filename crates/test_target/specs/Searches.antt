@@ -6,7 +6,9 @@ use Rattle.std.specs.Fmt.{decimal}
 use Rattle.z_types.specs.Tree.{Tree, leaf, operand, and, or, and_not}
 use Rattle.z_types.specs.declared.key.SetKey.{SetKey}
 use Rattle.z_types.specs.declared.diagnostic.Diag.{Diag}
-use Rattle.test_target.specs.Diagnostics.{bib1}
+use Rattle.z_types.specs.Bib1.{bib1}
+use Rattle.z_types.specs.declared.conditions.Condition.TheVariants.{DatabaseDoesNotExist, ResultSetDoesNotExist, UnsupportedUseAttribute}
+use Rattle.z_types.specs.Bounds.{most_number}
 use Rattle.test_target.specs.Databases.{size_of, missing_name}
 use Rattle.test_target.specs.Operands.{use_of, is_use, modulus}
 
@@ -18,18 +20,21 @@ finds n (and l r) i = finds n l i && finds n r i
 finds n (or l r) i = finds n l i || finds n r i
 finds n (and_not l r) i = finds n l i && not (finds n r i)
 
--- the first operand from the left that cannot be answered: 114 a Use, 30 the result set of a name
+-- a Use that is not there
+abbrev pub use_fault : ℕ → Option Diag
+use_fault value = if is_use value then None else Some (bib1 UnsupportedUseAttribute (decimal value))
+
+-- the first operand from the left that cannot be answered: of a Use that is not there, or a result set
 abbrev pub operand_fault : Tree → Option Diag
-operand_fault (leaf attrs term) =
-    if is_use (use_of attrs) then None else Some (bib1 114 (decimal (use_of attrs)))
-operand_fault (operand name) = Some (bib1 30 name)
+operand_fault (leaf attrs term) = use_fault (use_of attrs)
+operand_fault (operand name) = Some (bib1 ResultSetDoesNotExist name)
 operand_fault (and l r) = option_or (operand_fault l) (operand_fault r)
 operand_fault (or l r) = option_or (operand_fault l) (operand_fault r)
 operand_fault (and_not l r) = option_or (operand_fault l) (operand_fault r)
 
--- the first database that is not there, 235
+-- the first database that is not there
 abbrev pub database_fault : ℕ → List (List ℕ) → Option Diag
-database_fault n names = option_map (bib1 235) (missing_name n names)
+database_fault n names = option_map (bib1 DatabaseDoesNotExist) (missing_name n names)
 
 -- the records of a database that a structure finds, in their order
 abbrev pub found_in : ℕ → Tree → List ℕ → List ℕ
@@ -41,7 +46,7 @@ found_of n found name = length (filter (λ is_found. is_found) (take (unwrap_or 
 
 -- how many records are found; a database that is named again counts again
 abbrev pub hits : ℕ → Tree → List (List ℕ) → ℕ
-hits n tree names = min (sum_by (λ name. length (found_in n tree name)) names) 2147483647
+hits n tree names = min (sum_by (λ name. length (found_in n tree name)) names) most_number
 
 -- the diagnostic where there is one, else the answer
 abbrev pub answer_unless : {T : Type 0} → Option Diag → T → Result T Diag

@@ -1,20 +1,14 @@
 //! What a query finds at a test target.
 
-ghost use Rattle.std.specs.Prelude.{◌≡◌, ◌+◌, ◌%◌, ◌<◌, ◌≤◌, ◌==◌, ◌&&◌, ◌||◌, not, length, map, filter, take, sum_by, min, IfOk, false, if◌then◌else◌};
+ghost use Rattle.std.specs.Prelude.{◌≡◌, ◌+◌, ◌%◌, ◌<◌, ◌≤◌, ◌==◌, ◌&&◌, ◌||◌, not, length, map, filter, take, sum_by, min, IfOk, false};
 ghost use Rattle.std.specs.List.{range_with_len, zip};
-ghost use Rattle.std.specs.Fmt.{decimal};
-ghost use Rattle.test_target.specs.Diagnostics.{bib1};
-ghost use Rattle.test_target.specs.Operands.{is_use};
-ghost use Rattle.test_target.specs.Searches.{finds, operand_fault, found_of, hits};
+ghost use Rattle.z_types.specs.Bounds.{most_number};
+ghost use Rattle.test_target.specs.Searches.{finds, use_fault, operand_fault, found_of, hits};
 
 use crate::databases::{MOST_RECORDS, size_of};
-use crate::diagnostics::{NO_SET, NO_USE, bib1};
 use crate::operands::{is_use, modulus, use_of};
 use std::alloc::Global;
-use z_types::{Diag, List, Memory, Node, Rpn, Text, copy};
-
-/// The most hits that are told: a resultCount is at most this.
-const MOST_HITS: usize = 2147483647;
+use z_types::{Condition, Diag, List, MOST_NUMBER, Memory, Node, Rpn, Text, copy};
 
 /// The first operand from the left that cannot be answered, as its diagnostic.
 pub(crate) fn find_fault(alloc: Global, query: &Rpn) -> Result<Option<Diag>, Memory>
@@ -22,7 +16,11 @@ pub(crate) fn find_fault(alloc: Global, query: &Rpn) -> Result<Option<Diag>, Mem
 {
     match &query.node {
         Node::Leaf(attrs, _) => use_fault(alloc, use_of(attrs)),
-        Node::Set(name) => Ok(Some(bib1(alloc, NO_SET, copy(name)?)?)),
+        Node::Set(name) => Ok(Some(Diag::bib1(
+            alloc,
+            Condition::ResultSetDoesNotExist,
+            copy(name)?,
+        )?)),
         Node::And(left, right) => match find_fault(alloc, left)? {
             Some(fault) => Ok(Some(fault)),
             None => find_fault(alloc, right),
@@ -40,14 +38,13 @@ pub(crate) fn find_fault(alloc: Global, query: &Rpn) -> Result<Option<Diag>, Mem
 
 /// The fault of a Use attribute, if the targets do not have it.
 fn use_fault(alloc: Global, value: u32) -> Result<Option<Diag>, Memory>
-    ensures { IfOk result
-        (λ fault. fault ≡ (if is_use value then None else Some (bib1 114 (decimal value)))) }
+    ensures { IfOk result (λ fault. fault ≡ use_fault value) }
 {
     if is_use(value) {
         return Ok(None);
     }
-    let text = format!(in alloc; "{value}")?;
-    Ok(Some(bib1(alloc, NO_USE, Text::from_vec(text.into_bytes()))?))
+    let text = Text::from_vec(format!(in alloc; "{value}")?.into_bytes());
+    Ok(Some(Diag::bib1(alloc, Condition::UnsupportedUseAttribute, text)?))
 }
 
 /// Which of the records 1 to `MOST_RECORDS` a query finds.
@@ -83,7 +80,8 @@ fn found(alloc: Global, target: u32, query: &Rpn) -> Result<Vec<bool>, Memory>
 fn found_by_operand(alloc: Global, target: u32, value: u32, every: u32) -> Result<Vec<bool>, Memory>
     requires { 0 < every }
     ensures { IfOk result
-        (λ found. found.items ≡ map (λ i. ((i + target + value) % every) == 0) (range_with_len 1 MOST_RECORDS)) }
+        (λ found. found.items
+        ≡ map (λ i. ((i + target + value) % every) == 0) (range_with_len 1 MOST_RECORDS)) }
 {
     let mut found = Vec::new(alloc);
     for place in 0..MOST_RECORDS {
@@ -95,7 +93,8 @@ fn found_by_operand(alloc: Global, target: u32, value: u32, every: u32) -> Resul
 
 /// No record is found.
 fn none_found(alloc: Global) -> Result<Vec<bool>, Memory>
-    ensures { IfOk result (λ found. found.items ≡ map (λ i. false) (range_with_len 1 MOST_RECORDS)) }
+    ensures { IfOk result
+        (λ found. found.items ≡ map (λ i. false) (range_with_len 1 MOST_RECORDS)) }
 {
     Ok(vec![in alloc; false; MOST_RECORDS as usize]?)
 }
@@ -137,7 +136,7 @@ fn count_found(found: &[bool], size: u32) -> usize
         .count()
 }
 
-/// How many records a query finds in databases, at most `MOST_HITS`.
+/// How many records a query finds in databases, at most `MOST_NUMBER`.
 pub(crate) fn hits(
     alloc: Global,
     target: u32,
@@ -150,15 +149,15 @@ pub(crate) fn hits(
     Ok(count_hits(target, found.as_slice(), names))
 }
 
-/// How many records of databases are found, at most `MOST_HITS`.
+/// How many records of databases are found, at most `MOST_NUMBER`.
 fn count_hits(target: u32, found: &[bool], names: &List<Text>) -> u32
     requires { length found.now ≡ MOST_RECORDS }
-    ensures { result ≡ min (sum_by (found_of target found.now) names.now) MOST_HITS }
+    ensures { result ≡ min (sum_by (found_of target found.now) names.now) most_number }
 {
     let mut hits = 0;
     for name in names.as_slice() {
         let size = size_of(target, name).unwrap_or(0);
-        hits = (hits + count_found(found, size)).min(MOST_HITS);
+        hits = (hits + count_found(found, size)).min(MOST_NUMBER as usize);
     }
     hits as u32
 }

@@ -2,7 +2,6 @@
 #![tactic(auto)]
 
 mod databases;
-mod diagnostics;
 mod hits;
 mod operands;
 #[cfg(test)]

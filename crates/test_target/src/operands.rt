@@ -38,7 +38,7 @@ pub(crate) fn is_use(value: u32) -> bool
     matches!(value, 4 | 7 | 8 | 21 | 1003 | 1016)
 }
 
-/// Every so many records the term of an operand is found, 2 to 8.
+/// The n of a term that is found at every n-th record, 2 to 8.
 pub(crate) fn modulus(alloc: Global, term: &Term) -> Result<u32, Memory>
     ensures { IfOk result (λ every. every ≡ modulus term.now) }
 {

@@ -2,7 +2,7 @@
 //! found at every eighth record, `b` at every second, `c` at every third, `-1` at every fifth.
 
 use crate::TestWorld;
-use gw_outside::{Targets, Told};
+use gw_outside::{TargetAnswer, Targets};
 use std::alloc::Global;
 use std::test::Fail;
 use z_types::{Address, Attr, List, Memory, Oid, Rpn, RpnQuery, Term, Text};
@@ -51,9 +51,9 @@ fn answer(
         root,
     };
     match TestWorld.search(alloc, address, &databases(alloc, names)?, &query) {
-        Told::Good(hits) => Ok((hits, Text::new(alloc))),
-        Told::Refused(diag) => Ok((diag.condition, diag.addinfo)),
-        Told::Memory => Err(Memory),
+        TargetAnswer::Good(hits) => Ok((hits, Text::new(alloc))),
+        TargetAnswer::Refused(diag) => Ok((diag.condition, diag.addinfo)),
+        TargetAnswer::Memory => Err(Memory),
     }
 }
 

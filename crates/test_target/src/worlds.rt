@@ -1,25 +1,27 @@
 //! The built-in test targets as a world that can be asked directly.
 
-ghost use Rattle.std.specs.Prelude.{◌≡◌, IfOk, MatchResult, []};
+ghost use Rattle.std.specs.Prelude.{◌≡◌, IfOk, []};
 ghost use Rattle.std.specs.Option.{option_or};
-ghost use Rattle.gw_outside.specs.Targets.{Tells};
-ghost use Rattle.test_target.specs.Diagnostics.{bib1};
+ghost use Rattle.z_types.specs.Bib1.{bib1};
+ghost use Rattle.z_types.specs.declared.conditions.Condition.TheVariants.{DatabaseUnavailable};
+ghost use Rattle.gw_outside.specs.Targets.{AnswersAs};
 ghost use Rattle.test_target.specs.Searches.{search_at, database_fault, operand_fault};
-ghost use Rattle.test_target.specs.World.{told_of, search_of, record_of, scan_of};
 
 use crate::databases::find_missing;
-use crate::diagnostics::{NO_DATABASE, UNAVAILABLE, bib1};
 use crate::hits::{find_fault, hits};
-use gw_outside::{Targets, Told};
+use gw_outside::{TargetAnswer, Targets};
 use std::alloc::Global;
-use z_types::{Address, Diag, List, Memory, Rpn, RpnQuery, Text, World, copy};
+use z_types::{Address, Condition, Diag, List, Memory, Rpn, RpnQuery, Text, World, copy};
 
-/// The built-in test targets, each an unchanging database. No other target can be asked here: it is
-/// unavailable (bib-1, 109).
+/// The built-in test targets, each an unchanging database. No other target can be asked here: its
+/// databases are unavailable.
 #[derive(Drop)]
 pub struct TestWorld;
 
 impl World for TestWorld {
+    ghost use Rattle.test_target.specs.World.{told_of, search_of, record_of, scan_of};
+    ghost use Rattle.test_target.specs.WorldLaws.{hits_are_counts, whole_is_not_gone};
+
     ghost told = { told_of };
 
     ghost search = { search_of };
@@ -27,6 +29,10 @@ impl World for TestWorld {
     ghost record_ = { record_of };
 
     ghost scan = { scan_of };
+
+    ghost hits_are_counts = { hits_are_counts };
+
+    ghost whole_is_not_gone = { whole_is_not_gone };
 }
 
 impl Targets for TestWorld {
@@ -36,38 +42,23 @@ impl Targets for TestWorld {
         address: &Address,
         dbs: &List<Text>,
         query: &RpnQuery,
-    ) -> Told<u32> {
+    ) -> TargetAnswer<u32> {
         match address {
-            Address::Test(target) => told(search_at(alloc, *target, dbs, query)),
-            Address::Tcp(_, _) => told(unavailable(alloc)),
+            Address::Test(target) => search_at(alloc, *target, dbs, query),
+            Address::Tcp(_, _) => TargetAnswer::refused(unavailable(alloc)),
         }
     }
 }
 
-/// What is told of an answer.
-fn told<T: Drop>(answer: Result<Result<T, Diag>, Memory>) -> Told<T>
-    ensures { MatchResult answer (Tells result) (λ _. result ≡ Told.Memory) }
+/// The answer of a test target to a search.
+fn search_at(alloc: Global, target: u32, dbs: &List<Text>, query: &RpnQuery) -> TargetAnswer<u32>
+    ensures { AnswersAs result
+        (search_at target (record { dbs = dbs.now; query = query.now })) }
 {
-    match answer {
-        Ok(Ok(good)) => Told::Good(good),
-        Ok(Err(diag)) => Told::Refused(diag),
-        Err(_) => Told::Memory,
-    }
-}
-
-/// A search at a test target.
-fn search_at(
-    alloc: Global,
-    target: u32,
-    dbs: &List<Text>,
-    query: &RpnQuery,
-) -> Result<Result<u32, Diag>, Memory>
-    ensures { IfOk result
-        (λ answer. answer ≡ search_at target (record { dbs = dbs.now; query = query.now })) }
-{
-    match search_fault(alloc, target, dbs, &query.root)? {
-        Some(fault) => Ok(Err(fault)),
-        None => Ok(Ok(hits(alloc, target, &query.root, dbs)?)),
+    match search_fault(alloc, target, dbs, &query.root) {
+        Ok(Some(fault)) => TargetAnswer::Refused(fault),
+        Ok(None) => TargetAnswer::good(hits(alloc, target, &query.root, dbs)),
+        Err(_) => TargetAnswer::Memory,
     }
 }
 
@@ -82,14 +73,14 @@ fn search_fault(
         (λ fault. fault ≡ option_or (database_fault target dbs.now) (operand_fault query.now)) }
 {
     match find_missing(target, dbs) {
-        Some(name) => Ok(Some(bib1(alloc, NO_DATABASE, copy(name)?)?)),
+        Some(name) => Ok(Some(Diag::bib1(alloc, Condition::DatabaseDoesNotExist, copy(name)?)?)),
         None => find_fault(alloc, query),
     }
 }
 
-/// The answer of a target that cannot be asked here.
-fn unavailable(alloc: Global) -> Result<Result<u32, Diag>, Memory>
-    ensures { IfOk result (λ answer. answer ≡ Err (bib1 109 [])) }
+/// The diagnostic of a target that cannot be asked here.
+fn unavailable(alloc: Global) -> Result<Diag, Memory>
+    ensures { IfOk result (λ diag. diag ≡ bib1 DatabaseUnavailable []) }
 {
-    Ok(Err(bib1(alloc, UNAVAILABLE, Text::new(alloc))?))
+    Diag::bib1(alloc, Condition::DatabaseUnavailable, Text::new(alloc))
 }

@@ -1,1 +1,1 @@
-mod Bounds
+mod ListAllLemmas

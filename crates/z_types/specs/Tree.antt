@@ -29,7 +29,10 @@ text_code = coded_list coded_ℕ
 -- an attribute is stored as its set and its two numbers
 abbrev pub attr_code : Coded Attr
 attr_code =
-    code_by (Option (List ℕ) × (ℕ × ℕ)) (coded× (coded_option text_code) (coded× coded_ℕ coded_ℕ)) (λ a. (a.set, (a.kind, a.value))) (λ p. record { set = p.0; kind = p.1.0; value = p.1.1 }) (λ _. refl)
+    code_by (Option (List ℕ) × (ℕ × ℕ)) (coded× (coded_option text_code) (coded× coded_ℕ coded_ℕ))
+    (λ a. (a.set, (a.kind, a.value)))
+    (λ (set, (kind, value)). record { set = set; kind = kind; value = value })
+    (λ _. refl)
 
 abbrev term_parts : Term → List ℕ ⊎ (ℤ ⊎ List ℕ)
 term_parts (General text) = inl text

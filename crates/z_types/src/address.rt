@@ -1,6 +1,6 @@
 //! Where a target is.
 
-ghost use Rattle.z_types.specs.Address.{address_exact, address_cloned};
+ghost use Rattle.z_types.specs.equality.Address.{address};
 
 use crate::{Exact, Text};
 
@@ -14,7 +14,7 @@ pub enum Address {
 }
 
 impl Exact for Address {
-    ghost exact_eq = { address_exact };
+    ghost exact_eq = { address.eq_is_exact };
 
-    ghost exact_clone = { address_cloned };
+    ghost exact_clone = { address.clone_is_exact };
 }

@@ -1,9 +1,9 @@
 //! Diagnostics (ANSI/NISO Z39.50-2003, DefaultDiagFormat).
 
 ghost use Rattle.std.specs.Prelude.{◌≡◌, IfOk};
-ghost use Rattle.z_types.specs.Diagnostic.{diag_exact, diag_cloned};
+ghost use Rattle.z_types.specs.equality.Diagnostic.{diagnostic};
 
-use crate::{Exact, Memory, Oid, Text};
+use crate::{Condition, Exact, Memory, Oid, Text};
 use std::alloc::Global;
 
 /// What went wrong, as a target or the gateway tells it.
@@ -21,19 +21,19 @@ impl Diag {
     ghost use Rattle.z_types.specs.Bib1.{bib1};
 
     /// The diagnostic of a condition of the bib-1 set (ANSI/NISO Z39.50-2003, Appendix 4 ERR).
-    pub fn bib1(alloc: Global, condition: u32, addinfo: Text) -> Result<Diag, Memory>
+    pub fn bib1(alloc: Global, condition: Condition, addinfo: Text) -> Result<Diag, Memory>
         ensures { IfOk result (λ diag. diag ≡ bib1 condition addinfo) }
     {
         Ok(Diag {
             set: Oid::copy_of(alloc, &[1, 2, 840, 10003, 4, 1])?,
-            condition,
+            condition: condition.number(),
             addinfo,
         })
     }
 }
 
 impl Exact for Diag {
-    ghost exact_eq = { diag_exact };
+    ghost exact_eq = { diagnostic.eq_is_exact };
 
-    ghost exact_clone = { diag_cloned };
+    ghost exact_clone = { diagnostic.clone_is_exact };
 }

@@ -2,7 +2,8 @@
 //! are one, and a clone is its source.
 
 ghost use Rattle.std.specs.Prelude.{◌≡◌, ◌↔◌, IfOk, IsTrue};
-ghost use Rattle.z_types.specs.Exact.{EqIsExact, CloneIsExact, numbers_exact, bools_exact, ints_exact, options_exact, options_cloned};
+ghost use Rattle.z_types.specs.Exact.{EqIsExact, CloneIsExact};
+ghost use Rattle.z_types.specs.equality.Tests.{numbers_exact, bools_exact, ints_exact, options_exact, options_cloned};
 
 use crate::Memory;
 

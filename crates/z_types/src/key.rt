@@ -1,6 +1,6 @@
 //! What a result set is of: databases and a query.
 
-ghost use Rattle.z_types.specs.Key.{key_exact, key_cloned};
+ghost use Rattle.z_types.specs.equality.Key.{key};
 
 use crate::{Exact, List, RpnQuery, Text};
 
@@ -14,7 +14,7 @@ pub struct SetKey {
 }
 
 impl Exact for SetKey {
-    ghost exact_eq = { key_exact };
+    ghost exact_eq = { key.eq_is_exact };
 
-    ghost exact_clone = { key_cloned };
+    ghost exact_clone = { key.clone_is_exact };
 }

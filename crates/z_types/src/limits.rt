@@ -1,6 +1,6 @@
 //! What one connection may use (this project's own).
 
-ghost use Rattle.z_types.specs.Limits.{limits_exact};
+ghost use Rattle.z_types.specs.equality.Limits.{limits};
 
 use crate::Exact;
 
@@ -18,7 +18,7 @@ pub struct Limits {
 }
 
 impl Exact for Limits {
-    ghost exact_eq = { limits_exact };
+    ghost exact_eq = { limits.eq_is_exact };
 
     ghost exact_clone = { λ a b h. h };
 }

@@ -1,12 +1,12 @@
 //! A list over `Vec`, seen by contracts as a list.
 
-ghost use Rattle.std.specs.Prelude.{◌≡◌, ◌↔◌, ℕ, List, [], ◌∷◌, ◌++◌, length, OnOk, OnErr, IsTrue};
+ghost use Rattle.std.specs.Prelude.{◌≡◌, ◌↔◌, List, [], ◌∷◌, ◌++◌, length, OnOk, OnErr, IsTrue};
 ghost use Rattle.std.specs.List.{AllZip};
 ghost use Rattle.std.specs.Slice.{IsItemAt};
 ghost use Rattle.std.specs.Cmp.Lexicographic.{lists_per};
 ghost use Rattle.std.proofs.lemmas.Cmp.{lists_equiv};
 ghost use lib.Pointwise.{pointwise};
-ghost use Rattle.z_types.specs.Exact.{lists_exact, lists_cloned};
+ghost use Rattle.z_types.specs.equality.Tests.{lists_exact, lists_cloned};
 
 use crate::{Exact, Memory};
 use std::alloc::{AllocError, Global};

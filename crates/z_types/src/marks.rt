@@ -1,6 +1,6 @@
 //! Under which mark a request was answered, and how a connection ended (this project's own).
 
-ghost use Rattle.z_types.specs.Marks.{mark_exact, end_exact};
+ghost use Rattle.z_types.specs.equality.Marks.{mark_exact, end_exact};
 
 use crate::Exact;
 

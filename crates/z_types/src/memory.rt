@@ -1,6 +1,6 @@
 //! Want of memory, the one answer that has no cause in the input.
 
-ghost use Rattle.z_types.specs.Memory.{memory_exact};
+ghost use Rattle.z_types.specs.equality.Memory.{memory_exact};
 
 use crate::Exact;
 use std::alloc::{AllocError, AllocFailed};

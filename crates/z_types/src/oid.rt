@@ -4,7 +4,7 @@ ghost use Rattle.std.specs.Prelude.{◌≡◌, ◌↔◌, ◌==◌, IsSome, IfSo
 ghost use Rattle.std.specs.Cmp.Rules.{comparing};
 ghost use Rattle.std.proofs.Common.{rules};
 ghost use lib.Pointwise.{pointwise};
-ghost use Rattle.z_types.specs.Exact.{text_exact};
+ghost use Rattle.z_types.specs.equality.Tests.{text_exact};
 ghost use Rattle.z_types.specs.Oid.{is_oid, has_root};
 
 use crate::{Exact, Memory};

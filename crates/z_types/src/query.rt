@@ -3,7 +3,7 @@
 
 ghost use Rattle.std.specs.Prelude.{◌≡◌, IfOk};
 ghost use Rattle.z_types.specs.Tree.{leaf, operand, and, or, and_not};
-ghost use Rattle.z_types.specs.Query.{tree_eq, tree_equiv, tree_per, tree_exact, attr_exact, attr_cloned, term_exact, term_cloned};
+ghost use Rattle.z_types.specs.equality.Query.{tree_eq, tree_equiv, tree_per, tree, attr, term};
 
 use crate::{Exact, List, Memory, Oid, Text};
 use std::alloc::{AllocError, Global};
@@ -104,8 +104,7 @@ impl Rpn {
     pub fn and(alloc: Global, left: Rpn, right: Rpn) -> Result<Rpn, Memory>
         ensures { IfOk result (λ query. query ≡ and left right) }
     {
-        let left = Box::new(alloc, left)?;
-        let right = Box::new(alloc, right)?;
+        let (left, right) = boxed(alloc, left, right)?;
         Ok(Rpn {
             node: Node::And(left, right),
         })
@@ -115,8 +114,7 @@ impl Rpn {
     pub fn or(alloc: Global, left: Rpn, right: Rpn) -> Result<Rpn, Memory>
         ensures { IfOk result (λ query. query ≡ or left right) }
     {
-        let left = Box::new(alloc, left)?;
-        let right = Box::new(alloc, right)?;
+        let (left, right) = boxed(alloc, left, right)?;
         Ok(Rpn {
             node: Node::Or(left, right),
         })
@@ -126,12 +124,21 @@ impl Rpn {
     pub fn and_not(alloc: Global, left: Rpn, right: Rpn) -> Result<Rpn, Memory>
         ensures { IfOk result (λ query. query ≡ and_not left right) }
     {
-        let left = Box::new(alloc, left)?;
-        let right = Box::new(alloc, right)?;
+        let (left, right) = boxed(alloc, left, right)?;
         Ok(Rpn {
             node: Node::AndNot(left, right),
         })
     }
+}
+
+/// Two structures behind pointers.
+fn boxed(alloc: Global, left: Rpn, right: Rpn) -> Result<(Box<Rpn>, Box<Rpn>), AllocError>
+    ensures left { IfOk result (λ both. both.0.value ≡ left) }
+    ensures right { IfOk result (λ both. both.1.value ≡ right) }
+{
+    let left = Box::new(alloc, left)?;
+    let right = Box::new(alloc, right)?;
+    Ok((left, right))
 }
 
 impl PartialEq for Rpn {
@@ -176,30 +183,21 @@ impl Clone for Rpn {
             }),
             Node::And(left, right) => {
                 let alloc = *Box::allocator(left);
-                let left = (**left).clone()?;
-                let right = (**right).clone()?;
-                let left = Box::new(alloc, left)?;
-                let right = Box::new(alloc, right)?;
+                let (left, right) = boxed(alloc, (**left).clone()?, (**right).clone()?)?;
                 Ok(Rpn {
                     node: Node::And(left, right),
                 })
             }
             Node::Or(left, right) => {
                 let alloc = *Box::allocator(left);
-                let left = (**left).clone()?;
-                let right = (**right).clone()?;
-                let left = Box::new(alloc, left)?;
-                let right = Box::new(alloc, right)?;
+                let (left, right) = boxed(alloc, (**left).clone()?, (**right).clone()?)?;
                 Ok(Rpn {
                     node: Node::Or(left, right),
                 })
             }
             Node::AndNot(left, right) => {
                 let alloc = *Box::allocator(left);
-                let left = (**left).clone()?;
-                let right = (**right).clone()?;
-                let left = Box::new(alloc, left)?;
-                let right = Box::new(alloc, right)?;
+                let (left, right) = boxed(alloc, (**left).clone()?, (**right).clone()?)?;
                 Ok(Rpn {
                     node: Node::AndNot(left, right),
                 })
@@ -209,27 +207,27 @@ impl Clone for Rpn {
 }
 
 impl Exact for Attr {
-    ghost exact_eq = { attr_exact };
+    ghost exact_eq = { attr.eq_is_exact };
 
-    ghost exact_clone = { attr_cloned };
+    ghost exact_clone = { attr.clone_is_exact };
 }
 
 impl Exact for Term {
-    ghost exact_eq = { term_exact };
+    ghost exact_eq = { term.eq_is_exact };
 
-    ghost exact_clone = { term_cloned };
+    ghost exact_clone = { term.clone_is_exact };
 }
 
 impl Exact for RpnQuery {
-    ghost use Rattle.z_types.specs.WholeQuery.{query_exact, query_cloned};
+    ghost use Rattle.z_types.specs.equality.RpnQuery.{rpn_query};
 
-    ghost exact_eq = { query_exact };
+    ghost exact_eq = { rpn_query.eq_is_exact };
 
-    ghost exact_clone = { query_cloned };
+    ghost exact_clone = { rpn_query.clone_is_exact };
 }
 
 impl Exact for Rpn {
-    ghost exact_eq = { tree_exact };
+    ghost exact_eq = { tree.eq_is_exact };
 
     ghost exact_clone = { λ a b h. h };
 }

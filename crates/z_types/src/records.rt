@@ -1,6 +1,6 @@
 //! Records and what a response has in their place (ANSI/NISO Z39.50-2003, Records and NamePlusRecord).
 
-ghost use Rattle.z_types.specs.Records.{form_exact, item_exact, named_exact, body_exact, item_cloned, named_cloned, body_cloned};
+ghost use Rattle.z_types.specs.equality.Records.{form, item, named_record, body};
 
 use crate::{Diag, Exact, List, Oid, Text};
 
@@ -54,25 +54,25 @@ pub enum Body {
 }
 
 impl Exact for Form {
-    ghost exact_eq = { form_exact };
+    ghost exact_eq = { form.eq_is_exact };
 
     ghost exact_clone = { λ a b h. h };
 }
 
 impl Exact for Item {
-    ghost exact_eq = { item_exact };
+    ghost exact_eq = { item.eq_is_exact };
 
-    ghost exact_clone = { item_cloned };
+    ghost exact_clone = { item.clone_is_exact };
 }
 
 impl Exact for NamedRecord {
-    ghost exact_eq = { named_exact };
+    ghost exact_eq = { named_record.eq_is_exact };
 
-    ghost exact_clone = { named_cloned };
+    ghost exact_clone = { named_record.clone_is_exact };
 }
 
 impl Exact for Body {
-    ghost exact_eq = { body_exact };
+    ghost exact_eq = { body.eq_is_exact };
 
-    ghost exact_clone = { body_cloned };
+    ghost exact_clone = { body.clone_is_exact };
 }

@@ -1,8 +1,9 @@
-//! Replies of a target (ANSI/NISO Z39.50-2003, InitializeResponse, SearchResponse and Close).
+//! Replies of a target (ANSI/NISO Z39.50-2003, InitializeResponse, SearchResponse, PresentResponse,
+//! ScanResponse and Close).
 
-ghost use Rattle.z_types.specs.Replies.{reply_exact, reply_cloned};
+ghost use Rattle.z_types.specs.equality.Replies.{reply_exact, reply_cloned};
 
-use crate::{Body, Close, Exact, Init, Text};
+use crate::{Body, Close, Diag, Exact, Init, List, ScanAnswer, Text};
 
 /// A unit that a target sends. Its numbers are 0 to 2147483647.
 #[derive(PartialEq, Eq, Clone, Drop)]
@@ -30,6 +31,30 @@ pub enum Reply {
         status: Option<u32>,
         /// The records.
         body: Body,
+    },
+    /// A PresentResponse.
+    Present {
+        /// The referenceId of the request.
+        ref_id: Option<Text>,
+        /// The numberOfRecordsReturned.
+        returned: u32,
+        /// The nextResultSetPosition.
+        next: u32,
+        /// The presentStatus.
+        status: u32,
+        /// The records.
+        body: Body,
+    },
+    /// A ScanResponse.
+    Scan {
+        /// The referenceId of the request.
+        ref_id: Option<Text>,
+        /// The scanStatus.
+        status: u32,
+        /// The positionOfTerm and the entries.
+        answer: ScanAnswer,
+        /// The nonsurrogateDiagnostics.
+        diags: List<Diag>,
     },
     /// A Close.
     Close(Close),

@@ -1,8 +1,9 @@
-//! Requests of an origin (ANSI/NISO Z39.50-2003, InitializeRequest, SearchRequest and Close).
+//! Requests of an origin (ANSI/NISO Z39.50-2003, InitializeRequest, SearchRequest, PresentRequest,
+//! ScanRequest and Close).
 
-ghost use Rattle.z_types.specs.Asked.{asked_eq, asked_per, asked_equiv, asked_exact, asked_cloned};
+ghost use Rattle.z_types.specs.equality.Asked.{asked_eq, asked_per, asked_equiv, asked_exact, asked_cloned};
 
-use crate::{Diag, Exact, List, Oid, RpnQuery, Text};
+use crate::{Diag, Exact, List, Oid, RpnQuery, ScanAsk, Text};
 
 /// What a request asks for, or the diagnostic of a form that the gateway reads and does not serve.
 #[derive(Clone, Drop)]
@@ -53,12 +54,40 @@ pub struct Search {
     pub query: Asked<RpnQuery>,
 }
 
+/// A Present.
+#[derive(PartialEq, Eq, Clone, Drop)]
+pub struct Present {
+    /// The referenceId.
+    pub ref_id: Option<Text>,
+    /// The name of the result set.
+    pub set_name: Text,
+    /// The position of the first record, counted from 1; any integer of at most 8 octets is read.
+    pub start: i64,
+    /// How many records are asked for, 0 to 2147483647.
+    pub number: u32,
+    /// The element set name.
+    pub element: Asked<Option<Text>>,
+    /// The preferred record syntax.
+    pub syntax: Option<Oid>,
+}
+
+/// A Scan.
+#[derive(PartialEq, Eq, Clone, Drop)]
+pub struct Scan {
+    /// The referenceId.
+    pub ref_id: Option<Text>,
+    /// The databases, in the order named.
+    pub dbs: List<Text>,
+    /// What is asked of their index.
+    pub ask: Asked<ScanAsk>,
+}
+
 /// A Close, of either side.
 #[derive(PartialEq, Eq, Clone, Drop)]
 pub struct Close {
     /// The referenceId.
     pub ref_id: Option<Text>,
-    /// The close reason, 0 to 2147483647: 0 finished, 4 cost limit, 6 protocol error.
+    /// The close reason, 0 to 2147483647: 0 finished, 3 cost limit, 6 protocol error.
     pub reason: u32,
     /// Diagnostic information.
     pub info: Option<Text>,
@@ -69,6 +98,8 @@ pub struct Close {
 pub enum Request {
     Init(Init),
     Search(Search),
+    Present(Present),
+    Scan(Scan),
     Close(Close),
 }
 
@@ -97,31 +128,47 @@ impl<T: Exact> Exact for Asked<T> {
 }
 
 impl Exact for Init {
-    ghost use Rattle.z_types.specs.Requests.{init_exact, init_cloned};
+    ghost use Rattle.z_types.specs.equality.Requests.{init};
 
-    ghost exact_eq = { init_exact };
+    ghost exact_eq = { init.eq_is_exact };
 
-    ghost exact_clone = { init_cloned };
+    ghost exact_clone = { init.clone_is_exact };
 }
 
 impl Exact for Search {
-    ghost use Rattle.z_types.specs.Requests.{search_exact, search_cloned};
+    ghost use Rattle.z_types.specs.equality.Requests.{search};
 
-    ghost exact_eq = { search_exact };
+    ghost exact_eq = { search.eq_is_exact };
 
-    ghost exact_clone = { search_cloned };
+    ghost exact_clone = { search.clone_is_exact };
+}
+
+impl Exact for Present {
+    ghost use Rattle.z_types.specs.equality.Requests.{present};
+
+    ghost exact_eq = { present.eq_is_exact };
+
+    ghost exact_clone = { present.clone_is_exact };
+}
+
+impl Exact for Scan {
+    ghost use Rattle.z_types.specs.equality.Requests.{scan};
+
+    ghost exact_eq = { scan.eq_is_exact };
+
+    ghost exact_clone = { scan.clone_is_exact };
 }
 
 impl Exact for Close {
-    ghost use Rattle.z_types.specs.Requests.{close_exact, close_cloned};
+    ghost use Rattle.z_types.specs.equality.Requests.{close};
 
-    ghost exact_eq = { close_exact };
+    ghost exact_eq = { close.eq_is_exact };
 
-    ghost exact_clone = { close_cloned };
+    ghost exact_clone = { close.clone_is_exact };
 }
 
 impl Exact for Request {
-    ghost use Rattle.z_types.specs.Requests.{request_exact, request_cloned};
+    ghost use Rattle.z_types.specs.equality.Requests.{request_exact, request_cloned};
 
     ghost exact_eq = { request_exact };
 

@@ -1,6 +1,6 @@
 //! What a scan asks and answers (ANSI/NISO Z39.50-2003, ScanRequest and ListEntries).
 
-ghost use Rattle.z_types.specs.Scan.{ask_exact, entry_exact, answer_exact, ask_cloned, entry_cloned, answer_cloned};
+ghost use Rattle.z_types.specs.equality.Scan.{scan_ask, scan_entry, scan_answer};
 
 use crate::{Attr, Exact, List, Oid, Term};
 
@@ -40,19 +40,19 @@ pub struct ScanAnswer {
 }
 
 impl Exact for ScanAsk {
-    ghost exact_eq = { ask_exact };
+    ghost exact_eq = { scan_ask.eq_is_exact };
 
-    ghost exact_clone = { ask_cloned };
+    ghost exact_clone = { scan_ask.clone_is_exact };
 }
 
 impl Exact for ScanEntry {
-    ghost exact_eq = { entry_exact };
+    ghost exact_eq = { scan_entry.eq_is_exact };
 
-    ghost exact_clone = { entry_cloned };
+    ghost exact_clone = { scan_entry.clone_is_exact };
 }
 
 impl Exact for ScanAnswer {
-    ghost exact_eq = { answer_exact };
+    ghost exact_eq = { scan_answer.eq_is_exact };
 
-    ghost exact_clone = { answer_cloned };
+    ghost exact_clone = { scan_answer.clone_is_exact };
 }

@@ -1,6 +1,6 @@
 //! Record schemas of SRU (SRU 1.2, recordSchema).
 
-ghost use Rattle.z_types.specs.Schema.{schema_exact, schema_cloned};
+ghost use Rattle.z_types.specs.equality.Schemas.{schema};
 
 use crate::{Exact, Text};
 
@@ -16,7 +16,7 @@ pub struct Schema {
 }
 
 impl Exact for Schema {
-    ghost exact_eq = { schema_exact };
+    ghost exact_eq = { schema.eq_is_exact };
 
-    ghost exact_clone = { schema_cloned };
+    ghost exact_clone = { schema.clone_is_exact };
 }

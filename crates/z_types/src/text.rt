@@ -4,7 +4,7 @@ ghost use Rattle.std.specs.Prelude.{◌≡◌, ◌↔◌, ◌==◌, ℕ, List, [
 ghost use Rattle.std.specs.Cmp.Rules.{comparing};
 ghost use Rattle.std.proofs.Common.{rules};
 ghost use lib.Pointwise.{pointwise};
-ghost use Rattle.z_types.specs.Exact.{text_exact};
+ghost use Rattle.z_types.specs.equality.Tests.{text_exact};
 
 use crate::{Exact, Memory};
 use std::alloc::{AllocError, Global};

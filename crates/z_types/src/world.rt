@@ -7,17 +7,27 @@ ghost use Rattle.z_types.specs.declared.records.Item.{Item};
 ghost use Rattle.z_types.specs.declared.scan.ScanAsk.{ScanAsk};
 ghost use Rattle.z_types.specs.declared.scan.ScanAnswer.{ScanAnswer};
 ghost use Rattle.z_types.specs.declared.address.Address.{Address};
+ghost use Rattle.z_types.specs.World.{HitsAreCounts, WholeIsNotGone};
 
-/// What the targets mean, as an unchanging database each. It has four meanings: which addresses are
-/// told; the hits of a search, up to 2147483647, or its diagnostic; the record at a position from 1
-/// on in a syntax and an element set, or the diagnostic of the whole present; and the answer to a
-/// scan of databases, or its diagnostic.
+/// What the targets mean, as an unchanging database each.
 pub trait World: Drop {
+    /// The addresses that are told: those whose targets answer as the meanings below say.
     ghost told: { Address → Type 0 };
 
+    /// The hits of a search, or its diagnostic.
     ghost search: { Address → SetKey → Result ℕ Diag };
 
+    /// The record at a position, counted from 1, in a syntax and an element set, or the diagnostic in
+    /// place of the whole present.
     ghost record_: { Address → SetKey → ℕ → Option (List ℕ) → Option (List ℕ) → Result Item Diag };
 
+    /// The entries of a scan of databases, or its diagnostic.
     ghost scan: { Address → List (List ℕ) → ScanAsk → Result ScanAnswer Diag };
+
+    /// Hits are at most `MOST_NUMBER`.
+    ghost hits_are_counts: { HitsAreCounts search };
+
+    /// No diagnostic of a whole present is condition 27 or 30 of bib-1, by which a target says that it
+    /// has no such result set, or no longer.
+    ghost whole_is_not_gone: { WholeIsNotGone record_ };
 }

@@ -1,7 +1,7 @@
 use Rattle.std.proofs.Common.{arith, take, ◌≡◌, ◌∙◌, ap, sym, List, ℕ, Option, None, Some, refl, ◌++◌, append_assoc, length-drop, ◌+◌, ◌-◌, drop, length}
 use Rattle.std.proofs.Math.Seq.{take-add}
 use Rattle.std.proofs.lemmas.Grind.{common_steps}
-use Rattle.gw_outside.specs.Written.{appended}
+use Rattle.gw_outside.specs.Sinks.{appended}
 use Rattle.gw_outside.proofs.sinks.write_all.Goals as goal
 
 -- the rest, taken whole

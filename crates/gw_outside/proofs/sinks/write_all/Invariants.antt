@@ -1,5 +1,5 @@
 use Rattle.std.proofs.Common.{length, ◌-◌, ◌≡◌, ◌≤◌, take}
-use Rattle.gw_outside.specs.Written.{appended}
+use Rattle.gw_outside.specs.Sinks.{appended}
 use Rattle.gw_outside.proofs.sinks.write_all.Given as goal
 
 abbrev pub invariant-loop-done : goal.invariant-loop-done

@@ -1,7 +1,7 @@
 use Rattle.std.proofs.Common.{◌≡◌, ◌^◌, ◌∙◌, true, sym, arith}
 use Rattle.std.proofs.Math.Bool.{and-true}
 use Rattle.z_types.specs.Oid.{has_root}
-use Rattle.z_types.proofs.Bounds.{list_all-below}
+use Rattle.z_types.proofs.ListAllLemmas.{list_all-below}
 use Rattle.z_types.proofs.oid.is_oid.Goals as goal
 
 pub returns-then-has_root : goal.returns-then-has_root

@@ -1,0 +1,56 @@
+-- The test targets keep to what every world does (this project's own)
+use Rattle.std.specs.Prelude.{◌≡◌, ℕ, ◌-◌, ◌≤◌, ◌||◌, Bool, true, false, cond, List, Option, None, Some, Result, Ok, Err, IfOk, IfErr, codes, refl, min, slice_get}
+use Rattle.std.specs.Option.{option_or}
+use Rattle.std.proofs.Common.{arith}
+use Rattle.z_types.specs.Bib1.{is_gone}
+use Rattle.z_types.specs.Bounds.{most_number}
+use Rattle.z_types.specs.World.{HitsAreCounts, WholeIsNotGone}
+use Rattle.z_types.specs.declared.address.Address.TheVariants.{Test, Tcp}
+use Rattle.z_types.specs.declared.diagnostic.Diag.{Diag}
+use Rattle.z_types.specs.declared.records.Item.{Item}
+use Rattle.test_target.specs.Databases.{same_name}
+use Rattle.test_target.specs.Searches.{answer_unless, database_fault, operand_fault}
+use Rattle.test_target.specs.Records.{Place, places, text_in, form_in, xml, sutrs, same_oid, written, record_in}
+use Rattle.test_target.specs.World.{search_of, record_of}
+
+hits_within : (fault : Option Diag) (sum : ℕ) → IfOk (answer_unless fault (min sum most_number)) (λ count. count ≤ most_number)
+hits_within (Some diag) sum = tt
+hits_within None sum = omega arith
+
+pub hits_are_counts : HitsAreCounts search_of
+hits_are_counts (Test n) key = hits_within (option_or (database_fault n key.dbs) (operand_fault key.query.root)) _
+hits_are_counts (Tcp host port) key = tt
+
+-- a diagnostic other than of a set that is gone, if there is one
+abbrev NotGone : {T : Type 0} → Result T Diag → Type 0
+NotGone answer = IfErr answer (λ diag. is_gone diag ≡ false)
+
+either_not_gone : {T : Type 0} (b : Bool) (x y : Result T Diag) → NotGone x → NotGone y → NotGone (cond b x y)
+either_not_gone true x y p q = p
+either_not_gone false x y p q = q
+
+text_not_gone : (n : ℕ) (place : Place) (element : Option (List ℕ)) → NotGone (text_in n place element)
+text_not_gone n place None = tt
+text_not_gone n place (Some element) =
+    either_not_gone (same_name element (codes "F") || same_name element (codes "dc")) _ _ tt
+    (either_not_gone (same_name element (codes "B")) _ _ tt refl)
+
+form_not_gone : (syntax : Option (List ℕ)) → NotGone (form_in syntax)
+form_not_gone None = tt
+form_not_gone (Some syntax) =
+    either_not_gone (same_oid syntax xml) _ _ tt (either_not_gone (same_oid syntax sutrs) _ _ tt refl)
+
+written_not_gone : (place : Place) (form : Result (List ℕ → Item) Diag) (text : Result (List ℕ) Diag) →
+    NotGone form → NotGone text → NotGone (written place form text)
+written_not_gone place (Err diag) text p q = p
+written_not_gone place (Ok form) (Err diag) p q = q
+written_not_gone place (Ok form) (Ok text) p q = tt
+
+record_not_gone : (n : ℕ) (place : Option Place) (syntax element : Option (List ℕ)) → NotGone (record_in n place syntax element)
+record_not_gone n None syntax element = refl
+record_not_gone n (Some place) syntax element =
+    written_not_gone place (form_in syntax) (text_in n place element) (form_not_gone syntax) (text_not_gone n place element)
+
+pub whole_is_not_gone : WholeIsNotGone record_of
+whole_is_not_gone (Test n) key position syntax element = record_not_gone n (slice_get (places n key) (position - 1)) syntax element
+whole_is_not_gone (Tcp host port) key position syntax element = refl

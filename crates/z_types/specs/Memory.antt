@@ -1,7 +1,0 @@
--- Equality of want of memory is exact (this project's own)
-use Rattle.std.specs.Prelude.{refl}
-use Rattle.z_types.specs.Exact.{EqIsExact}
-use Rattle.z_types.specs.contracts.memory.MemoryPartialEq.TheImpl as memory_test
-
-pub memory_exact : EqIsExact (memory_test.ghosts).eq
-memory_exact a b h = refl
