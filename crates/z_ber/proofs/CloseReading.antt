@@ -79,7 +79,8 @@ closes_frame o room bytes f after rest i e c = record {
   behind = c.behind;
 }
 
-indefinite_apart : (k : ℕ) (f b : List ℕ) (t : Tag) → Indefinite k f t b → f ≢ end_of_contents
+-- an element of indefinite length is no end of contents
+pub indefinite_apart : (k : ℕ) (f b : List ℕ) (t : Tag) → Indefinite k f t b → f ≢ end_of_contents
 indefinite_apart k f b t d e = head_apart d.head t (b ++ end_of_contents) [] d.header (sym (append_assoc d.head b end_of_contents) ∙ sym d.spelled ∙ e)
 
 -- an indefinite header in front opens one element more
@@ -191,7 +192,7 @@ abbrev NoClosing : ℕ → Type 0
 NoClosing n = (o r : ℕ) (b : List ℕ) (d : BerFault) → d ≢ Short → IsBytes b → close_at n o r b ≡ Err d → (more rest : List ℕ) → Closes o r (b ++ more) rest → ⊥
 
 -- a definite element and the end of contents are apart
-whole_end : {P : Type 0} (frame body x y : List ℕ) (t : Tag) → IsDefinite frame t body → frame ≢ end_of_contents → frame ++ x ≡ end_of_contents ++ y → P
+pub whole_end : {P : Type 0} (frame body x y : List ℕ) (t : Tag) → IsDefinite frame t body → frame ≢ end_of_contents → frame ++ x ≡ end_of_contents ++ y → P
 whole_end frame body x y t d apart e = absurd (apart (d.spelled ∙ is_end d.head body x y t d.header (ap (λ o. o ++ x) (sym d.spelled) ∙ e)))
 
 -- two definite elements in one place are one
@@ -209,7 +210,8 @@ whole_open f h c x y s t p q e =
 pub behind_more : (b f after more : List ℕ) → b ≡ f ++ after → b ++ more ≡ f ++ (after ++ more)
 behind_more b f after more e = ap (λ o. o ++ more) e ∙ append_assoc f after more
 
-stuck : (o r : ℕ) (b more rest : List ℕ) → IsStuck r b → Peeled o r (b ++ more) rest → ⊥
+-- no continuation closes where a step cannot be made
+pub stuck : (o r : ℕ) (b more rest : List ℕ) → IsStuck r b → Peeled o r (b ++ more) rest → ⊥
 stuck o r b more rest s (peel_end after e c) = s.0 more after e
 stuck o r b more rest s (peel_whole k frame body after t room p apart e c) =
     s.1 k room (more, (p.head, body ++ after, (t, Some (length body), p.header), e ∙ ap (λ x. x ++ after) p.spelled ∙ append_assoc p.head body after))
@@ -260,10 +262,10 @@ none_step n o r b d long fits ih (Ok (Whole, after)) h e more rest c =
 none_step n o r b d long fits ih (Ok (Open, after)) h e more rest c =
     ih (suc (suc o)) (r - 1) after d long (bytes_of b h.head after fits h.spelled) e more rest (followed o r b more rest (Ok (Open, after)) h c)
 none_step n o r b d long fits ih (Err Short) h e more rest c = long (err_one d Short _ e refl)
-none_step n o r b d long fits ih (Err BadTag) h e more rest c = stuck o r b more rest h (peel o r (b ++ more) rest c)
-none_step n o r b d long fits ih (Err BadLength) h e more rest c = stuck o r b more rest h (peel o r (b ++ more) rest c)
+none_step n o r b d long fits ih (Err BadTag) h e more rest c = stuck o r b more rest h.0 (peel o r (b ++ more) rest c)
+none_step n o r b d long fits ih (Err BadLength) h e more rest c = stuck o r b more rest h.0 (peel o r (b ++ more) rest c)
 none_step n o r b d long fits ih (Err (TooLarge k)) h e more rest c = h
-none_step n o r b d long fits ih (Err TooDeep) h e more rest c = stuck o r b more rest h (peel o r (b ++ more) rest c)
+none_step n o r b d long fits ih (Err TooDeep) h e more rest c = stuck o r b more rest h.0 (peel o r (b ++ more) rest c)
 
 -- where reading meets a fault, no continuation closes
 pub close_at-none : (n : ℕ) → NoClosing n

@@ -1,22 +1,17 @@
 -- The steps to the end of elements of indefinite length.
 use Rattle.std.proofs.Common.{◌≡◌, ◌∙◌, ℕ, ◌<◌, zero, suc, List, length, Result, Ok, Err, ap, arith, refl}
 use Rattle.z_ber.specs.declared.fault.BerFault.{BerFault}
-use Rattle.z_ber.specs.Reading.{close_at, least_at}
+use Rattle.z_ber.specs.Reading.{close_at}
 
 -- one step of many
-pub carry : (start : Result (List ℕ) BerFault) (least n o r p q : ℕ) (b c : List ℕ) → length b < n → length c < length b → start ≡ close_at n o r b → least ≡ least_at n o r b → ((steps : ℕ) → close_at (suc steps) o r b ≡ close_at steps p q c) → ((steps : ℕ) → least_at (suc steps) o r b ≡ least_at steps p q c) → (m : ℕ) × (length c < m) × (start ≡ close_at m p q c) × (least ≡ least_at m p q c)
-carry start least zero o r p q b c lt less e d f g = absurd (omega arith)
-carry start least (suc n) o r p q b c lt less e d f g = (n, omega arith, e ∙ f n, d ∙ g n)
+pub carry : (start : Result (List ℕ) BerFault) (n o r p q : ℕ) (b c : List ℕ) → length b < n → length c < length b → start ≡ close_at n o r b → ((steps : ℕ) → close_at (suc steps) o r b ≡ close_at steps p q c) → (m : ℕ) × (length c < m) × (start ≡ close_at m p q c)
+carry start zero o r p q b c lt less e f = absurd (omega arith)
+carry start (suc n) o r p q b c lt less e f = (n, omega arith, e ∙ f n)
 
 -- the last of many
 pub carry_fault : (start : Result (List ℕ) BerFault) (n o r : ℕ) (b : List ℕ) (d : BerFault) → length b < n → start ≡ close_at n o r b → ((steps : ℕ) → close_at (suc steps) o r b ≡ Err d) → start ≡ Err d
 carry_fault start zero o r b d lt e f = absurd (omega arith)
 carry_fault start (suc n) o r b d lt e f = e ∙ f n
-
--- the least at the last of many
-pub carry_least : (least n o r : ℕ) (b : List ℕ) (m : ℕ) → length b < n → least ≡ least_at n o r b → ((steps : ℕ) → least_at (suc steps) o r b ≡ m) → least ≡ m
-carry_least least zero o r b m lt e f = absurd (omega arith)
-carry_least least (suc n) o r b m lt e f = e ∙ f n
 
 -- with nothing open the rest is what follows
 pub close_at-closed : (n r : ℕ) (b : List ℕ) → close_at n 0 r b ≡ Ok b

@@ -9,8 +9,9 @@ use Rattle.z_ber.specs.declared.fault.BerFault.{BerFault}
 use Rattle.z_ber.specs.declared.fault.BerFault.TheVariants.{Short, BadTag, BadLength, TooLarge, TooDeep}
 use Rattle.z_ber.specs.declared.tag.Tag.{Tag}
 use Rattle.z_ber.specs.Written.{IsTag, septets, tag_octets}
-use Rattle.z_ber.specs.Header.{IsLength, IsHeader, Begins, Opens, IsIdentifier, IsSomeHeader}
-use Rattle.z_ber.specs.Frames.{IsDefiniteFrame, IsFrameAnswer}
+use Rattle.z_ber.specs.Header.{IsLength, IsHeader, Begins, Opens, IsIdentifier, IsSomeHeader, IsDefiniteHeader}
+use Rattle.z_ber.specs.Frames.{IsDefiniteFrame}
+use Rattle.z_ber.specs.FrameAnswer.{BeginsDefinite, IsLargeNumber, IsDefiniteFault, IsDefiniteAnswer}
 use Rattle.z_ber.specs.Reading.{◌>>=◌, tag_at, length_at, padded, header_at, has_room_behind, body_at, frame_behind, frame_at}
 use Rattle.z_ber.proofs.ElementLaws.{heads, tag_octets-low, tag_octets-high}
 use Rattle.z_ber.proofs.TagReading.{IsBytes, IsBytes-tail, TagRead, tag_at-read, tag_at-again}
@@ -57,7 +58,28 @@ some_is m n l p q = cc
 none_indefinite : (bytes : List ℕ) (t : Tag) (body : List ℕ) → Whole bytes t None body → ¬ Opens IsDefiniteFrame bytes
 none_indefinite bytes t body w = λ o. let s = same_size bytes o.0 t None body w o.1 in let e = s.0 in absurd cc
 
-none_large : (bytes : List ℕ) (t : Tag) (len : ℕ) (body : List ℕ) (w : Whole bytes t (Some len) body) → 1048576 < length w.head + len → ¬ Opens IsDefiniteFrame bytes
+-- an indefinite header is no definite one
+definite_apart : (bytes : List ℕ) (t : Tag) (body : List ℕ) → Whole bytes t None body → ¬ Opens IsDefiniteHeader bytes
+definite_apart bytes t body w = λ o.
+    let h = o.1.2 in
+    let here : header_at (bytes ++ o.0) ≡ Ok (t, None, body ++ o.0) = ap header_at (ap (λ x. x ++ o.0) w.spelled ∙ append_assoc w.head body o.0) ∙ header_at-again w.head t None (body ++ o.0) w.header in
+    let there : header_at (bytes ++ o.0) ≡ Ok (h.0, Some h.1, o.1.1) = ap header_at o.1.3 ∙ header_at-again o.1.0 h.0 (Some h.1) o.1.1 h.2 in
+    let one : (t, None, body ++ o.0) ≡ (h.0, Some h.1, o.1.1) = ok_is {A = HeaderParts} (header_at (bytes ++ o.0)) _ _ here there in
+    let e : None ≡ Some h.1 = ap (λ (p : HeaderParts). p.1) one in
+    absurd cc
+
+-- identifier octets of a whole header
+pub whole_identified : (bytes : List ℕ) (t : Tag) (l : Option ℕ) (body : List ℕ) → Whole bytes t l body → Begins IsIdentifier bytes
+whole_identified bytes t l body w =
+    let h = w.header in
+    (tag_octets t, h.ends ++ body, (t, h.valid, refl), w.spelled ∙ ap (λ o. o ++ body) h.spelled ∙ append_assoc (tag_octets t) h.ends body)
+
+-- a whole definite header says how large a frame would be
+large_fault : (bytes : List ℕ) (t : Tag) (len : ℕ) (body : List ℕ) → Whole bytes t (Some len) body → IsDefiniteFault bytes (TooLarge len)
+large_fault bytes t len body w =
+    (([], (w.head, body, (t, len, w.header), append-nil bytes ∙ w.spelled)), inl (t, (w.head, body, w.header, w.spelled)))
+
+pub none_large : (bytes : List ℕ) (t : Tag) (len : ℕ) (body : List ℕ) (w : Whole bytes t (Some len) body) → 1048576 < length w.head + len → ¬ Opens IsDefiniteFrame bytes
 none_large bytes t len body w over = λ o.
     let s = same_size bytes o.0 t (Some len) body w o.1 in
     let n : len ≡ length o.1.2.body = some_is len (length o.1.2.body) (Some len) refl s.0 in
@@ -72,7 +94,7 @@ none_short bytes t len body w short = λ b.
     omega (arith, n, ap length rest, length-append b.2.body b.1)
 
 -- zeros make a frame of what has come
-open_body : (bytes : List ℕ) (t : Tag) (len : ℕ) (body : List ℕ) (w : Whole bytes t (Some len) body) → length w.head + len ≤ 1048576 → length body < len → Opens IsDefiniteFrame bytes
+pub open_body : (bytes : List ℕ) (t : Tag) (len : ℕ) (body : List ℕ) (w : Whole bytes t (Some len) body) → length w.head + len ≤ 1048576 → length body < len → Opens IsDefiniteFrame bytes
 open_body bytes t len body w small short =
     let more : List ℕ = replicate (len - length body) 0 in
     let filled : length (body ++ more) ≡ len = omega (arith, length-append body more, length-replicate {A = ℕ} (len - length body) 0) in
@@ -88,7 +110,7 @@ open_body bytes t len body w small short =
     (more, (bytes ++ more, [], frame, sym (append-nil (bytes ++ more))))
 
 -- a whole frame
-whole_body : (bytes : List ℕ) (t : Tag) (len : ℕ) (body : List ℕ) (w : Whole bytes t (Some len) body) → length w.head + len ≤ 1048576 → len ≤ length body → (length w.head + len ≤ length bytes) × IsDefiniteFrame (take (length w.head + len) bytes)
+pub whole_body : (bytes : List ℕ) (t : Tag) (len : ℕ) (body : List ℕ) (w : Whole bytes t (Some len) body) → length w.head + len ≤ 1048576 → len ≤ length body → (length w.head + len ≤ length bytes) × IsDefiniteFrame (take (length w.head + len) bytes)
 whole_body bytes t len body w small come =
     let inner = take len body in
     let n : length (take len body) ≡ len = omega (arith, length-take len body) in
@@ -106,11 +128,11 @@ whole_body bytes t len body w small come =
       },
     )
 
-body_step : (bytes : List ℕ) (t : Tag) (len : ℕ) (body : List ℕ) (w : Whole bytes t (Some len) body) → IsFrameAnswer IsDefiniteFrame bytes (body_at (length w.head) len body)
+body_step : (bytes : List ℕ) (t : Tag) (len : ℕ) (body : List ℕ) (w : Whole bytes t (Some len) body) → IsDefiniteAnswer bytes (body_at (length w.head) len body)
 body_step bytes t len body w =
     elim (cases_lt 1048576 (length w.head + len)) [
       | inl over ↦
-          rw (lt-ltb 1048576 (length w.head + len) over) (record { tag = t; len = len; head = w.head; rest = body; header = w.header; spelled = w.spelled; over = over; number = refl }, none_large bytes t len body w over)
+          rw (lt-ltb 1048576 (length w.head + len) over) (none_large bytes t len body w over, large_fault bytes t len body w)
       | inr small ↦ elim (cases_lt (length body) len) [
         | inl short ↦
             rw (le-ltb 1048576 (length w.head + len) small, lt-ltb (length body) len short) (none_short bytes t len body w short, open_body bytes t len body w small short)
@@ -147,6 +169,21 @@ open_tag bytes more t valid e =
       small = omega (arith, length-append (tag_octets t) (0 ∷ []), length-tag_octets t valid);
     } in
     (more ++ 0 ∷ [], (frame, [], it, sym (append_assoc bytes more (0 ∷ [])) ∙ ap (λ o. o ++ 0 ∷ []) e ∙ sym (append-nil frame)))
+
+-- zeros make a header of a long form that has come in part
+long_header : (bytes : List ℕ) (t : Tag) (lead count : ℕ) (digits : List ℕ) → IsBytes digits → IsTag t → bytes ≡ tag_octets t ++ (lead ∷ digits) → 0 < count → count ≤ 8 → lead ≡ 128 + count → length digits ≤ count → Opens IsDefiniteHeader bytes
+long_header bytes t lead count digits fits valid s some few lead-is short =
+    let n : ℕ = number_from_digits 256 (padded count digits) in
+    let ends : List ℕ = (128 + count) ∷ padded count digits in
+    let p = padded-short count digits short in
+    let come : bytes ++ p.0 ≡ tag_octets t ++ ends =
+    ap (λ o. o ++ p.0) s ∙ append_assoc (tag_octets t) (lead ∷ digits) p.0 ∙ ap (λ o. tag_octets t ++ (lead ∷ o)) p.1 ∙ ap (λ k. tag_octets t ++ (k ∷ padded count digits)) lead-is
+    in
+    let header : IsHeader (tag_octets t ++ ends) t (Some n) = record { valid = valid; ends = ends; lengths = inr (long_form count digits fits some few); spelled = refl } in
+    (p.0, (tag_octets t ++ ends, [], (t, n, header), come ∙ sym (append-nil (tag_octets t ++ ends))))
+
+definite_begun : (bytes : List ℕ) (len : ℕ) → BeginsDefinite bytes len → Begins IsSomeHeader bytes
+definite_begun bytes len b = (b.1.0, b.1.1, (b.0, Some len, b.1.2), b.1.3)
 
 -- zeros make a header and a frame of a long form that has come in part
 open_long : (bytes : List ℕ) (t : Tag) (lead count : ℕ) (digits : List ℕ) → IsBytes digits → IsTag t → bytes ≡ tag_octets t ++ (lead ∷ digits) → 0 < count → count ≤ 8 → lead ≡ 128 + count → length digits ≤ count → length (tag_octets t) + 1 + count + number_from_digits 256 (padded count digits) ≤ 1048576 → Opens IsDefiniteFrame bytes
@@ -215,7 +252,7 @@ bind_short (Ok x) f e = absurd cc
 bind_short (Err d) f e = cc
 
 -- a header of which a part has come
-part_step : (bytes : List ℕ) → IsBytes bytes → header_at bytes ≡ Err Short → (s : Result (Tag × List ℕ) BerFault) → tag_at bytes ≡ s → TagRead bytes s → IsFrameAnswer IsDefiniteFrame bytes (cond (has_room_behind bytes s) (Err Short) (Err BadLength))
+part_step : (bytes : List ℕ) → IsBytes bytes → header_at bytes ≡ Err Short → (s : Result (Tag × List ℕ) BerFault) → tag_at bytes ≡ s → TagRead bytes s → IsDefiniteAnswer bytes (cond (has_room_behind bytes s) (Err Short) (Err (TooLarge 1048577)))
 part_step bytes fits h (Err Short) p r =
     ((λ b. not_begun bytes Short h (headed bytes b)), open_tag bytes r.more r.tag r.valid r.spelled)
 part_step bytes fits h (Err BadTag) p r = let e = errs_one (header_at bytes) Short BadTag h (header_at-untagged bytes BadTag p) in absurd cc
@@ -238,22 +275,26 @@ part_step bytes fits h (Ok (t, lead ∷ digits)) p r =
       | inl room ↦
           rw (room.0) ((λ b. not_begun bytes Short h (headed bytes b)), open_long bytes t lead (lead - 128) digits bytes-rest r.0 r.1 (omega (arith, q.0)) (omega (arith, q.1)) (omega (arith, q.0)) (omega (arith, q.2)) room.1)
       | inr over ↦
-          rw (over.0) (none_long bytes t lead (lead - 128) digits r.0 r.1 (omega (arith, q.0)) (omega (arith, q.0)) over.1)
+          rw (over.0) (none_long bytes t lead (lead - 128) digits r.0 r.1 (omega (arith, q.0)) (omega (arith, q.0)) over.1, (long_header bytes t lead (lead - 128) digits bytes-rest r.0 r.1 (omega (arith, q.0)) (omega (arith, q.1)) (omega (arith, q.0)) (omega (arith, q.2)), inr ((λ len b. not_begun bytes Short h (definite_begun bytes len b)), refl)))
     ]
     )
 
 -- each outcome of reading a definite frame is right
-frame_step : (bytes : List ℕ) → IsBytes bytes → (r : Result HeaderParts BerFault) → header_at bytes ≡ r → HeaderRead bytes r → IsFrameAnswer IsDefiniteFrame bytes (frame_behind bytes r)
+frame_step : (bytes : List ℕ) → IsBytes bytes → (r : Result HeaderParts BerFault) → header_at bytes ≡ r → HeaderRead bytes r → IsDefiniteAnswer bytes (frame_behind bytes r)
 frame_step bytes fits (Err Short) p h = part_step bytes fits p (tag_at bytes) refl (tag_at-read bytes fits)
-frame_step bytes fits (Err BadTag) p h = λ o. h (o.0, identified (bytes ++ o.0) o.1)
-frame_step bytes fits (Err BadLength) p h = λ o. h.1 (o.0, headed (bytes ++ o.0) o.1)
+frame_step bytes fits (Err BadTag) p h = ((λ o. h (o.0, identified (bytes ++ o.0) o.1)), h)
+frame_step bytes fits (Err BadLength) p h = ((λ o. h.1 (o.0, headed (bytes ++ o.0) o.1)), (h.0, λ o. h.1 (o.0, some_header (bytes ++ o.0) o.1)))
+  where
+    some_header : (b : List ℕ) → Begins IsDefiniteHeader b → Begins IsSomeHeader b
+    some_header b s = (s.0, s.1, (s.2.0, Some s.2.1, s.2.2), s.3)
 frame_step bytes fits (Err (TooLarge n)) p h = absurd h
 frame_step bytes fits (Err TooDeep) p h = absurd h
-frame_step bytes fits (Ok (t, None, body)) p h = none_indefinite bytes t body h
+frame_step bytes fits (Ok (t, None, body)) p h =
+    (none_indefinite bytes t body h, (whole_identified bytes t None body h, definite_apart bytes t body h))
 frame_step bytes fits (Ok (t, Some len, body)) p h =
     let size : length bytes - length body ≡ length h.head = omega (arith, ap length h.spelled, length-append h.head body) in
     rw size (body_step bytes t len body h)
 
-pub frame_at-read : (bytes : List ℕ) → IsBytes bytes → IsFrameAnswer IsDefiniteFrame bytes (frame_at bytes)
+pub frame_at-read : (bytes : List ℕ) → IsBytes bytes → IsDefiniteAnswer bytes (frame_at bytes)
 unfolding frame_at
 frame_at-read bytes fits = frame_step bytes fits (header_at bytes) refl (header_at-read bytes fits)

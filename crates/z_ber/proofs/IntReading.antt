@@ -7,7 +7,7 @@ use Rattle.std.proofs.lemmas.Nat.{mul-le}
 use Rattle.std.proofs.Math.Nat.{pow-succ', mul_assoc}
 use Rattle.std.proofs.lemmas.Bool.{cases_lt, lt-ltb, le-ltb, le-leb, ne_eqb, ltb-true, leb-true}
 use Rattle.std.proofs.lemmas.List.{length-map, append-nil, get_or_default}
-use Rattle.z_types.specs.Exact.{both_true}
+use Rattle.z_types.specs.equality.Tests.{both_true}
 use Rattle.z_ber.specs.Written.{natural_octets, int_octets}
 use Rattle.z_ber.specs.Reading.{padded, is_fewest, positive_at, negative_at, signed_at, int_at}
 use Rattle.z_ber.proofs.DigitSteps.{has_digit}

@@ -69,7 +69,7 @@ close_at-opening (suc n) (suc o) r b fits lt e = opening_step n o r b fits lt (c
 -- ---- no fewer do
 
 -- open elements have their ends before what is behind them
-closes_ends : (o r : ℕ) (b rest : List ℕ) → Closes o r b rest → 2 * o + length rest ≤ length b
+pub closes_ends : (o r : ℕ) (b rest : List ℕ) → Closes o r b rest → 2 * o + length rest ≤ length b
 closes_ends zero r b rest c = omega (arith, ap length c)
 closes_ends (suc o) r b rest c =
     let h = closes_ends o (suc r) c.after rest c.behind in

@@ -8,7 +8,7 @@ use Rattle.z_ber.specs.declared.tag.Tag.{Tag}
 use Rattle.z_ber.specs.Header.{IsHeader}
 use Rattle.z_ber.specs.Element.{Forest, none, leaf, branch, end_of_contents, IsLeaf, IsBranch, IsInFront, AreElements, IsElement}
 use Rattle.z_ber.specs.Frames.{IsExtent, IsFrameAt}
-use Rattle.z_ber.specs.Lent.{IsRoot}
+use Rattle.z_ber.specs.LentTree.{IsRoot}
 use Rattle.z_ber.specs.Reading.{header_at, close_at, inside_at, extent_behind, extent_at}
 use Rattle.z_ber.proofs.FrameReading.{ok_is}
 use Rattle.z_ber.proofs.HeaderReading.{header_at-again}
@@ -57,8 +57,8 @@ kept : (m : ℕ) (w : Bool) → w ≡ true → (frames : List (List ℕ)) → Al
 kept m w e [] h = tt
 kept m w e (f ∷ fs) h = ((h.0.0, h.0.1 e), kept m w e fs h.1)
 
-pub branch-extent : (k : ℕ) (f : List ℕ) (t : Tag) (Inner : Bool → List ℕ → Type 0) (p : IsBranch Inner t f) → FramesOf p.indefinite k p.body → IsExtent (suc k) f t p.body
-branch-extent k f t Inner p fs = by_form k f t p.indefinite p.head p.body p.header p.spelled fs
+pub branch-extent : (k : ℕ) (f : List ℕ) (t : Tag) (c : List ℕ) (Inner : Bool → List ℕ → Type 0) (p : IsBranch Inner t c f) → FramesOf p.indefinite k c → IsExtent (suc k) f t c
+branch-extent k f t c Inner p fs = by_form k f t p.indefinite p.head c p.header p.spelled fs
   where
     by_form : (k : ℕ) (f : List ℕ) (t : Tag) (i : Bool) (head body : List ℕ) → IsHeader head t (cond i None (Some (length body))) → f ≡ head ++ body ++ cond i end_of_contents [] → FramesOf i k body → IsExtent (suc k) f t body
     by_form k f t true head body h s fs = extent-indefinite k f body t (record { head = head; header = h; frames = fs.0; each = kept k true refl fs.0 fs.1; inside = fs.2; spelled = s })
@@ -67,32 +67,32 @@ branch-extent k f t Inner p fs = by_form k f t p.indefinite p.head p.body p.head
 pub forest-frames : (fs : Forest) (w : Bool) (m : ℕ) (octets : List ℕ) → AreElements w m octets fs → FramesOf w m octets
 forest-frames none w m octets p = ([], tt, p)
 forest-frames (leaf t c fs) w zero octets p = absurd p
-forest-frames (branch t ks fs) w zero octets p = absurd p
+forest-frames (branch t c ks fs) w zero octets p = absurd p
 forest-frames (leaf t c fs) w (suc m) octets p =
     let r = forest-frames fs w (suc m) p.others p.behind in
     (p.first ∷ r.0, (((t, c, leaf-extent m p.first c t p.here), p.apart), r.1), p.spelled ∙ ap (λ o. p.first ++ o) r.2)
-forest-frames (branch t ks fs) w (suc m) octets p =
+forest-frames (branch t c ks fs) w (suc m) octets p =
     let b = p.here in
-    let inner = forest-frames ks b.indefinite m b.body b.inner in
+    let inner = forest-frames ks b.indefinite m c b.inner in
     let r = forest-frames fs w (suc m) p.others p.behind in
-    (p.first ∷ r.0, (((t, b.body, branch-extent m p.first t _ b inner), p.apart), r.1), p.spelled ∙ ap (λ o. p.first ++ o) r.2)
+    (p.first ∷ r.0, (((t, c, branch-extent m p.first t c _ b inner), p.apart), r.1), p.spelled ∙ ap (λ o. p.first ++ o) r.2)
 
-alone : (m : ℕ) (w : Bool) (o : List ℕ) (fs : Forest) → fs ≡ none → AreElements w m o fs → o ≡ []
+pub alone : (m : ℕ) (w : Bool) (o : List ℕ) (fs : Forest) → fs ≡ none → AreElements w m o fs → o ≡ []
 alone m w o fs e h = subst (λ (k : Forest). AreElements w m o k) e h
 
-only : {w : Bool} {P Q : List ℕ → Type 0} (a : List ℕ) (p : IsInFront w P Q a) → p.others ≡ [] → p.first ≡ a
+pub only : {w : Bool} {P Q : List ℕ → Type 0} (a : List ℕ) (p : IsInFront w P Q a) → p.others ≡ [] → p.first ≡ a
 only {w} {P} {Q} a p e = sym (p.spelled ∙ ap (λ o. p.first ++ o) e ∙ append-nil p.first)
 
 pub element-root : (tree : Forest) (m : ℕ) (octets : List ℕ) → IsElement m octets tree → IsRoot m octets tree
 element-root none m octets p = absurd p
 element-root (leaf t c fs) zero octets p = absurd p.1
-element-root (branch t ks fs) zero octets p = absurd p.1
+element-root (branch t c ks fs) zero octets p = absurd p.1
 element-root (leaf t c fs) (suc m) octets p =
     let whole = only octets p.1 (alone (suc m) false p.1.others fs p.0 p.1.behind) in
     subst (λ (o : List ℕ). IsExtent (suc m) o t c) whole (leaf-extent m p.1.first c t p.1.here)
-element-root (branch t ks fs) (suc m) octets p =
+element-root (branch t c ks fs) (suc m) octets p =
     let whole = only octets p.1 (alone (suc m) false p.1.others fs p.0 p.1.behind) in
     let b = p.1.here in
-    let inner = forest-frames ks b.indefinite m b.body b.inner in
+    let inner = forest-frames ks b.indefinite m c b.inner in
     let less : m ≡ suc m - 1 = omega arith in
-    (b.body, b.indefinite, subst (λ (o : List ℕ). IsExtent (suc m) o t b.body) whole (branch-extent m p.1.first t _ b inner), subst (λ (k : ℕ). AreElements b.indefinite k b.body ks) less b.inner)
+    (b.indefinite, subst (λ (o : List ℕ). IsExtent (suc m) o t c) whole (branch-extent m p.1.first t c _ b inner), subst (λ (k : ℕ). AreElements b.indefinite k c ks) less b.inner)

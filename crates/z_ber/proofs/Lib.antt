@@ -2,6 +2,8 @@ pub mod BitsReading
 pub mod CloseReading
 pub mod Closing
 pub mod DigitSteps
+pub mod DueFaults
+pub mod DueSteps
 pub mod ElementLaws
 pub mod ElementReading
 pub mod ExtentReading
@@ -12,13 +14,18 @@ pub mod IntOctets
 pub mod IntReading
 pub mod Kept
 pub mod LendLaws
+pub mod LentTreeLemmas
 pub mod LargeReading
 pub mod LeastReading
 pub mod LengthReading
 pub mod OidReading
 pub mod OneSplit
+pub mod OnePlace
+pub mod PlaceLemmas
 pub mod Room
+pub mod StandardFacts
 pub mod TagReading
+pub mod ScanReading
 pub mod StepReading
 pub mod StrictReading
 pub mod TreeLaws

@@ -1,13 +1,16 @@
 -- The numbers of an object identifier are read as they are written, and no others are read.
-use Rattle.std.proofs.Common.{◌≡◌, ◌∙◌, ◌⊎◌, ℕ, ◌+◌, ◌-◌, ◌*◌, ◌^◌, ◌/◌, ◌%◌, ◌<◌, ◌≤◌, true, false, ◌==◌, ltb, leb, nat_lt, lit≤, lit<, inl, inr, List, [], ◌∷◌, ◌++◌, length, get_or, take, drop, min, map, Option, Some, None, Result, Ok, Err, IfOk, IfSome, IfNone, IsTrue, sym, ap, subst, append_assoc, arith, refl}
+use Rattle.std.proofs.Common.{◌≡◌, ◌∙◌, ◌⊎◌, ℕ, ◌+◌, ◌-◌, ◌*◌, ◌^◌, ◌/◌, ◌%◌, ◌<◌, ◌≤◌, true, false, ◌==◌, ltb, leb, nat_lt, lit≤, lit<, inl, inr, List, [], ◌∷◌, ◌++◌, length, get_or, take, drop, min, map, Option, Some, None, Result, Ok, Err, IfOk, IfSome, IsSome, IsTrue, sym, ap, subst, append_assoc, arith, refl}
 use Rattle.std.specs.List.{flat_map, list_all}
+use Rattle.std.specs.Option.{option_map}
 use Rattle.std.specs.Int.Digits.{digits_of, number_from_digits, number_from_digits_after}
 use Rattle.std.proofs.lemmas.Int.Digits.{number_digits_of, number_after_append, number_after_ge, first_digits_of}
-use Rattle.std.proofs.lemmas.Bool.{cases_lt, lt-ltb, ltb-true, le-leb, leb-true}
-use Rattle.std.proofs.lemmas.List.{take_all}
-use Rattle.z_types.specs.Exact.{both_true}
+use Rattle.std.proofs.lemmas.Bool.{false≢true, cases_lt, lt-ltb, ltb-true, le-leb, leb-true}
+use Rattle.std.proofs.lemmas.List.{take_all, length-append}
+use Rattle.z_types.specs.equality.Tests.{both_true}
 use Rattle.z_types.specs.Oid.{is_oid, has_root}
-use Rattle.z_ber.specs.Arcs.{AreArcs}
+use Rattle.z_types.specs.ReadAs.{IsReadAs}
+use Rattle.z_ber.specs.Arcs.{AreArcs, AreArcsRead}
+use Rattle.z_ber.specs.Values.{IsOid}
 use Rattle.z_ber.specs.Written.{septets, oid_octets}
 use Rattle.z_ber.proofs.ElementLaws.{heads, septets-one}
 use Rattle.z_ber.proofs.TagReading.{marked, marked-more, septets-end}
@@ -145,11 +148,23 @@ arcs-none-more before after n bytes rest some e is h more a =
     let f = arcs-front before n bytes rest more some e a in
     h f.others (rw is f.behind)
 
--- what no value rules out
-pub none_only : {A E P Q : Type 0} → (P → Q) → (r : Result (Option A) E) → IfOk r (λ found. IfNone found P) → IfOk r (λ found. IfNone found Q)
-none_only f (Ok None) h = f h
-none_only f (Ok (Some x)) h = tt
-none_only f (Err e) h = tt
+-- one number more, in front of the others
+pub arcs-on : {A E : Type 0} (items : A → List ℕ) (r : Result (Option A) E) (before after : List ℕ) (n m : ℕ) (bytes rest : List ℕ) → 0 < length bytes → n < 2 ^ 32 → n ≡ m → bytes ≡ septets m ++ rest → after ≡ before ++ n ∷ [] → IfOk r (λ found. AreArcsRead after rest (option_map items found)) → IfOk r (λ found. AreArcsRead before bytes (option_map items found))
+arcs-on items (Err e) before after n m bytes rest some low same t a h = tt
+arcs-on items (Ok None) before after n m bytes rest some low same t a h =
+    let more_by_one : length after ≡ length before + 1 = ap length a ∙ length-append before (n ∷ []) in
+    arcs-none-more (length before) (length after) m bytes rest some t more_by_one h
+arcs-on items (Ok (Some all)) before after n m bytes rest some low same t a h =
+    let p = h.2 in
+    let more_by_one : length after ≡ length before + 1 = ap length a ∙ length-append before (n ∷ []) in (
+      n ∷ h.0,
+      h.1 ∙ ap (λ l. l ++ h.0) a ∙ append_assoc before (n ∷ []) h.0,
+      record {
+        few = omega (arith, p.few, more_by_one);
+        small = rw (lt-ltb n (2 ^ 32) low) p.small;
+        spelled = t ∙ ap (λ k. septets k ++ rest) (sym same) ∙ ap (λ l. septets n ++ l) p.spelled;
+      },
+    )
 
 pub some_octet : (bytes : List ℕ) → false ≡ (length bytes == 0) → 0 < length bytes
 some_octet [] e = absurd cc
@@ -180,9 +195,12 @@ oid-valid x y bytes more root lx ly a =
     let root' : has_root (x ∷ y ∷ more) ≡ true = root in
     rw (root', le-leb (length (x ∷ y ∷ more)) 32 few, lt-ltb x (2 ^ 32) lx, lt-ltb y (2 ^ 32) ly) a.small
 
-pub oid-made : (x y : ℕ) (root bytes items more : List ℕ) (made : Option (List ℕ)) → has_root (x ∷ y ∷ []) ≡ true → x < 2 ^ 32 → y < 2 ^ 32 → root ≡ x ∷ y ∷ [] → items ≡ root ++ more → AreArcs (length root) bytes more → IfSome made (λ oid. oid ≡ items) → IfSome made (λ arcs. IsTrue (is_oid arcs) × (septets (40 * x + y) ++ bytes ≡ oid_octets arcs))
-oid-made x y root bytes items more None valid lx ly e f a h = tt
-oid-made x y root bytes items more (Some oid) valid lx ly e f a h =
+pub oid-made : (x y : ℕ) (root bytes items more : List ℕ) (made : Option (List ℕ)) → has_root (x ∷ y ∷ []) ≡ true → x < 2 ^ 32 → y < 2 ^ 32 → root ≡ x ∷ y ∷ [] → items ≡ root ++ more → AreArcs (length root) bytes more → IfSome made (λ oid. oid ≡ items) → (IsTrue (is_oid items) → IsSome made) → IsReadAs IsOid oid_octets (septets (40 * x + y) ++ bytes) made
+oid-made x y root bytes items more None valid lx ly e f a h some =
+    let a' : AreArcs 2 bytes more = subst (λ (l : List ℕ). AreArcs (length l) bytes more) e a in
+    let all : items ≡ x ∷ y ∷ more = f ∙ ap (λ l. l ++ more) e in
+    absurd (false≢true (some (subst (λ (l : List ℕ). IsTrue (is_oid l)) (sym all) (oid-valid x y bytes more valid lx ly a'))))
+oid-made x y root bytes items more (Some oid) valid lx ly e f a h some =
     let a' : AreArcs 2 bytes more = subst (λ (l : List ℕ). AreArcs (length l) bytes more) e a in
     let all : oid ≡ x ∷ y ∷ more = h ∙ f ∙ ap (λ l. l ++ more) e in
     rw all (oid-valid x y bytes more valid lx ly a', oid-spelled x y bytes more a')

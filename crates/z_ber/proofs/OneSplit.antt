@@ -2,10 +2,11 @@
 use Rattle.std.proofs.Common.{◌≡◌, ◌∙◌, ℕ, List, [], ◌∷◌, ◌++◌, length, Some, sym, ap, append_assoc, refl}
 use Rattle.std.specs.List.{flat_map}
 use Rattle.std.proofs.lemmas.List.{append_cancel_left, append_cancel_right}
-use Rattle.z_ber.specs.Frames.{IsDefiniteFrame, Splits}
+use Rattle.z_ber.specs.Frames.{IsDefiniteFrame, IsFrame, Splits}
 use Rattle.z_ber.specs.Reading.{header_at}
 use Rattle.z_ber.proofs.ElementLaws.{fronts}
 use Rattle.z_ber.proofs.HeaderReading.{HeaderParts}
+use Rattle.z_ber.proofs.LendLaws.{extent-one}
 use Rattle.z_ber.proofs.FrameReading.{ok_is, framed, some_is}
 
 -- no such list of octets begins another
@@ -37,3 +38,8 @@ definite_begins_no_other a b x y p q e =
     let n = some_is (length p.body) (length q.body) (Some (length p.body)) refl (ap (λ (h : HeaderParts). h.1) one) in
     let r = fronts p.body q.body x y n (ap (λ (h : HeaderParts). h.2) one) in
     append_cancel_right a b y (ap (λ t. a ++ t) (sym r.1) ∙ e)
+
+pub frame_begins_no_other : BeginsNoOther IsFrame
+frame_begins_no_other a b x y p q e =
+    let one = extent-one 64 p.0.0 q.0.0 a b p.0.1 q.0.1 x y p.0.2 q.0.2 e in
+    append_cancel_right a b y (ap (λ t. a ++ t) (sym one.2) ∙ e)

@@ -13,6 +13,7 @@ use Rattle.z_ber.specs.Written.{tag_octets}
 use Rattle.z_ber.specs.Header.{IsLength, IsHeader, Begins, Opens, IsIdentifier, IsSomeHeader}
 use Rattle.z_ber.specs.Element.{end_of_contents}
 use Rattle.z_ber.specs.Frames.{IsDefinite}
+use Rattle.z_ber.specs.Due.{IsFaultAt}
 use Rattle.z_ber.specs.Reading.{tag_at, length_at, padded, header_at, child_behind, child_at, step_at, wanting_in_header, wanting_in_element, least_to_come}
 use Rattle.z_ber.proofs.ElementLaws.{heads, tag_octets-low, tag_octets-high}
 use Rattle.z_ber.proofs.TagReading.{IsBytes, IsBytes-tail, TagRead, tag_at-read}
@@ -175,10 +176,10 @@ StepRead room bytes (Ok (End, after)) = bytes ≡ end_of_contents ++ after
 StepRead room bytes (Ok (Whole, after)) = FoundWhole room bytes after
 StepRead room bytes (Ok (Open, after)) = FoundOpen room bytes after
 StepRead room bytes (Err Short) = Continues room bytes
-StepRead room bytes (Err BadTag) = IsStuck room bytes
-StepRead room bytes (Err BadLength) = IsStuck room bytes
+StepRead room bytes (Err BadTag) = IsStuck room bytes × IsFaultAt 1 room bytes BadTag
+StepRead room bytes (Err BadLength) = IsStuck room bytes × IsFaultAt 1 room bytes BadLength
 StepRead room bytes (Err (TooLarge n)) = ⊥
-StepRead room bytes (Err TooDeep) = IsStuck room bytes
+StepRead room bytes (Err TooDeep) = IsStuck room bytes × IsFaultAt 1 room bytes TooDeep
 
 -- a definite header with contents that may have come in part
 definite_frame_of : (bytes head body : List ℕ) (t : Tag) (len : ℕ) → IsHeader head t (Some len) → bytes ≡ head ++ body → length body ≡ len → IsDefinite bytes t body
@@ -247,18 +248,18 @@ child_read k b fits never least (Err Short) p h =
     } in
     let fewest : AreLeast b (c.more ++ zeros) 1 = λ o. omega (arith, least (suc o), ap (wanting_in_element b) p, c.fewest, length-append c.more zeros, n) in
     record { more = c.more ++ zeros; goes = inr (frame, fewest) }
-child_read k b fits never least (Err BadTag) p h = (never, λ level e o. h (o.0, identified_header (b ++ o.0) o.1))
+child_read k b fits never least (Err BadTag) p h = ((never, λ level e o. h (o.0, identified_header (b ++ o.0) o.1)), (omega arith, h))
   where
     identified_header : (x : List ℕ) → Begins IsSomeHeader x → Begins IsIdentifier x
     identified_header x s =
         let q = s.2.2 in
         (tag_octets s.2.0, q.ends ++ s.1, (s.2.0, q.valid, refl), s.3 ∙ ap (λ f. f ++ s.1) q.spelled ∙ append_assoc (tag_octets s.2.0) q.ends s.1)
-child_read k b fits never least (Err BadLength) p h = (never, λ level e o. h.1 o)
+child_read k b fits never least (Err BadLength) p h = ((never, λ level e o. h.1 o), (omega arith, h.0, h.1))
 child_read k b fits never least (Err (TooLarge n)) p h = absurd h
 child_read k b fits never least (Err TooDeep) p h = absurd h
 
-stuck_deep : (b : List ℕ) → NeverEnds b → IsStuck 0 b
-stuck_deep b never = (never, λ level e o. absurd (omega arith))
+stuck_deep : (b : List ℕ) → NeverEnds b → StepRead 0 b (Err TooDeep)
+stuck_deep b never = ((never, λ level e o. absurd (omega arith)), (refl, λ o. never o.0 o.1.1 (o.1.3 ∙ ap (λ x. x ++ o.1.1) o.1.2)))
 
 child_at-read : (room : ℕ) (b : List ℕ) → IsBytes b → NeverEnds b → IsChild b → StepRead room b (child_at room b)
 child_at-read zero b fits never least = stuck_deep b never

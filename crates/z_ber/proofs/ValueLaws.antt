@@ -3,7 +3,7 @@ use Rattle.std.proofs.Common.{◌≡◌, ◌∙◌, ◌⊎◌, ℕ, ◌+◌, ◌
 use Rattle.std.specs.List.{flat_map, AllByRecursion}
 use Rattle.std.specs.Int.Digits.{digits_of, number_from_digits}
 use Rattle.std.proofs.lemmas.Int.Digits.{same_from_digits_of, number_digits_of, all_below_base_digits_of}
-use Rattle.z_types.specs.Exact.{both_true}
+use Rattle.z_types.specs.equality.Tests.{both_true}
 use Rattle.std.proofs.lemmas.Bool.{cases_lt, cases_eq, lt-ltb, ltb-true, le-ltb, eqb-true}
 use Rattle.std.proofs.lemmas.List.{reverse-reverse, reverse-append, length-append}
 use Rattle.z_types.specs.Oid.{is_oid, has_root}

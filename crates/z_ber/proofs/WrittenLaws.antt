@@ -12,7 +12,10 @@ use Rattle.z_ber.specs.declared.tag.Tag.{Tag}
 use Rattle.z_ber.specs.Written.{IsTag, tag_octets, length_octets, element, bool_octets, int_octets, bits_octets, oid_octets}
 use Rattle.z_ber.specs.Header.{IsLength, Begins}
 use Rattle.z_ber.specs.Frames.{IsDefinite, IsExtent, IsFrameAt, BeginsWith}
-use Rattle.z_ber.specs.Lent.{Lent, IsRefused, IsFirst, IsNext}
+use Rattle.z_ber.specs.Due.{IsRefused}
+use Rattle.z_types.specs.OneValue.{HasOneValue}
+use Rattle.z_ber.specs.Laws.{IsReadBack}
+use Rattle.z_ber.specs.Lent.{Lent, IsFirst, IsNext}
 use Rattle.z_ber.proofs.DigitSteps.{has_digit}
 use Rattle.z_ber.proofs.ElementLaws.{length_octets-short, length_octets-long}
 use Rattle.z_ber.proofs.StepReading.{length-header}
@@ -60,10 +63,10 @@ begins_written k t c x some valid lt = (element t c, x, (t, c, element-extent k 
 -- octets that begin with a frame are not refused
 not_refused : {P : Type 0} (k : ℕ) (b : List ℕ) (d : BerFault) → Begins (IsFrameAt k) b → IsRefused k b d → P
 not_refused k b Short s h = absurd (h.0 s)
-not_refused k b BadTag s h = absurd (h ([], (s.0, s.1, s.2, append-nil b ∙ s.3)))
-not_refused k b BadLength s h = absurd (h ([], (s.0, s.1, s.2, append-nil b ∙ s.3)))
-not_refused k b (TooLarge n) s h = absurd (h ([], (s.0, s.1, s.2, append-nil b ∙ s.3)))
-not_refused k b TooDeep s h = absurd (h ([], (s.0, s.1, s.2, append-nil b ∙ s.3)))
+not_refused k b BadTag s h = absurd (h.0 ([], (s.0, s.1, s.2, append-nil b ∙ s.3)))
+not_refused k b BadLength s h = absurd (h.0 ([], (s.0, s.1, s.2, append-nil b ∙ s.3)))
+not_refused k b (TooLarge n) s h = absurd (h.0 ([], (s.0, s.1, s.2, append-nil b ∙ s.3)))
+not_refused k b TooDeep s h = absurd (h.0 ([], (s.0, s.1, s.2, append-nil b ∙ s.3)))
 
 -- the frame that octets with a written element in front begin with is that element
 lent_one : (k : ℕ) (t u : Tag) (c body x rest : List ℕ) → 0 < k → IsTag t → length c < 2 ^ 64 → BeginsWith k (element t c ++ x) u body rest → (u ≡ t) × (body ≡ c) × (rest ≡ x)
@@ -101,22 +104,7 @@ child_written t c x old new (Err d) valid lt some e h =
 
 -- ---- what is written is read as what it was written from
 
--- a right answer for the contents of a BOOLEAN is the value that they were written from
-pub bool-read : (v : Bool) (answer : Option Bool) → IfSome answer (λ w. bool_octets v ≡ bool_octets w) → IfNone answer ((w : Bool) → bool_octets v ≡ bool_octets w → ⊥) → answer ≡ Some v
-bool-read v (Some w) h none = ap (λ (x : Bool). Some x) (sym (bool_octets-one v w h))
-bool-read v None h none = absurd (none v refl)
-
--- the same of an INTEGER
-pub int-read : (v : ℤ) (answer : Option ℤ) → FitsSigned w64 v → IfSome answer (λ w. int_octets v ≡ int_octets w) → IfNone answer ((w : ℤ) → FitsSigned w64 w → int_octets v ≡ int_octets w → ⊥) → answer ≡ Some v
-int-read v (Some w) fits h none = ap (λ (x : ℤ). Some x) (sym (int_octets-one v w h))
-int-read v None fits h none = absurd (none v fits refl)
-
--- the same of a BIT STRING
-pub bits-read : (v : ℕ) (answer : Option ℕ) → v < 2 ^ 32 → IfSome answer (λ w. bits_octets v ≡ bits_octets w) → IfNone answer ((w : ℕ) → w < 2 ^ 32 → bits_octets v ≡ bits_octets w → ⊥) → answer ≡ Some v
-bits-read v (Some w) lt h none = ap (λ (x : ℕ). Some x) (sym (bits_octets-one v w h))
-bits-read v None lt h none = absurd (none v lt refl)
-
--- the same of an OBJECT IDENTIFIER
-pub oid-read : (v : List ℕ) (answer : Option (List ℕ)) → IsTrue (is_oid v) → IfSome answer (λ w. IsTrue (is_oid w) × (oid_octets v ≡ oid_octets w)) → IfNone answer ((w : List ℕ) → IsTrue (is_oid w) → oid_octets v ≡ oid_octets w → ⊥) → answer ≡ Some v
-oid-read v (Some w) valid h none = ap (λ (x : List ℕ). Some x) (sym (oid_octets-one v w valid h.0 h.1))
-oid-read v None valid h none = absurd (none v valid refl)
+-- an answer that is right for the written form of a value is the value, where each written form has one
+pub read_back : {A : Type 0} (IsOfKind : A → Type 0) (spell : A → List ℕ) → HasOneValue IsOfKind spell → IsReadBack IsOfKind spell
+read_back {A} IsOfKind spell one x None k h = absurd (h x k refl)
+read_back {A} IsOfKind spell one x (Some y) k h = ap Some (sym (one x y k h.0 h.1))

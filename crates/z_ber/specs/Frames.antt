@@ -1,11 +1,12 @@
 -- Frames: elements as a stream is cut into them, without a look into definite contents (X.690:2021, 8.1.1, 8.1.3). The bound of 1048576 octets is this project's own.
 use Rattle.std.specs.Prelude.{◌≡◌, ◌≢◌, ◌⊎◌, ℕ, zero, suc, ◌+◌, ◌-◌, ◌^◌, ◌<◌, ◌≤◌, List, ◌++◌, length, take, None, Some, min, Result, Ok, Err}
 use Rattle.std.specs.List.{flat_map, AllByRecursion}
+use Rattle.z_types.specs.Bounds.{most_levels, most_unit_octets}
 use Rattle.z_ber.specs.declared.fault.BerFault.{BerFault}
 use Rattle.z_ber.specs.declared.fault.BerFault.TheVariants.{Short, BadTag, BadLength, TooLarge, TooDeep}
 use Rattle.z_ber.specs.declared.tag.Tag.{Tag}
 use Rattle.z_ber.specs.Element.{end_of_contents}
-use Rattle.z_ber.specs.Header.{IsHeader, Begins, Opens}
+use Rattle.z_ber.specs.Header.{IsHeader, Begins, IsOpenFor, IsBadFor}
 
 -- 8.1.3.4, 8.1.3.5: a definite header and exactly its contents octets, whatever they are
 pub record IsDefiniteFrame (frame : List ℕ) : Type 0 where
@@ -14,7 +15,7 @@ pub record IsDefiniteFrame (frame : List ℕ) : Type 0 where
   pub body : List ℕ
   pub header : IsHeader head tag (Some (length body))
   pub spelled : frame ≡ head ++ body
-  pub small : length frame ≤ 1048576
+  pub small : length frame ≤ most_unit_octets
 
 -- 8.1.3.4, 8.1.3.5: octets are a definite header and these contents octets
 pub record IsDefinite (octets : List ℕ) (tag : Tag) (body : List ℕ) : Type 0 where
@@ -43,33 +44,17 @@ IsFrameAt levels octets = (tag : Tag) × (body : List ℕ) × IsExtent levels oc
 
 -- a frame: 64 levels and 1048576 octets at most
 abbrev pub IsFrame : List ℕ → Type 0
-IsFrame octets = IsFrameAt 64 octets × (length octets ≤ 1048576)
-
--- a definite header that with its contents would take n octets, more than a frame may
-pub record IsTooLarge (bytes : List ℕ) (n : ℕ) : Type 0 where
-  pub tag : Tag
-  pub len : ℕ
-  pub head : List ℕ
-  pub rest : List ℕ
-  pub header : IsHeader head tag (Some len)
-  pub spelled : bytes ≡ head ++ rest
-  pub over : 1048576 < length head + len
-  pub number : n ≡ min (length head + len) (2 ^ 64 - 1)
-
--- what reading a frame answers: the frame that the octets begin with; or they are open; or no continuation begins with one
-abbrev pub IsFrameAnswer : (List ℕ → Type 0) → List ℕ → Result ℕ BerFault → Type 0
-IsFrameAnswer P bytes (Ok size) = (size ≤ length bytes) × P (take size bytes)
-IsFrameAnswer P bytes (Err Short) = ¬ Begins P bytes × Opens P bytes
-IsFrameAnswer P bytes (Err BadTag) = ¬ Opens P bytes
-IsFrameAnswer P bytes (Err BadLength) = ¬ Opens P bytes
-IsFrameAnswer P bytes (Err (TooLarge n)) = IsTooLarge bytes n × ¬ Opens P bytes
-IsFrameAnswer P bytes (Err TooDeep) = ¬ Opens P bytes
+IsFrame octets = IsFrameAt most_levels octets × (length octets ≤ most_unit_octets)
 
 -- a stream is these frames one after another, and a rest that begins with none
 pub record Splits (P : List ℕ → Type 0) (stream : List ℕ) (frames : List (List ℕ)) (rest : List ℕ) : Type 0 where
   pub whole : stream ≡ flat_map (λ frame. frame) frames ++ rest
   pub each : AllByRecursion P frames
   pub ended : ¬ Begins P rest
+
+-- a stream is one list of such octets, with one rest
+abbrev pub HasOneSplit : (List ℕ → Type 0) → Type 0
+HasOneSplit P = (stream rest tail : List ℕ) (frames others : List (List ℕ)) → Splits P stream frames rest → Splits P stream others tail → (frames ≡ others) × (rest ≡ tail)
 
 -- octets begin with a frame of this tag and this inside, and go on with these
 pub record BeginsWith (levels : ℕ) (bytes : List ℕ) (tag : Tag) (body rest : List ℕ) : Type 0 where
@@ -80,8 +65,8 @@ pub record BeginsWith (levels : ℕ) (bytes : List ℕ) (tag : Tag) (body rest :
 -- tag, inside and rest of the frame that octets begin with; or they are open; or no continuation begins with a frame
 abbrev pub IsExtentRead : ℕ → List ℕ → Result (Tag × List ℕ × List ℕ) BerFault → Type 0
 IsExtentRead levels bytes (Ok found) = BeginsWith levels bytes found.0 found.1 found.2
-IsExtentRead levels bytes (Err Short) = ¬ Begins (IsFrameAt levels) bytes × Opens (IsFrameAt levels) bytes
-IsExtentRead levels bytes (Err _) = ¬ Opens (IsFrameAt levels) bytes
+IsExtentRead levels bytes (Err Short) = IsOpenFor (IsFrameAt levels) bytes
+IsExtentRead levels bytes (Err _) = IsBadFor (IsFrameAt levels) bytes
 
 -- octets are a header of the indefinite form, and go on with these
 abbrev pub BeginsIndefinite : List ℕ → List ℕ → Type 0

@@ -37,6 +37,14 @@ Begins P bytes = (front : List ℕ) × (rest : List ℕ) × P front × (bytes �
 abbrev pub Opens : (List ℕ → Type 0) → List ℕ → Type 0
 Opens P bytes = (more : List ℕ) × Begins P (bytes ++ more)
 
+-- octets that do not begin with such octets, while some continuation of them does
+abbrev pub IsOpenFor : (List ℕ → Type 0) → List ℕ → Type 0
+IsOpenFor P bytes = ¬ Begins P bytes × Opens P bytes
+
+-- octets of which no continuation begins with such octets
+abbrev pub IsBadFor : (List ℕ → Type 0) → List ℕ → Type 0
+IsBadFor P bytes = ¬ Opens P bytes
+
 -- the identifier octets of some tag
 abbrev pub IsIdentifier : List ℕ → Type 0
 IsIdentifier octets = (tag : Tag) × IsTag tag × (octets ≡ tag_octets tag)
@@ -44,3 +52,7 @@ IsIdentifier octets = (tag : Tag) × IsTag tag × (octets ≡ tag_octets tag)
 -- some header
 abbrev pub IsSomeHeader : List ℕ → Type 0
 IsSomeHeader octets = (tag : Tag) × (len : Option ℕ) × IsHeader octets tag len
+
+-- some header of a definite form
+abbrev pub IsDefiniteHeader : List ℕ → Type 0
+IsDefiniteHeader octets = (tag : Tag) × (len : ℕ) × IsHeader octets tag (Some len)

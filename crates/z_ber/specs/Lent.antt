@@ -1,11 +1,9 @@
 -- Elements that are lent, with the children that have not been lent yet (X.690:2021, 8.1.1). The bound of 64 levels is this project's own.
-use Rattle.std.specs.Prelude.{◌≡◌, ◌≢◌, ℕ, ◌-◌, suc, List, [], Bool, Option, Some, None, Result, Ok, Err, if◌then◌else◌}
+use Rattle.std.specs.Prelude.{◌≡◌, ◌≢◌, ℕ, suc, List, [], Option, Some, None, Result, Ok, Err, if◌then◌else◌}
 use Rattle.z_ber.specs.declared.fault.BerFault.{BerFault}
-use Rattle.z_ber.specs.declared.fault.BerFault.TheVariants.{Short, BadTag, BadLength, TooLarge, TooDeep}
 use Rattle.z_ber.specs.declared.tag.Tag.{Tag}
-use Rattle.z_ber.specs.Header.{Begins, Opens}
-use Rattle.z_ber.specs.Frames.{IsExtent, IsFrameAt, BeginsWith}
-use Rattle.z_ber.specs.Element.{Forest, none, leaf, branch, AreElements}
+use Rattle.z_ber.specs.Frames.{BeginsWith}
+use Rattle.z_ber.specs.Due.{IsRefused}
 
 -- an element: its tag, its contents octets, those of its children that have not been lent, and how many levels are left in it
 pub record Lent : Type 0 where
@@ -24,14 +22,6 @@ pub record IsLentFrom (levels : ℕ) (bytes rest : List ℕ) (element : Lent) : 
   pub children : element.left ≡ children_of element.tag element.body
   pub deeper : suc element.levels ≡ levels
 
--- why octets begin with no element where so many levels are left: they are open; or no continuation begins with one
-abbrev pub IsRefused : ℕ → List ℕ → BerFault → Type 0
-IsRefused levels bytes Short = ¬ Begins (IsFrameAt levels) bytes × Opens (IsFrameAt levels) bytes
-IsRefused levels bytes BadTag = ¬ Opens (IsFrameAt levels) bytes
-IsRefused levels bytes BadLength = ¬ Opens (IsFrameAt levels) bytes
-IsRefused levels bytes (TooLarge n) = ¬ Opens (IsFrameAt levels) bytes
-IsRefused levels bytes TooDeep = ¬ Opens (IsFrameAt levels) bytes
-
 -- what lending the first element answers
 abbrev pub IsFirst : List ℕ → Result Lent BerFault → Type 0
 IsFirst bytes (Ok element) = (rest : List ℕ) × IsLentFrom 64 bytes rest element
@@ -46,10 +36,3 @@ abbrev pub IsNext : Lent → Lent → Result (Option Lent) BerFault → Type 0
 IsNext old new (Ok None) = (old.left ≡ []) × (new ≡ old)
 IsNext old new (Ok (Some child)) = IsLentFrom old.levels old.left new.left child × (new ≡ without_first old new.left)
 IsNext old new (Err fault) = (old.left ≢ []) × (new ≡ old) × IsRefused old.levels old.left fault
-
--- what stands at the root of an element with this tree: a frame with the tag and contents of a leaf, or with a branch's tag and contents that are its children, one level deeper
-abbrev pub IsRoot : ℕ → List ℕ → Forest → Type 0
-IsRoot levels octets none = ⊥
-IsRoot levels octets (leaf tag contents others) = IsExtent levels octets tag contents
-IsRoot levels octets (branch tag children others) =
-    (body : List ℕ) × (within : Bool) × IsExtent levels octets tag body × AreElements within (levels - 1) body children

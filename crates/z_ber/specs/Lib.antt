@@ -1,9 +1,17 @@
 pub mod Arcs
+pub mod Due
 pub mod Element
 pub mod Fault
+pub mod FrameAnswer
 pub mod Frames
 pub mod Header
 pub mod HeaderAnswer
+pub mod Laws
 pub mod Lent
+pub mod LentTree
+pub mod Place
 pub mod Reading
+pub mod Scanning
+pub mod Values
 pub mod Written
+pub mod WrittenAnswer

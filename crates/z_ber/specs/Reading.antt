@@ -84,14 +84,14 @@ has_room_behind bytes (Err _) = true
 -- a definite header of so many octets, and a length
 abbrev pub body_at : ℕ → ℕ → List ℕ → Result ℕ BerFault
 body_at size len body =
-    if nat_lt 1048576 (size + len) then Err (TooLarge (min (size + len) (2 ^ 64 - 1)))
+    if nat_lt 1048576 (size + len) then Err (TooLarge len)
     else (if nat_lt (length body) len then Err Short else Ok (size + len))
 
 -- a definite frame, behind its header
 abbrev pub frame_behind : List ℕ → Result (Tag × Option ℕ × List ℕ) BerFault → Result ℕ BerFault
 frame_behind bytes (Ok (tag, None, body)) = Err BadLength
 frame_behind bytes (Ok (tag, Some len, body)) = body_at (length bytes - length body) len body
-frame_behind bytes (Err Short) = if has_room_behind bytes (tag_at bytes) then Err Short else Err BadLength
+frame_behind bytes (Err Short) = if has_room_behind bytes (tag_at bytes) then Err Short else Err (TooLarge 1048577)
 frame_behind bytes (Err fault) = Err fault
 
 -- a definite frame
@@ -251,11 +251,3 @@ abbrev pub least_at : ℕ → ℕ → ℕ → List ℕ → ℕ
 least_at steps zero room bytes = 0
 least_at zero (suc opened) room bytes = 0
 least_at (suc steps) (suc opened) room bytes = least_on (least_at steps) opened room bytes (step_at room bytes)
-
--- octets of which more must come than a frame may have are open no longer
-abbrev pub refused : ℕ → BerFault → BerFault
-refused size Short = if nat_le size 1048576 then Short else BadLength
-refused size BadTag = BadTag
-refused size BadLength = BadLength
-refused size (TooLarge n) = TooLarge n
-refused size TooDeep = TooDeep

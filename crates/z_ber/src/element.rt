@@ -1,10 +1,15 @@
 //! An element and its children, lent (X.690:2021, 8.1.1).
 
-ghost use Rattle.std.specs.Prelude.{◌≡◌, ◌≢◌, ℕ, ◌<◌, ◌≤◌, [], MatchResult, Ok, Err};
+ghost use Rattle.std.specs.Prelude.{◌≡◌, ◌≢◌, ℕ, ◌<◌, ◌≤◌, [], length, MatchResult, IfOk, IfSome, Ok, Err};
 ghost use Rattle.z_ber.specs.Reading.{Gives, extent_at};
-ghost use Rattle.z_ber.specs.Lent.{children_of, IsLentFrom, IsRefused, IsFirst, IsNext};
+ghost use Rattle.z_ber.specs.Due.{IsRefused};
+ghost use Rattle.z_ber.specs.Lent.{children_of, IsLentFrom, IsFirst, IsNext};
+ghost use Rattle.z_ber.specs.LentTree.{LendsFirst, LendsNext, with_all_children};
+ghost use Rattle.z_ber.specs.Place.{IsUnitAnswer};
 
 use crate::extent::read_extent;
+use crate::frame::FRAME_MAX;
+use crate::place::element_size;
 use crate::{BerFault, Tag};
 use std::marker::Model;
 
@@ -30,6 +35,7 @@ impl<'a> Model for Element<'a> {
 }
 
 /// The octets of a constructed element's children; a primitive one has none.
+#[inline(always)]
 fn children(tag: Tag, body: &[u8]) -> &[u8]
     ensures { result.now ≡ children_of tag body.now }
 {
@@ -37,6 +43,7 @@ fn children(tag: Tag, body: &[u8]) -> &[u8]
 }
 
 /// The element at the front of octets, where so many levels are left, and what follows it.
+#[inline(always)]
 fn lend(levels: u32, bytes: &[u8]) -> Result<(Element<'_>, &[u8]), BerFault>
     requires some { 0 < levels }
     requires few { levels ≤ 64 }
@@ -59,12 +66,37 @@ fn lend(levels: u32, bytes: &[u8]) -> Result<(Element<'_>, &[u8]), BerFault>
 
 impl<'a> Element<'a> {
     /// Lends the element that octets begin with.
+    #[inline(always)]
     pub fn first(bytes: &'a [u8]) -> Result<Element<'a>, BerFault>
-        ensures { IsFirst bytes.now result }
+        ensures first { IsFirst bytes.now result }
+        ensures tree { LendsFirst bytes.now result }
     {
         match lend(64, bytes) {
             Ok((element, _)) => Ok(element),
             Err(fault) => Err(fault),
+        }
+    }
+
+    /// Lends the element that octets are, whole, with all elements in it, on 64 levels and of 1048576
+    /// octets at most. Otherwise answers the place: 0 above the limit; else the first where a header
+    /// is due that cannot be read, stands at level 65, or has contents that pass the end of what
+    /// holds it; else the first octet behind the element.
+    pub fn of_unit(octets: &'a [u8]) -> Result<Element<'a>, usize>
+        ensures { IsUnitAnswer octets.now result }
+    {
+        if octets.len() as u64 > FRAME_MAX {
+            return Err(0);
+        }
+        let size = match element_size(64, octets) {
+            Ok(size) => size,
+            Err(at) => return Err(at),
+        };
+        if size < octets.len() {
+            return Err(size);
+        }
+        match Element::first(octets) {
+            Ok(element) => Ok(element),
+            Err(_) => unreachable!(),
         }
     }
 
@@ -82,9 +114,24 @@ impl<'a> Element<'a> {
         self.body
     }
 
+    /// The same element, with all of its children to be lent from the start.
+    pub fn again(&self) -> Element<'a>
+        ensures { result ≡ with_all_children self.now }
+    {
+        Element {
+            tag: self.tag,
+            body: self.body,
+            left: children(self.tag, self.body),
+            levels: self.levels,
+        }
+    }
+
     /// Lends the next child, or answers `None` after the last; a refusal changes nothing.
+    #[inline(always)]
     pub fn next_child(&mut self) -> Result<Option<Element<'a>>, BerFault>
         ensures next { IsNext self.old self.new result }
+        ensures tree { LendsNext self.old self.new result }
+        ensures shorter { IfOk result (λ found. IfSome found (λ child. length self.new.left < length self.old.left)) }
         ensures deep { self.old.levels ≡ 0 → self.old.left ≢ [] → result ≡ Err BerFault.TooDeep }
     {
         if self.left.is_empty() {

@@ -1,10 +1,10 @@
 //! How far elements of indefinite length go (X.690:2021, 8.1.3.6, 8.1.5).
 
 ghost use Rattle.std.specs.Prelude.{◌≡◌, ℕ, ◌+◌, ◌-◌, ◌<◌, ◌≤◌, List, length, take, suc, IfOk, IfErr, MatchResult, Ok, Err};
-ghost use Rattle.z_ber.specs.Reading.{Gives, header_at, child_behind, child_at, step_at, close_on, close_at, inside_at, extent_behind, extent_at, least_to_come, least_on, least_at};
+ghost use Rattle.z_ber.specs.Reading.{Gives, header_at, child_behind, child_at, step_at, close_on, close_at, inside_at, extent_behind, extent_at};
 
 use crate::read::read_header;
-use crate::step::{Step, Stop};
+use crate::step::Step;
 use crate::{BerFault, Tag};
 
 /// An element within, where levels are left.
@@ -30,7 +30,7 @@ fn child(room: u32, bytes: &[u8]) -> Result<(Step, &[u8]), BerFault>
 
 /// The end of contents, or an element within.
 #[tactic(auto, unfolding(crate::specs::Reading::step_at))]
-fn step(room: u32, bytes: &[u8]) -> Result<(Step, &[u8]), BerFault>
+pub fn step(room: u32, bytes: &[u8]) -> Result<(Step, &[u8]), BerFault>
     ensures read { Gives (λ x. (x.0, x.1.now)) result (step_at room bytes.now) }
     ensures shorter { IfOk result (λ x. length x.1.now < length bytes.now) }
     ensures deeper { IfOk result (λ x. x.0 ≡ Step.Open → 0 < room) }
@@ -50,7 +50,6 @@ fn advance(opened: u32, room: u32, bytes: &[u8]) -> Result<(u32, u32, &[u8]), Be
     ensures few { IfOk result (λ x. x.0 + x.1 ≤ 64) }
     ensures shorter { IfOk result (λ x. length x.2.now < length bytes.now) }
     ensures step { MatchResult result (λ x. (steps : ℕ) → close_at (suc steps) opened room bytes.now ≡ close_at steps x.0 x.1 x.2.now) (λ e. (steps : ℕ) → close_at (suc steps) opened room bytes.now ≡ Err e) }
-    ensures least { MatchResult result (λ x. (steps : ℕ) → least_at (suc steps) opened room bytes.now ≡ least_at steps x.0 x.1 x.2.now) (λ e. (steps : ℕ) → least_at (suc steps) opened room bytes.now ≡ least_to_come opened bytes.now) }
 {
     match step(room, bytes) {
         Ok((Step::End, after)) => Ok((opened - 1, room + 1, after)),
@@ -60,12 +59,10 @@ fn advance(opened: u32, room: u32, bytes: &[u8]) -> Result<(u32, u32, &[u8]), Be
     }
 }
 
-/// What follows the end of so many elements, where so many levels are left in the innermost.
-pub fn close(mut opened: u32, mut room: u32, bytes: &[u8]) -> Result<&[u8], Stop<'_>>
+/// What follows the end of the elements that are open, where `room` levels are left in the innermost.
+fn close(mut opened: u32, mut room: u32, bytes: &[u8]) -> Result<&[u8], BerFault>
     requires { opened + room ≤ 64 }
-    ensures rest { IfOk result (λ x. (steps : ℕ) → length bytes.now < steps → close_at steps opened room bytes.now ≡ Ok x.now) }
-    ensures fault { IfErr result (λ stop. (steps : ℕ) → length bytes.now < steps → close_at steps opened room bytes.now ≡ Err stop.fault) }
-    ensures least { IfErr result (λ stop. (steps : ℕ) → length bytes.now < steps → least_at steps opened room bytes.now ≡ least_to_come stop.opened stop.rest.now) }
+    ensures { Gives (λ x. x.now) result (close_at (suc (length bytes.now)) opened room bytes.now) }
 {
     let mut rest = bytes;
     while opened > 0 {
@@ -75,13 +72,7 @@ pub fn close(mut opened: u32, mut room: u32, bytes: &[u8]) -> Result<&[u8], Stop
                 room = now_room;
                 rest = after;
             }
-            Err(fault) => {
-                return Err(Stop {
-                    fault,
-                    opened,
-                    rest,
-                });
-            }
+            Err(fault) => return Err(fault),
         }
     }
     Ok(rest)
@@ -94,7 +85,7 @@ fn inside(tag: Tag, room: u32, body: &[u8]) -> Result<(Tag, &[u8], &[u8]), BerFa
 {
     match close(1, room, body) {
         Ok(rest) => Ok((tag, inner(body, rest.len()), rest)),
-        Err(stop) => Err(stop.fault),
+        Err(fault) => Err(fault),
     }
 }
 
@@ -112,6 +103,7 @@ fn inner(body: &[u8], rest: usize) -> &[u8]
 
 /// Tag, contents octets and what follows, where so many levels are left in the element.
 #[tactic(auto, unfolding(crate::specs::Reading::extent_at))]
+#[inline(always)]
 pub fn read_extent(room: u32, bytes: &[u8]) -> Result<(Tag, &[u8], &[u8]), BerFault>
     requires { room < 64 }
     ensures { Gives (λ x. (x.0, x.1.now, x.2.now)) result (extent_at room bytes.now) }

@@ -2,18 +2,25 @@
 
 ghost use Rattle.std.specs.Prelude.{◌≡◌};
 
-/// The rule that octets break.
+/// The rule that octets break, where the next header is due in them. The fault at the earlier place
+/// goes first.
 #[derive(Clone, Copy, Debug, PartialEq, Eq)]
 pub enum BerFault {
-    /// The octets end before the element does.
+    /// The octets end too early: they begin with no element, or no frame, while some continuation of
+    /// them does.
     Short,
-    /// Identifier octets that stand for no tag, or for a number above 2147483647 (X.690, 8.1.2).
+    /// No tag can come there: a number with a leading octet `80`, one below 31 in the long form, or
+    /// one above 2147483647 (X.690, 8.1.2).
     BadTag,
-    /// Length octets that stand for no length, or take more than 8 octets (X.690, 8.1.3).
+    /// A tag stands there, and no length can come: an indefinite length of a primitive element, more
+    /// than 8 octets, or the octet `ff` (X.690, 8.1.3). Of a frame of definite length, also an
+    /// indefinite one.
     BadLength,
-    /// The element would take so many octets, more than are read.
+    /// Of a frame: it would take more than 1048576 octets with any element that can come there. The
+    /// number is that of the contents octets where the frame's own definite header says them, else
+    /// 1048577.
     TooLarge(u64),
-    /// An element at level 65.
+    /// What comes there stands at level 65.
     TooDeep,
 }
 

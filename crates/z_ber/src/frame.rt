@@ -1,19 +1,18 @@
 //! Frames at the front of octets (X.690:2021, 8.1.3.4 to 8.1.3.6).
 
-ghost use Rattle.std.specs.Prelude.{◌≡◌, ◌↔◌, ℕ, ◌+◌, ◌-◌, ◌*◌, ◌^◌, ◌<◌, ◌≤◌, List, length, take, drop, nat_le, IfOk, IfErr, Ok, Err};
-ghost use Rattle.z_ber.specs.Reading.{Gives, tag_at, header_at, has_room_after, has_room_behind, body_at, frame_behind, frame_at, refused};
-ghost use Rattle.z_ber.specs.Frames.{IsDefiniteFrame, IsFrame, IsFrameAnswer, IsTooLarge, BeginsIndefinite};
+ghost use Rattle.std.specs.Prelude.{◌≡◌, ◌↔◌, ℕ, ◌+◌, ◌-◌, ◌*◌, ◌^◌, ◌<◌, ◌≤◌, List, length, take, drop, nat_le, IfOk, IfErr, IfSome, None, Ok, Err};
+ghost use Rattle.z_ber.specs.Reading.{Gives, tag_at, header_at, has_room_after, has_room_behind, body_at, frame_behind, frame_at};
+ghost use Rattle.z_ber.specs.FrameAnswer.{IsDefiniteAnswer, IsTooLarge};
 
-use crate::extent::close;
+use crate::BerFault;
 use crate::read::{padded_number, read_header, read_tag};
-use crate::wanting::least_to_come;
-use crate::{BerFault, Tag};
+use z_types::MOST_UNIT_OCTETS;
 
 /// No frame takes more octets than these.
-pub const FRAME_MAX: u64 = 1_048_576;
+pub const FRAME_MAX: u64 = MOST_UNIT_OCTETS as u64;
 
 /// Whether so many octets, and so many more, are no more than a frame may have.
-fn is_small(size: u64, more: u64) -> bool
+pub fn is_small(size: u64, more: u64) -> bool
     ensures { result ≡ nat_le (size + more) 1048576 }
 {
     size <= FRAME_MAX && more <= FRAME_MAX && size + more <= FRAME_MAX
@@ -50,7 +49,7 @@ fn body(size: usize, len: u64, body: &[u8]) -> Result<usize, BerFault>
     ensures { result ≡ body_at size len body.now }
 {
     if !is_small(size as u64, len) {
-        return Err(BerFault::TooLarge((size as u64).saturating_add(len)));
+        return Err(BerFault::TooLarge(len));
     }
     if (body.len() as u64) < len {
         return Err(BerFault::Short);
@@ -70,7 +69,7 @@ fn read_frame(bytes: &[u8]) -> Result<usize, BerFault>
             if has_room_behind(bytes) {
                 Err(BerFault::Short)
             } else {
-                Err(BerFault::BadLength)
+                Err(BerFault::TooLarge(FRAME_MAX + 1))
             }
         }
         Err(fault) => Err(fault),
@@ -79,59 +78,27 @@ fn read_frame(bytes: &[u8]) -> Result<usize, BerFault>
 
 /// The size of the definite frame that octets begin with.
 pub fn definite_frame(bytes: &[u8]) -> Result<usize, BerFault>
-    ensures answer { IsFrameAnswer IsDefiniteFrame bytes.now result }
+    ensures answer { IsDefiniteAnswer bytes.now result }
     ensures large { (n : ℕ) → IsTooLarge bytes.now n → result ≡ Err (BerFault.TooLarge n) }
 {
     read_frame(bytes)
 }
 
-/// The size of the frame that octets begin with: an element of definite length, whatever its
-/// contents are, or one of indefinite length with the frames in it.
-pub fn whole(bytes: &[u8]) -> Result<usize, BerFault>
-    ensures answer { IsFrameAnswer IsFrame bytes.now result }
-    ensures large { (n : ℕ) → IsTooLarge bytes.now n → result ≡ Err (BerFault.TooLarge n) }
+/// The contents octets of the definite header that octets begin with, where with these a frame would
+/// take more than it may; `None` where octets begin with no such header.
+pub fn too_large(bytes: &[u8]) -> Option<u64>
+    ensures found { IfSome result (λ n. IsTooLarge bytes.now n) }
+    ensures none { result ≡ None → (n : ℕ) → ¬ IsTooLarge bytes.now n }
 {
     match read_header(bytes) {
-        Ok((_, None, body)) => indefinite_frame(bytes, body),
-        Ok((_, Some(_), _)) => definite_frame(bytes),
-        Err(_) => definite_frame(bytes),
-    }
-}
-
-/// The fault, where octets of which so many have come and so many must come are open no longer if
-/// that is more than a frame may have.
-fn refused(size: usize, more: u64, fault: BerFault) -> BerFault
-    ensures { result ≡ refused (size + more) fault }
-{
-    match fault {
-        BerFault::Short => {
-            if is_small(size as u64, more) {
-                BerFault::Short
+        Ok((_, Some(len), rest)) => {
+            if is_small((bytes.len() - rest.len()) as u64, len) {
+                None
             } else {
-                BerFault::BadLength
+                Some(len)
             }
         }
-        _ => fault,
-    }
-}
-
-/// A frame of indefinite length at the front, and what stands behind its header.
-fn indefinite_frame(bytes: &[u8], body: &[u8]) -> Result<usize, BerFault>
-    requires { BeginsIndefinite bytes.now body.now }
-    ensures { IsFrameAnswer IsFrame bytes.now result }
-{
-    match close(1, 63, body) {
-        Ok(rest) => {
-            let size = bytes.len() - rest.len();
-            if size as u64 <= FRAME_MAX {
-                Ok(size)
-            } else {
-                Err(BerFault::BadLength)
-            }
-        }
-        Err(stop) => {
-            let more = least_to_come(stop.opened, stop.rest);
-            Err(refused(bytes.len(), more, stop.fault))
-        }
+        Ok((_, None, _)) => None,
+        Err(_) => None,
     }
 }

@@ -9,8 +9,10 @@ mod fault;
 mod frame;
 mod laws;
 mod oid;
+mod place;
 mod put;
 mod read;
+mod scan;
 mod spell;
 mod step;
 mod strict;
@@ -20,17 +22,19 @@ mod wanting;
 
 pub use element::Element;
 pub use fault::BerFault;
-pub use frame::{FRAME_MAX, definite_frame, whole};
+pub use frame::{definite_frame, too_large};
 pub use laws::{
-    lends_root, lends_written, lends_written_child, one_bits, one_bool, one_element, one_extent,
-    one_int, one_oid, one_split, one_tree, reads_bits, reads_bool, reads_int, reads_oid,
-    written_extent,
+    lends_written, one_element, one_extent, one_place, one_root, one_split, one_tree,
+    one_unit_place, one_value, reads_back, written_extent,
 };
 pub use oid::oid_of;
+pub use place::elements;
 pub use put::{put_bits, put_bool, put_bytes, put_int, put_oid, put_tree};
 pub use read::header;
-pub use strict::written;
-pub use tag::{Header, Tag, Written};
+pub use scan::{Scan, one_split_of_frames, stands_on, whole};
+pub use spell::{bits_len, header_len, int_len, oid_len, put_header};
+pub use strict::read_written_element;
+pub use tag::{Header, Tag, WrittenElement};
 pub use values::{bits_of, bool_of, int_of};
 
 #[cfg(test)]

@@ -1,9 +1,11 @@
 //! The object identifier whose written form contents are (X.690:2021, 8.19).
 
-ghost use Rattle.std.specs.Prelude.{◌≡◌, ◌⊎◌, ℕ, ◌+◌, ◌*◌, ◌^◌, ◌<◌, List, [], ◌∷◌, ◌++◌, length, map, IsTrue, IfOk, IfSome, IfNone};
-ghost use Rattle.std.specs.Int.Digits.{digits_of};
-ghost use Rattle.z_types.specs.Oid.{is_oid, has_root};
-ghost use Rattle.z_ber.specs.Arcs.{AreArcs};
+ghost use Rattle.std.specs.Prelude.{◌≡◌, ◌⊎◌, ◌+◌, ◌*◌, ◌^◌, ◌<◌, [], ◌∷◌, ◌++◌, length, IsTrue, IfOk, IfSome};
+ghost use Rattle.std.specs.Option.{option_map};
+ghost use Rattle.z_types.specs.Oid.{has_root};
+ghost use Rattle.z_types.specs.ReadAs.{IsReadAs, IsReadInFront};
+ghost use Rattle.z_ber.specs.Arcs.{AreArcsRead, marked_digits};
+ghost use Rattle.z_ber.specs.Values.{IsOid, IsSubidentifier};
 ghost use Rattle.z_ber.specs.Written.{septets, oid_octets};
 
 use std::alloc::Global;
@@ -13,8 +15,7 @@ use z_types::{Memory, Oid};
 /// what follows it (8.19.2).
 fn number(high: u64, bytes: &[u8]) -> Option<(u64, &[u8])>
     requires { high < 2 ^ 26 }
-    ensures found { IfSome result (λ x. map (λ digit. 128 + digit) (digits_of 128 high) ++ bytes.now ≡ septets x.0 ++ x.1.now) }
-    ensures none { IfNone result ((n : ℕ) (rest : List ℕ) → n < 2 ^ 33 → map (λ digit. 128 + digit) (digits_of 128 high) ++ bytes.now ≡ septets n ++ rest → ⊥) }
+    ensures read { IsReadInFront IsSubidentifier septets (marked_digits high ++ bytes.now) result }
     ensures shorter { IfSome result (λ x. length x.1.now < length bytes.now) }
 {
     match bytes {
@@ -34,8 +35,7 @@ fn number(high: u64, bytes: &[u8]) -> Option<(u64, &[u8])>
 
 /// The numbers so far and those that the octets are, with 32 numbers at most.
 fn read_arcs(mut arcs: Vec<u32>, bytes: &[u8]) -> Result<Option<Vec<u32>>, Memory>
-    ensures found { IfOk result (λ found. IfSome found (λ all. (more : List ℕ) × (all.items ≡ arcs.items ++ more) × AreArcs (length arcs.items) bytes.now more)) }
-    ensures none { IfOk result (λ found. IfNone found ((more : List ℕ) → AreArcs (length arcs.items) bytes.now more → ⊥)) }
+    ensures { IfOk result (λ found. AreArcsRead arcs.items bytes.now (option_map (λ all. all.items) found)) }
 {
     if arcs.len() > 32 {
         return Ok(None);
@@ -58,8 +58,7 @@ fn read_arcs(mut arcs: Vec<u32>, bytes: &[u8]) -> Result<Option<Vec<u32>>, Memor
 /// The object identifier of the first two numbers and those that octets are.
 fn behind_root(alloc: Global, first: u32, second: u32, bytes: &[u8]) -> Result<Option<Oid>, Memory>
     requires { IsTrue (has_root (first ∷ second ∷ [])) }
-    ensures found { IfOk result (λ found. IfSome found (λ arcs. IsTrue (is_oid arcs) × (septets (40 * first + second) ++ bytes.now ≡ oid_octets arcs))) }
-    ensures none { IfOk result (λ found. IfNone found ((arcs : List ℕ) → IsTrue (is_oid arcs) → septets (40 * first + second) ++ bytes.now ≡ oid_octets arcs → ⊥)) }
+    ensures { IfOk result (IsReadAs IsOid oid_octets (septets (40 * first + second) ++ bytes.now)) }
 {
     let root = vec![in alloc; first, second]?;
     match read_arcs(root, bytes)? {
@@ -71,8 +70,7 @@ fn behind_root(alloc: Global, first: u32, second: u32, bytes: &[u8]) -> Result<O
 /// The object identifier of the number that the first two are written as (8.19.4), and of those
 /// that octets are.
 fn behind_number(alloc: Global, number: u64, bytes: &[u8]) -> Result<Option<Oid>, Memory>
-    ensures found { IfOk result (λ found. IfSome found (λ arcs. IsTrue (is_oid arcs) × (septets number ++ bytes.now ≡ oid_octets arcs))) }
-    ensures none { IfOk result (λ found. IfNone found ((arcs : List ℕ) → IsTrue (is_oid arcs) → septets number ++ bytes.now ≡ oid_octets arcs → ⊥)) }
+    ensures { IfOk result (IsReadAs IsOid oid_octets (septets number ++ bytes.now)) }
 {
     let first = (number / 40).min(2) as u32;
     match u32::try_from(number - 40 * u64::from(first)) {
@@ -84,8 +82,7 @@ fn behind_number(alloc: Global, number: u64, bytes: &[u8]) -> Result<Option<Oid>
 /// The object identifier whose written form contents are (8.19), exactly where there is one: 2 to 32
 /// numbers below 2^32 under one of the three roots, each in the fewest octets. Only memory may fail.
 pub fn oid_of(alloc: Global, contents: &[u8]) -> Result<Option<Oid>, Memory>
-    ensures found { IfOk result (λ found. IfSome found (λ arcs. IsTrue (is_oid arcs) × (contents.now ≡ oid_octets arcs))) }
-    ensures none { IfOk result (λ found. IfNone found ((arcs : List ℕ) → IsTrue (is_oid arcs) → contents.now ≡ oid_octets arcs → ⊥)) }
+    ensures { IfOk result (IsReadAs IsOid oid_octets contents.now) }
 {
     match number(0, contents) {
         Some((number, rest)) => behind_number(alloc, number, rest),

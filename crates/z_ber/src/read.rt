@@ -40,6 +40,7 @@ fn septets(high: u32, bytes: &[u8]) -> Result<(u32, &[u8]), BerFault>
 }
 
 /// The tag that a lead octet and a number make (8.1.2.2 to 8.1.2.5).
+#[inline(always)]
 fn tag_of(lead: u8, number: u32) -> Tag
     ensures { result ≡ tag_of lead number }
 {
@@ -52,6 +53,7 @@ fn tag_of(lead: u8, number: u32) -> Tag
 
 /// The identifier octets, and what follows them.
 #[tactic(auto, unfolding(crate::specs::Reading::tag_at))]
+#[inline(always)]
 pub fn read_tag(bytes: &[u8]) -> Result<(Tag, &[u8]), BerFault>
     ensures read { Gives (λ x. (x.0, x.1.now)) result (tag_at bytes.now) }
     ensures shorter { IfOk result (λ x. length x.1.now < length bytes.now) }
@@ -84,6 +86,7 @@ pub fn padded_number(high: u64, count: u8, bytes: &[u8]) -> u64
 }
 
 /// A long form of so many octets, and what follows it (8.1.3.5).
+#[inline(always)]
 fn read_long(count: u8, rest: &[u8]) -> Result<(Option<u64>, &[u8]), BerFault>
     requires { count ≤ 8 }
     ensures read { Gives (λ x. (x.0, x.1.now)) result (long_at count rest.now) }
@@ -98,6 +101,7 @@ fn read_long(count: u8, rest: &[u8]) -> Result<(Option<u64>, &[u8]), BerFault>
 
 /// The length octets, and what follows them.
 #[tactic(auto, unfolding(crate::specs::Reading::length_at))]
+#[inline(always)]
 pub fn read_length(constructed: bool, bytes: &[u8]) -> Result<(Option<u64>, &[u8]), BerFault>
     ensures read { Gives (λ x. (x.0, x.1.now)) result (length_at constructed bytes.now) }
     ensures shorter { IfOk result (λ x. length x.1.now ≤ length bytes.now) }
@@ -120,6 +124,7 @@ pub fn read_length(constructed: bool, bytes: &[u8]) -> Result<(Option<u64>, &[u8
 }
 
 /// The indefinite form, which is for constructed elements (8.1.3.2).
+#[inline(always)]
 fn indefinite(constructed: bool, rest: &[u8]) -> Result<(Option<u64>, &[u8]), BerFault>
     ensures read { Gives (λ x. (x.0, x.1.now)) result (indefinite_at constructed rest.now) }
     ensures shorter { IfOk result (λ x. length x.1.now ≤ length rest.now) }
@@ -133,6 +138,7 @@ fn indefinite(constructed: bool, rest: &[u8]) -> Result<(Option<u64>, &[u8]), Be
 
 /// Tag, length and what follows them.
 #[tactic(auto, unfolding(crate::specs::Reading::header_at))]
+#[inline(always)]
 pub fn read_header(bytes: &[u8]) -> Result<(Tag, Option<u64>, &[u8]), BerFault>
     ensures read { Gives (λ x. (x.0, x.1, x.2.now)) result (header_at bytes.now) }
     ensures shorter { IfOk result (λ x. length x.2.now < length bytes.now) }

@@ -69,6 +69,42 @@ pub fn put_header(out: &mut Text, tag: Tag, len: usize) -> Result<(), Memory>
     put_length(out, len)
 }
 
+/// How many identifier octets a tag takes.
+#[tactic(auto, unfolding(crate::specs::Written::tag_octets))]
+fn tag_len(tag: Tag) -> usize
+    requires { IsTag tag }
+    ensures value { result ≡ length (tag_octets tag) }
+    ensures small { result ≤ 66 }
+{
+    if tag.number < 31 {
+        1
+    } else {
+        1 + septets_len(u64::from(tag.number))
+    }
+}
+
+/// How many length octets contents of this length take.
+#[tactic(auto, unfolding(crate::specs::Written::length_octets))]
+fn length_len(len: usize) -> usize
+    ensures value { result ≡ length (length_octets len) }
+    ensures small { result ≤ 65 }
+{
+    if len < 128 {
+        1
+    } else {
+        1 + count_digits(256, len as u64)
+    }
+}
+
+/// How many identifier and length octets an element takes whose contents have this length (8.1.1).
+pub fn header_len(tag: Tag, len: usize) -> usize
+    requires { IsTag tag }
+    ensures value { result ≡ length (tag_octets tag) + length (length_octets len) }
+    ensures small { result ≤ 131 }
+{
+    tag_len(tag) + length_len(len)
+}
+
 /// How many octets a natural number takes with a sign bit of 0.
 #[tactic(auto, unfolding(crate::specs::Written::natural_octets))]
 fn natural_len(number: u64) -> usize

@@ -1,14 +1,13 @@
 //! Elements that stand in their written form, and in no other (X.690:2021, 10.1).
 
-ghost use Rattle.std.specs.Prelude.{◌≡◌, ℕ, ◌+◌, ◌^◌, ◌<◌, ◌≤◌, List, ◌++◌, length, IfSome, IfNone};
+ghost use Rattle.std.specs.Prelude.{◌≡◌, ◌+◌, ◌<◌, ◌≤◌, length};
 ghost use Rattle.std.specs.Option.{option_map};
-ghost use Rattle.z_ber.specs.declared.tag.Tag.{Tag as TagValue};
 ghost use Rattle.z_ber.specs.Reading.{fewest_size, contents_at, fewest_at, written_at};
-ghost use Rattle.z_ber.specs.Written.{IsTag, element};
+ghost use Rattle.z_ber.specs.WrittenAnswer.{IsWrittenAnswer};
 
 use crate::digits::count_digits;
 use crate::read::{read_length, read_tag};
-use crate::{Tag, Written};
+use crate::{Tag, WrittenElement};
 
 /// So many contents octets, and what follows them.
 fn contents(tag: Tag, len: u64, body: &[u8]) -> Option<(Tag, &[u8], &[u8])>
@@ -62,14 +61,12 @@ fn read_written(bytes: &[u8]) -> Option<(Tag, &[u8], &[u8])>
     }
 }
 
-/// The element in written form that octets begin with, exactly where they do.
-pub fn written(bytes: &[u8]) -> Option<Written<'_>>
-    ensures found { IfSome result (λ w. IsTag w.tag × (bytes.now ≡ element w.tag w.contents.now ++ w.rest.now)) }
-    ensures none { IfNone result ((tag : TagValue) (contents rest : List ℕ) → IsTag tag → bytes.now ≡ element tag contents ++ rest → ⊥) }
+/// Reads the element in written form that octets begin with, exactly where they do.
+pub fn read_written_element(bytes: &[u8]) -> Option<WrittenElement<'_>>
+    ensures { IsWrittenAnswer bytes.now result }
 {
-    let size = bytes.len();
     match read_written(bytes) {
-        Some((tag, contents, rest)) => Some(Written {
+        Some((tag, contents, rest)) => Some(WrittenElement {
             tag,
             contents,
             rest,

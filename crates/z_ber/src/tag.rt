@@ -87,7 +87,7 @@ pub struct Header {
 
 /// An element in its written form at the front of octets (X.690, 10.1), lent.
 #[derive(Clone, Copy, Debug)]
-pub struct Written<'a> {
+pub struct WrittenElement<'a> {
     /// The tag, valid.
     pub tag: Tag,
     /// The contents octets.

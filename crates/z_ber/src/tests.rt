@@ -87,11 +87,11 @@ const FRAMES: [FrameCase; 9] = [
     (&[0x04, 0x02, 7], Err(BerFault::Short)),
     // 8.1.3.5: a length in part, whose least number has room in 1048576 octets, or has none
     (&[0x04, 0x83, 0x0f, 0xff], Err(BerFault::Short)),
-    (&[0x04, 0x83, 0x10], Err(BerFault::BadLength)),
-    (&[0xb6, 0x84, 0x10], Err(BerFault::BadLength)),
+    (&[0x04, 0x83, 0x10], Err(BerFault::TooLarge(1048577))),
+    (&[0xb6, 0x84, 0x10], Err(BerFault::TooLarge(1048577))),
     (
         &[0x04, 0x83, 0x10, 0x00, 0x00],
-        Err(BerFault::TooLarge(1048581)),
+        Err(BerFault::TooLarge(1048576)),
     ),
     // the largest length is judged at once
     (
@@ -115,10 +115,10 @@ const WHOLE_FRAMES: [FrameCase; 16] = [
     (&[0x30, 0x80, 0x04, 0x80], Err(BerFault::BadLength)),
     (&[0x30, 0x80, 0x1f, 0x80], Err(BerFault::BadTag)),
     // a definite frame that is too large, in part and with its whole header
-    (&[0xb6, 0x84, 0x10], Err(BerFault::BadLength)),
+    (&[0xb6, 0x84, 0x10], Err(BerFault::TooLarge(1048577))),
     (
         &[0x04, 0x83, 0x10, 0x00, 0x00],
-        Err(BerFault::TooLarge(1048581)),
+        Err(BerFault::TooLarge(1048576)),
     ),
     // contents within that with the ends of contents fill a frame, or pass its bound by one octet
     (
@@ -127,7 +127,7 @@ const WHOLE_FRAMES: [FrameCase; 16] = [
     ),
     (
         &[0x30, 0x80, 0x04, 0x83, 0x0f, 0xff, 0xf8],
-        Err(BerFault::BadLength),
+        Err(BerFault::TooLarge(1048577)),
     ),
     (
         &[0x30, 0x80, 0x31, 0x80, 0x04, 0x83, 0x0f, 0xff, 0xf3],
@@ -135,19 +135,22 @@ const WHOLE_FRAMES: [FrameCase; 16] = [
     ),
     (
         &[0x30, 0x80, 0x31, 0x80, 0x04, 0x83, 0x0f, 0xff, 0xf4],
-        Err(BerFault::BadLength),
+        Err(BerFault::TooLarge(1048577)),
     ),
     (&[0x30, 0x80, 0x04, 0x83, 0x0f, 0xff], Err(BerFault::Short)),
-    (&[0x30, 0x80, 0x04, 0x83, 0x10], Err(BerFault::BadLength)),
+    (
+        &[0x30, 0x80, 0x04, 0x83, 0x10],
+        Err(BerFault::TooLarge(1048577)),
+    ),
     (
         &[0x30, 0x80, 0x04, 0x88, 0, 0, 0, 0, 0, 0x10],
-        Err(BerFault::BadLength),
+        Err(BerFault::TooLarge(1048577)),
     ),
     (
         &[
             0x30, 0x80, 0x04, 0x88, 255, 255, 255, 255, 255, 255, 255, 255,
         ],
-        Err(BerFault::BadLength),
+        Err(BerFault::TooLarge(1048577)),
     ),
 ];
 
@@ -158,24 +161,24 @@ const LAST_OCTETS: [FrameCase; 18] = [
     (&[0, 0], Ok(1048573)),
     // identifier octets in part, then all of them: an octet that ends them, a length, the end
     (&[0x1f], Err(BerFault::Short)),
-    (&[0x1f, 0x81], Err(BerFault::BadLength)),
+    (&[0x1f, 0x81], Err(BerFault::TooLarge(1048577))),
     (&[5], Err(BerFault::Short)),
     // length octets in part
     (&[5, 0x81], Err(BerFault::Short)),
-    (&[5, 0x82], Err(BerFault::BadLength)),
+    (&[5, 0x82], Err(BerFault::TooLarge(1048577))),
     (&[5, 0x81, 0], Err(BerFault::Short)),
-    (&[5, 0x81, 1], Err(BerFault::BadLength)),
+    (&[5, 0x81, 1], Err(BerFault::TooLarge(1048577))),
     // contents in part
     (&[5, 1], Err(BerFault::Short)),
-    (&[5, 2], Err(BerFault::BadLength)),
-    (&[0x30, 0x80], Err(BerFault::BadLength)),
+    (&[5, 2], Err(BerFault::TooLarge(1048577))),
+    (&[0x30, 0x80], Err(BerFault::TooLarge(1048577))),
     // the end in part
     (&[5, 1, 7], Err(BerFault::Short)),
     (&[5, 1, 7, 0], Err(BerFault::Short)),
     (&[5, 1, 7, 0, 0], Ok(1048576)),
-    (&[5, 1, 7, 5], Err(BerFault::BadLength)),
-    (&[5, 1, 7, 5, 0], Err(BerFault::BadLength)),
-    (&[5, 2, 7, 8, 0, 0], Err(BerFault::BadLength)),
+    (&[5, 1, 7, 5], Err(BerFault::TooLarge(1048577))),
+    (&[5, 1, 7, 5, 0], Err(BerFault::TooLarge(1048577))),
+    (&[5, 2, 7, 8, 0, 0], Err(BerFault::TooLarge(1048577))),
 ];
 
 #[test]
@@ -310,7 +313,7 @@ fn contents_are_read_in_their_written_form_alone(rt: HostRuntime) {
 
 #[test]
 fn an_element_is_read_in_its_written_form_alone(rt: HostRuntime) {
-    match written(&[0x9f, 0x69, 2, b'a', b'b', 7]) {
+    match read_written_element(&[0x9f, 0x69, 2, b'a', b'b', 7]) {
         Some(found) => {
             assert_eq!(rt; found.tag.number, 105);
             assert_eq!(rt; found.contents, b"ab".as_slice());
@@ -318,7 +321,7 @@ fn an_element_is_read_in_its_written_form_alone(rt: HostRuntime) {
         }
         None => assert!(rt; false),
     }
-    assert!(rt; written(&[4, 0x81, 1, 7]).is_none());
+    assert!(rt; read_written_element(&[4, 0x81, 1, 7]).is_none());
 }
 
 #[test]
@@ -355,4 +358,81 @@ fn level_64_is_read_and_level_65_is_not(rt: HostRuntime) {
         Err(fault) => assert_eq!(rt; fault, BerFault::TooDeep),
         Ok(_) => assert!(rt; false),
     }
+}
+
+/// Octets, and the place where they are no unit, if they are none.
+type UnitCase = (&'static [u8], Result<(), usize>);
+
+const UNITS: [UnitCase; 16] = [
+    (&[0x30, 0x00], Ok(())),
+    (&[0x04, 0x02, 7, 8], Ok(())),
+    // 8.1.5: 0000 is an element in contents of definite length, and the end in those of indefinite length
+    (&[0x30, 0x02, 0, 0], Ok(())),
+    (&[0x30, 0x80, 0, 0], Ok(())),
+    (&[0x30, 0x80, 0, 1, 7, 0, 0], Ok(())),
+    // no header is where one is due: at the front, behind an element, at the end of the octets or of
+    // what holds the element
+    (&[], Err(0)),
+    (&[0x1f, 0x1e, 0], Err(0)),
+    (&[0x30, 0x80, 5, 0, 0x04, 0x80, 0, 0], Err(4)),
+    (&[0x30, 0x80], Err(2)),
+    (&[0x30, 0x80, 5, 0, 0], Err(4)),
+    (&[0x30, 0x04, 0x31, 0x80, 5, 0, 0, 0], Err(6)),
+    // contents pass the end of what holds them
+    (&[0x30, 0x03, 0x04, 0x02, 7], Err(2)),
+    (&[0x30, 0x03, 0x04, 0x02, 7, 8], Err(2)),
+    (&[0x30, 0x06, 5, 0, 0x31, 0x80, 5, 1], Err(6)),
+    // octets are left over
+    (&[0x30, 0x00, 5, 0], Err(2)),
+    (&[0x30, 0x80, 0, 0, 0], Err(4)),
+];
+
+#[test]
+fn a_unit_is_lent_or_the_place_is_told_where_it_is_none(rt: HostRuntime) {
+    for (octets, expected) in UNITS {
+        match Element::of_unit(octets) {
+            Ok(_) => assert!(rt; expected.is_ok(), "{octets:?}"),
+            Err(at) => assert_eq!(rt; Err(at), expected, "{octets:?}"),
+        }
+    }
+    assert_eq!(rt; elements(&[5, 0, 0x30, 0x00, 5, 0]), Ok(()));
+    assert_eq!(rt; elements(&[5, 0, 0x30, 0x01, 5, 5]), Err(4));
+}
+
+#[test]
+fn a_unit_has_1048576_octets_at_most(rt: HostRuntime) -> Result<(), Fail> {
+    let mut octets = vec![in rt.alloc(); 0x04, 0x83, 0x0f, 0xff, 0xfb]?;
+    octets.extend_from_slice(vec![in rt.alloc(); 1; 0xf_fffb]?.as_slice())?;
+    assert!(rt; Element::of_unit(octets.as_slice()).is_ok());
+    octets.push(1)?;
+    assert!(rt; matches!(Element::of_unit(octets.as_slice()), Err(0)));
+    Ok(())
+}
+
+#[test]
+fn what_stands_on_level_65_is_no_element(rt: HostRuntime) {
+    let mut open = [0; 260];
+    for level in 0..65 {
+        open[2 * level] = 0x30;
+        open[2 * level + 1] = 0x80;
+    }
+    assert!(rt; Element::of_unit(&open[2..258]).is_ok());
+    assert!(rt; matches!(Element::of_unit(&open), Err(128)));
+}
+
+#[test]
+fn children_are_lent_again_from_the_start(rt: HostRuntime) -> Result<(), Fail> {
+    let mut element = Element::first(&[0x30, 0x05, 5, 0, 1, 1, 0xff])?;
+    assert_eq!(rt; element.next_child()?.expect(&rt, "a null").tag().number, 5);
+    let mut again = element.again();
+    assert_eq!(rt; again.next_child()?.expect(&rt, "a null").tag().number, 5);
+    assert_eq!(rt;
+        element
+            .next_child()?
+            .expect(&rt, "a truth value")
+            .tag()
+            .number,
+        1
+    );
+    Ok(())
 }

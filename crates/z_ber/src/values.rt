@@ -1,9 +1,10 @@
 //! Values whose written form contents are (X.690:2021, 8.2, 8.3, 8.6, 8.19, 11.1, 11.2).
 
-ghost use Rattle.std.specs.Prelude.{◌≡◌, ℕ, ℤ, ◌+◌, ◌-◌, ◌*◌, ◌^◌, ◌<◌, ◌≤◌, Bool, List, length, map, FitsSigned, IfSome, IfNone};
-ghost use Rattle.std.specs.Int.{w64};
+ghost use Rattle.std.specs.Prelude.{◌≡◌, ◌+◌, ◌-◌, ◌*◌, ◌^◌, ◌<◌, ◌≤◌, length, map};
 ghost use Rattle.std.specs.Int.Digits.{number_from_digits_after};
+ghost use Rattle.z_types.specs.ReadAs.{IsAny, IsReadAs};
 ghost use Rattle.z_ber.specs.Reading.{padded, is_fewest, positive_at, negative_at, signed_at, int_at, mirrored_number, bits_behind, bits_at};
+ghost use Rattle.z_ber.specs.Values.{IsBits, IsInteger};
 ghost use Rattle.z_ber.specs.Written.{bool_octets, int_octets, bits_octets};
 
 use crate::digits::{count_digits, mirrored};
@@ -13,8 +14,7 @@ use crate::spell::unused_bits;
 /// The value of the contents of a BOOLEAN in written form (8.2, 11.1), exactly where there is one.
 #[tactic(auto, unfolding(crate::specs::Written::bool_octets))]
 pub fn bool_of(contents: &[u8]) -> Option<bool>
-    ensures found { IfSome result (λ value. contents.now ≡ bool_octets value) }
-    ensures none { IfNone result ((value : Bool) → contents.now ≡ bool_octets value → ⊥) }
+    ensures { IsReadAs IsAny bool_octets contents.now result }
 {
     match contents {
         [0] => Some(false),
@@ -97,8 +97,7 @@ fn read_int(contents: &[u8]) -> Option<i64>
 
 /// The number whose written form contents of an INTEGER are (8.3), exactly where there is one.
 pub fn int_of(contents: &[u8]) -> Option<i64>
-    ensures found { IfSome result (λ value. contents.now ≡ int_octets value) }
-    ensures none { IfNone result ((value : ℤ) → FitsSigned w64 value → contents.now ≡ int_octets value → ⊥) }
+    ensures { IsReadAs IsInteger int_octets contents.now result }
 {
     match read_int(contents) {
         Some(value) => Some(value),
@@ -147,8 +146,7 @@ fn bits(unused: u8, count: usize, value: u32) -> Option<u32>
 
 /// The bits whose written form contents of a BIT STRING are (8.6), exactly where there are some.
 pub fn bits_of(contents: &[u8]) -> Option<u32>
-    ensures found { IfSome result (λ value. contents.now ≡ bits_octets value) }
-    ensures none { IfNone result ((value : ℕ) → value < 2 ^ 32 → contents.now ≡ bits_octets value → ⊥) }
+    ensures { IsReadAs IsBits bits_octets contents.now result }
 {
     match read_bits(contents) {
         Some(value) => Some(value),
