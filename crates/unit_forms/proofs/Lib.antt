@@ -1,4 +1,4 @@
-pub mod Tags
+pub mod EqualTags
 pub mod Peel
 pub mod RequestLemmas
 pub mod QueryLemmas

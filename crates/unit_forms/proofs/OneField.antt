@@ -6,7 +6,7 @@ use Rattle.z_ber.specs.declared.tag.Tag.{Tag}
 use Rattle.z_ber.specs.Written.{element, int_octets, bits_octets, bool_octets}
 use Rattle.z_ber.proofs.ElementLaws.{element-one}
 use Rattle.z_ber.proofs.ValueLaws.{int_octets-one, bits_octets-one, bool_octets-one}
-use Rattle.unit_forms.specs.Fields.{primitive, number_at, bits_at, flag_at, optional, text_at, ref_id_field}
+use Rattle.unit_forms.specs.Fields.{primitive, number_field, bits_field, boolean_field, optional, octets_field, ref_id_field}
 use Rattle.unit_forms.proofs.Peel.{element-some}
 
 -- octets that begin with no element of this tag
@@ -48,19 +48,19 @@ pub number-one : (a b : ℕ) → int_octets (pos a) ≡ int_octets (pos b) → a
 number-one a b e = let h : pos a ≡ pos b = int_octets-one (pos a) (pos b) e in cc
 
 -- a field of a number has one number, and begins no other field
-pub number_at-one : (n a b : ℕ) (x y : List ℕ) → number_at n a ++ x ≡ number_at n b ++ y → (a ≡ b) × (x ≡ y)
-number_at-one n a b x y e = let h = element-one (primitive n) (primitive n) (int_octets (pos a)) (int_octets (pos b)) x y e in (number-one a b h.1, h.2)
+pub number_field-one : (n a b : ℕ) (x y : List ℕ) → number_field n a ++ x ≡ number_field n b ++ y → (a ≡ b) × (x ≡ y)
+number_field-one n a b x y e = let h = element-one (primitive n) (primitive n) (int_octets (pos a)) (int_octets (pos b)) x y e in (number-one a b h.1, h.2)
 
 -- a field of bits has one value, and begins no other field
-pub bits_at-one : (n a b : ℕ) (x y : List ℕ) → bits_at n a ++ x ≡ bits_at n b ++ y → (a ≡ b) × (x ≡ y)
-bits_at-one n a b x y e = let h = element-one (primitive n) (primitive n) (bits_octets a) (bits_octets b) x y e in (bits_octets-one a b h.1, h.2)
+pub bits_field-one : (n a b : ℕ) (x y : List ℕ) → bits_field n a ++ x ≡ bits_field n b ++ y → (a ≡ b) × (x ≡ y)
+bits_field-one n a b x y e = let h = element-one (primitive n) (primitive n) (bits_octets a) (bits_octets b) x y e in (bits_octets-one a b h.1, h.2)
 
 -- a field of a truth value has one value, and begins no other field
-pub flag_at-one : (n : ℕ) (a b : Bool) (x y : List ℕ) → flag_at n a ++ x ≡ flag_at n b ++ y → (a ≡ b) × (x ≡ y)
-flag_at-one n a b x y e = let h = element-one (primitive n) (primitive n) (bool_octets a) (bool_octets b) x y e in (bool_octets-one a b h.1, h.2)
+pub boolean_field-one : (n : ℕ) (a b : Bool) (x y : List ℕ) → boolean_field n a ++ x ≡ boolean_field n b ++ y → (a ≡ b) × (x ≡ y)
+boolean_field-one n a b x y e = let h = element-one (primitive n) (primitive n) (bool_octets a) (bool_octets b) x y e in (bool_octets-one a b h.1, h.2)
 
 -- a referenceId is told by the field of another number that follows it
-pub ref_id_field-one : (n : ℕ) → n ≢ 2 → (a b : Option (List ℕ)) (c d x y : List ℕ) → ref_id_field a ++ (text_at n c ++ x) ≡ ref_id_field b ++ (text_at n d ++ y) → (a ≡ b) × (text_at n c ++ x ≡ text_at n d ++ y)
+pub ref_id_field-one : (n : ℕ) → n ≢ 2 → (a b : Option (List ℕ)) (c d x y : List ℕ) → ref_id_field a ++ (octets_field n c ++ x) ≡ ref_id_field b ++ (octets_field n d ++ y) → (a ≡ b) × (octets_field n c ++ x ≡ octets_field n d ++ y)
 ref_id_field-one n other a b c d x y e =
     optional-one (primitive 2) (λ v. v) (λ p q h. h) a b _ _ (other-field (primitive n) (primitive 2) other c x) (other-field (primitive n) (primitive 2) other d y) e
 

@@ -16,13 +16,15 @@ use Rattle.z_types.specs.declared.requests.Init.{Init}
 use Rattle.z_ber.specs.declared.tag.Tag.{Tag}
 use Rattle.z_ber.specs.Written.{element, int_octets}
 use Rattle.z_ber.proofs.ValueLaws.{oid_octets-one}
-use Rattle.unit_forms.specs.Fields.{primitive, constructed, sequence, object_identifier, object_identifier_tag, integer, general_string, ref_id_field, text_at, number_at, flag_at, optional}
+use Rattle.unit_forms.specs.Fields.{primitive, constructed, sequence, object_identifier, object_identifier_tag, integer, general_string, ref_id_field, octets_field, number_field, boolean_field, optional}
 use Rattle.unit_forms.specs.Requests.{init_fields}
-use Rattle.unit_forms.specs.Replies.{diag_fields, encoding_tag, external, item_octets, named_octets, body_octets, search_reply_fields, spell_reply}
+use Rattle.unit_forms.specs.Records.{diag_fields, encoding_tag, item_octets, named_octets, body_octets}
+use Rattle.unit_forms.specs.Fields.{external}
+use Rattle.unit_forms.specs.Replies.{search_reply_fields, spell_reply}
 use Rattle.unit_forms.specs.Told.{IsToldDiag, IsToldItem, IsToldNamed, IsToldBody, IsTold}
 use Rattle.unit_forms.proofs.Peel.{peel, peel_only}
 use Rattle.unit_forms.proofs.RequestKinds.{distinct, other_kind}
-use Rattle.unit_forms.proofs.OneField.{BeginsOther, other-only, other-nothing, element_alone-one, optional-one, ref_id_field-one, number-one, number_at-one, flag_at-one, elements-one}
+use Rattle.unit_forms.proofs.OneField.{BeginsOther, other-only, other-nothing, element_alone-one, optional-one, ref_id_field-one, number-one, number_field-one, boolean_field-one, elements-one}
 use Rattle.unit_forms.proofs.OneRequest.{init_fields-one, close_fields-one}
 
 -- ---- diagnostics
@@ -80,7 +82,7 @@ same_named m n x y p q = cc
 
 -- the fields of a NamePlusRecord
 abbrev named_fields : NamedRecord → List ℕ
-named_fields named = optional (text_at 0) named.name ++ element (constructed 1) (item_octets named.item)
+named_fields named = optional (octets_field 0) named.name ++ element (constructed 1) (item_octets named.item)
 
 named-one : (a b : NamedRecord) → IsToldNamed a → IsToldNamed b → named_fields a ≡ named_fields b → a ≡ b
 named-one a b p q e =
@@ -137,7 +139,7 @@ body-other (body.Diags ds) = status-other 205 refl (flat_map (λ diag. element s
 -- ---- replies
 
 search_reply_fields-parts : (r : Option (List ℕ)) (c n x : ℕ) (ok : Bool) (status : Option ℕ) (b : Body)
-    → search_reply_fields r c n x ok status b ≡ ref_id_field r ++ (number_at 23 c ++ (number_at 24 n ++ (number_at 25 x ++ (flag_at 22 ok ++ (optional (number_at 27) status ++ body_octets b)))))
+    → search_reply_fields r c n x ok status b ≡ ref_id_field r ++ (number_field 23 c ++ (number_field 24 n ++ (number_field 25 x ++ (boolean_field 22 ok ++ (optional (number_field 27) status ++ body_octets b)))))
 unfolding search_reply_fields
 search_reply_fields-parts r c n x ok status b = simp append_assoc
 
@@ -147,23 +149,27 @@ same_search_reply r s c d n m x y o p t u a b e f g h i j k = cc
 search_reply-one : (r s : Option (List ℕ)) (c d n m x y : ℕ) (o p : Bool) (t u : Option ℕ) (a b : Body) → IsToldBody a → IsToldBody b → search_reply_fields r c n x o t a ≡ search_reply_fields s d m y p u b → reply.Search r c n x o t a ≡ reply.Search s d m y p u b
 search_reply-one r s c d n m x y o p t u a b k l e =
     let ref_id = ref_id_field-one 23 (λ h. cc) r s _ _ _ _ (sym (search_reply_fields-parts r c n x o t a) ∙ e ∙ search_reply_fields-parts s d m y p u b) in
-    let count = number_at-one 23 c d _ _ ref_id.1 in
-    let returned = number_at-one 24 n m _ _ count.1 in
-    let next = number_at-one 25 x y _ _ returned.1 in
-    let ok = flag_at-one 22 o p _ _ next.1 in
+    let count = number_field-one 23 c d _ _ ref_id.1 in
+    let returned = number_field-one 24 n m _ _ count.1 in
+    let next = number_field-one 25 x y _ _ returned.1 in
+    let ok = boolean_field-one 22 o p _ _ next.1 in
     let status = optional-one (primitive 27) (λ (v : ℕ). int_octets (pos v)) number-one t u _ _ (body-other a) (body-other b) ok.1 in
     same_search_reply _ _ _ _ _ _ _ _ _ _ _ _ _ _ ref_id.0 count.0 returned.0 next.0 ok.0 status.0 (body-one a b k l status.1)
 
 same_init_reply : (a b : Init) (r s : Bool) → a ≡ b → r ≡ s → reply.Init a r ≡ reply.Init b s
 same_init_reply a b r s p q = cc
 
-init_reply-one : (a b : Init) (r s : Bool) (x y : List ℕ) → init_fields a ++ flag_at 12 r ++ x ≡ init_fields b ++ flag_at 12 s ++ y → reply.Init a r ≡ reply.Init b s
+init_reply-one : (a b : Init) (r s : Bool) (x y : List ℕ) → init_fields a ++ boolean_field 12 r ++ x ≡ init_fields b ++ boolean_field 12 s ++ y → reply.Init a r ≡ reply.Init b s
 init_reply-one a b r s x y e =
-    let init = init_fields-one a b (flag_at 12 r ++ x) (flag_at 12 s ++ y) (sym (append_assoc (init_fields a) (flag_at 12 r) x) ∙ e ∙ append_assoc (init_fields b) (flag_at 12 s) y) in
-    let result = flag_at-one 12 r s x y init.1 in same_init_reply a b r s init.0 result.0
+    let init = init_fields-one a b (boolean_field 12 r ++ x) (boolean_field 12 s ++ y) (sym (append_assoc (init_fields a) (boolean_field 12 r) x) ∙ e ∙ append_assoc (init_fields b) (boolean_field 12 s) y) in
+    let result = boolean_field-one 12 r s x y init.1 in same_init_reply a b r s init.0 result.0
 
 -- two replies that their octets tell whole, and that have the same octets, are the same reply
 pub reply-one : (a b : Reply) → IsTold a → IsTold b → spell_reply a ≡ spell_reply b → a ≡ b
+reply-one (reply.Present r n x t a) b p q e = absurd p
+reply-one (reply.Scan r t a d) b p q e = absurd p
+reply-one a (reply.Present r n x t b) p q e = absurd q
+reply-one a (reply.Scan r t b d) p q e = absurd q
 reply-one (reply.Init a r) (reply.Init b s) p q e = init_reply-one a b r s _ _ (peel_only (constructed 21) _ _ _ refl e)
 reply-one (reply.Init a r) (reply.Search s d m y p u b) k l e = absurd (other_kind 21 23 refl _ _ _ refl e)
 reply-one (reply.Init a r) (reply.Close b) p q e = absurd (other_kind 21 48 refl _ _ _ refl e)

@@ -13,7 +13,7 @@ use Rattle.z_types.specs.declared.requests.Request.{Request}
 use Rattle.z_types.specs.declared.requests.Request.TheVariants as request
 use Rattle.z_types.specs.Tree.{Tree, leaf}
 use Rattle.z_ber.proofs.ValueLaws.{oid_octets-one}
-use Rattle.unit_forms.specs.Fields.{primitive, constructed, sequence, object_identifier_tag, ref_id_field, text_at, number_at, bits_at, optional}
+use Rattle.unit_forms.specs.Fields.{primitive, constructed, sequence, object_identifier_tag, ref_id_field, octets_field, number_field, bits_field, optional}
 use Rattle.unit_forms.specs.Query.{attr_fields, tree_octets, query_octets}
 use Rattle.unit_forms.specs.Requests.{init_fields, search_fields, close_fields, spell_request}
 use Rattle.unit_forms.specs.Served.{IsServedAttr, IsServedTree, IsServedRpn, IsServedSearch, IsServed, IsReading}
@@ -21,7 +21,7 @@ use Rattle.unit_forms.proofs.Peel.{peel, peel_only}
 use Rattle.unit_forms.proofs.QueryLemmas.{attr_fields-served, operand_of, query_of}
 use Rattle.unit_forms.proofs.SearchLemmas.{search_parts, shown-peel}
 use Rattle.unit_forms.proofs.RequestKinds.{other_kind}
-use Rattle.unit_forms.proofs.OneField.{optional_last-one, ref_id_field-one, number-one, number_at-one, bits_at-one, elements-one}
+use Rattle.unit_forms.proofs.OneField.{optional_last-one, ref_id_field-one, number-one, number_field-one, bits_field-one, elements-one}
 
 -- ---- Init
 
@@ -32,7 +32,7 @@ same_init : (r s : Option (List ℕ)) (v w o q p u x y : ℕ) → r ≡ s → v 
 same_init r s v w o q p u x y e f g h i = cc
 
 -- the fields of an Init in front of others, one after another
-init_fields-then : (init : Init) (x : List ℕ) → init_fields init ++ x ≡ ref_id_field init.ref_id ++ (bits_at 3 init.versions ++ (bits_at 4 init.options ++ (number_at 5 init.preferred ++ (number_at 6 init.exceptional ++ x))))
+init_fields-then : (init : Init) (x : List ℕ) → init_fields init ++ x ≡ ref_id_field init.ref_id ++ (bits_field 3 init.versions ++ (bits_field 4 init.options ++ (number_field 5 init.preferred ++ (number_field 6 init.exceptional ++ x))))
 unfolding init_fields
 init_fields-then init x = simp append_assoc
 
@@ -40,10 +40,10 @@ init_fields-then init x = simp append_assoc
 pub init_fields-one : (a b : Init) (x y : List ℕ) → init_fields a ++ x ≡ init_fields b ++ y → (a ≡ b) × (x ≡ y)
 init_fields-one a b x y e =
     let r = ref_id_field-one 3 (λ h. cc) a.ref_id b.ref_id _ _ _ _ (sym (init_fields-then a x) ∙ e ∙ init_fields-then b y) in
-    let v = bits_at-one 3 a.versions b.versions _ _ r.1 in
-    let o = bits_at-one 4 a.options b.options _ _ v.1 in
-    let p = number_at-one 5 a.preferred b.preferred _ _ o.1 in
-    let q = number_at-one 6 a.exceptional b.exceptional x y p.1 in
+    let v = bits_field-one 3 a.versions b.versions _ _ r.1 in
+    let o = bits_field-one 4 a.options b.options _ _ v.1 in
+    let p = number_field-one 5 a.preferred b.preferred _ _ o.1 in
+    let q = number_field-one 6 a.exceptional b.exceptional x y p.1 in
     (same_init _ _ _ _ _ _ _ _ _ _ r.0 v.0 o.0 p.0 q.0, q.1)
 
 -- ---- Close
@@ -54,15 +54,15 @@ close_of ref_id reason info = record { ref_id = ref_id; reason = reason; info = 
 same_close : (r s : Option (List ℕ)) (m n : ℕ) (i j : Option (List ℕ)) → r ≡ s → m ≡ n → i ≡ j → close_of r m i ≡ close_of s n j
 same_close r s m n i j e f g = cc
 
-close_fields-parts : (close : Close) → close_fields close ≡ ref_id_field close.ref_id ++ (number_at 211 close.reason ++ optional (text_at 3) close.info)
+close_fields-parts : (close : Close) → close_fields close ≡ ref_id_field close.ref_id ++ (number_field 211 close.reason ++ optional (octets_field 3) close.info)
 unfolding close_fields
-close_fields-parts close = append_assoc (ref_id_field close.ref_id) (number_at 211 close.reason) (optional (text_at 3) close.info)
+close_fields-parts close = append_assoc (ref_id_field close.ref_id) (number_field 211 close.reason) (optional (octets_field 3) close.info)
 
 -- the fields of a Close are those of one Close
 pub close_fields-one : (a b : Close) → close_fields a ≡ close_fields b → a ≡ b
 close_fields-one a b e =
     let r = ref_id_field-one 211 (λ h. cc) a.ref_id b.ref_id _ _ _ _ (sym (close_fields-parts a) ∙ e ∙ close_fields-parts b) in
-    let n = number_at-one 211 a.reason b.reason _ _ r.1 in same_close _ _ _ _ _ _ r.0 n.0 (optional_last-one (primitive 3) (λ v. v) (λ p q h. h) a.info b.info n.1)
+    let n = number_field-one 211 a.reason b.reason _ _ r.1 in same_close _ _ _ _ _ _ r.0 n.0 (optional_last-one (primitive 3) (λ v. v) (λ p q h. h) a.info b.info n.1)
 
 -- ---- queries
 
@@ -74,7 +74,7 @@ same_attr s t k l v w e f g = cc
 
 attr-one : (a b : Attr) → IsServedAttr a → IsServedAttr b → attr_fields a ≡ attr_fields b → a ≡ b
 attr-one a b p q e =
-    let k = number_at-one 120 a.kind b.kind _ _ (sym (attr_fields-served a p) ∙ e ∙ attr_fields-served b q) in
+    let k = number_field-one 120 a.kind b.kind _ _ (sym (attr_fields-served a p) ∙ e ∙ attr_fields-served b q) in
     let v = number-one a.value b.value (peel_only (primitive 121) _ _ _ refl k.1) in same_attr _ _ _ _ _ _ (p.set ∙ sym q.set) k.0 v
 
 same_leaf : (x y : List Attr) (s t : List ℕ) → x ≡ y → s ≡ t → leaf x (General s) ≡ leaf y (General t)
@@ -146,6 +146,10 @@ init-one a b e = (init_fields-one a b [] [] (append-nil (init_fields a) ∙ e �
 
 -- two requests that are served and have the same octets are the same request
 pub request-one : (a b : Request) → IsServed a → IsServed b → spell_request a ≡ spell_request b → a ≡ b
+request-one (request.Present a) b p q e = absurd p
+request-one (request.Scan a) b p q e = absurd p
+request-one a (request.Present b) p q e = absurd q
+request-one a (request.Scan b) p q e = absurd q
 request-one (request.Init a) (request.Init b) p q e = ap request.Init (init-one a b (peel_only (constructed 20) _ _ _ refl e))
 request-one (request.Init a) (request.Search b) p q e = absurd (other_kind 20 22 refl _ _ _ refl e)
 request-one (request.Init a) (request.Close b) p q e = absurd (other_kind 20 48 refl _ _ _ refl e)

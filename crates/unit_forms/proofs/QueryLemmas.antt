@@ -6,13 +6,13 @@ use Rattle.z_types.specs.declared.query.RpnQuery.{RpnQuery}
 use Rattle.z_types.specs.declared.query.Term.TheVariants.{General, Number, Words}
 use Rattle.z_types.specs.Tree.{Tree, leaf, operand, and, or, and_not}
 use Rattle.z_ber.specs.Written.{element, oid_octets}
-use Rattle.unit_forms.specs.Fields.{constructed, sequence, object_identifier, object_identifier_tag, text_at, number_at}
+use Rattle.unit_forms.specs.Fields.{constructed, sequence, object_identifier, object_identifier_tag, octets_field, number_field}
 use Rattle.unit_forms.specs.Query.{attr_fields, attr_octets, leaf_octets, tree_octets, query_octets}
 use Rattle.unit_forms.specs.Served.{IsServedAttr, AreServedAttrs, IsServedTree}
 use Rattle.unit_forms.proofs.Peel.{peel, element-some, not_empty}
 
 -- the fields of an attribute without a set
-pub attr_fields-served : (attr : Attr) → IsServedAttr attr → attr_fields attr ≡ number_at 120 attr.kind ++ number_at 121 attr.value
+pub attr_fields-served : (attr : Attr) → IsServedAttr attr → attr_fields attr ≡ number_field 120 attr.kind ++ number_field 121 attr.value
 unfolding attr_fields
 attr_fields-served attr served = rw served.set refl
 
@@ -41,7 +41,7 @@ pub record Operand (tree : Tree) : Type 0 where
   pub octets : List ℕ
   pub served : AreServedAttrs attrs
   pub is : tree ≡ leaf attrs (General octets)
-  pub spelled : tree_octets tree ≡ element (constructed 0) (element (constructed 102) (element (constructed 44) (flat_map attr_octets attrs) ++ text_at 45 octets))
+  pub spelled : tree_octets tree ≡ element (constructed 0) (element (constructed 102) (element (constructed 44) (flat_map attr_octets attrs) ++ octets_field 45 octets))
 
 pub operand_of : (tree : Tree) → IsServedTree tree → Operand tree
 unfolding tree_octets leaf_octets
@@ -70,7 +70,7 @@ first_left attrs before rest served e some =
     let left = attrs-left attrs before rest served e in first_of_left attrs before left.more rest left.served left.count left.spelled some
 
 -- the parts of an operand are its octets
-pub operand-made : (attrs : List Attr) (octets bytes operand_ body parts rest : List ℕ) → bytes ≡ element (constructed 0) operand_ → operand_ ≡ element (constructed 102) body → body ≡ element (constructed 44) parts ++ rest → parts ≡ flat_map attr_octets attrs → rest ≡ text_at 45 octets → bytes ≡ tree_octets (leaf attrs (General octets))
+pub operand-made : (attrs : List Attr) (octets bytes operand_ body parts rest : List ℕ) → bytes ≡ element (constructed 0) operand_ → operand_ ≡ element (constructed 102) body → body ≡ element (constructed 44) parts ++ rest → parts ≡ flat_map attr_octets attrs → rest ≡ octets_field 45 octets → bytes ≡ tree_octets (leaf attrs (General octets))
 unfolding tree_octets leaf_octets
 operand-made attrs octets bytes operand_ body parts rest e f g h i = rw (e, f, g, h, i) refl
 

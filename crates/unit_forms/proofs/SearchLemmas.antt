@@ -1,7 +1,7 @@
 -- the fields of a Search that is served, one after another
 use Rattle.std.proofs.Common.{◌≡◌, ◌==◌, ◌∙◌, ℕ, true, false, take, drop, List, [], ◌∷◌, ◌++◌, length, refl, sym, ap, append_assoc, arith}
 use lib.Pointwise.{pointwise}
-use Rattle.z_types.specs.Exact.{text_exact}
+use Rattle.z_types.specs.equality.Tests.{text_exact}
 use Rattle.std.proofs.lemmas.Cmp.{nat_list_eq_equiv}
 use Rattle.std.proofs.lemmas.List.{append-nil, take-append-drop}
 use Rattle.std.proofs.Math.Seq.{take-append_seam, drop-append_seam}
@@ -10,7 +10,7 @@ use Rattle.z_types.specs.declared.requests.Asked.{Asked}
 use Rattle.z_types.specs.declared.requests.Asked.TheVariants.{Good, Bad}
 use Rattle.z_types.specs.declared.requests.Search.{Search}
 use Rattle.z_ber.specs.Written.{element, tag_octets, length_octets, int_octets, natural_octets, bool_octets}
-use Rattle.unit_forms.specs.Fields.{constructed, text_at}
+use Rattle.unit_forms.specs.Fields.{constructed, octets_field}
 use Rattle.unit_forms.specs.Query.{query_octets}
 use Rattle.unit_forms.specs.Requests.{search_fields}
 use Rattle.unit_forms.specs.Served.{IsServedSearch, IsServedRpn, IsServedQuery, shown_nothing}
@@ -30,11 +30,11 @@ pub record Parts (search : Search) : Type 0 where
   pub served : IsServedRpn query
   pub names : search.dbs ≡ name ∷ []
   pub asked : search.query ≡ Good query
-  pub spelled : search_fields search ≡ shown_nothing ++ (element (constructed 18) (text_at 105 name) ++ element (constructed 21) (query_octets query))
+  pub spelled : search_fields search ≡ shown_nothing ++ (element (constructed 18) (octets_field 105 name) ++ element (constructed 21) (query_octets query))
 
 -- the fields, where those that may be absent are
 pub search_fields-plain : (search : Search) (name : List ℕ) (query : RpnQuery) → IsServedSearch search → search.dbs ≡ name ∷ [] → search.query ≡ Good query
-    → search_fields search ≡ shown_nothing ++ (element (constructed 18) (text_at 105 name) ++ element (constructed 21) (query_octets query))
+    → search_fields search ≡ shown_nothing ++ (element (constructed 18) (octets_field 105 name) ++ element (constructed 21) (query_octets query))
 unfolding search_fields shown_nothing
 search_fields-plain search name query served names asked =
     rw (served.ref_id, served.small, served.large, served.medium, served.replace, served.set_name, names, served.small_element, served.medium_element, served.syntax, asked) (simp (append_assoc, append-nil))
@@ -76,7 +76,7 @@ pub shown-peel : (bytes x y : List ℕ) → bytes ≡ shown_nothing ++ x → byt
 shown-peel bytes x y p q = sym (drop-append_seam shown_nothing x) ∙ ap (drop (length shown_nothing)) (sym p ∙ q) ∙ drop-append_seam shown_nothing y
 
 pub search-made : (search : Search) (bytes rest names after_names asked name : List ℕ) (query : RpnQuery) → IsServedSearch search → search.dbs ≡ name ∷ [] → search.query ≡ Good query
-    → bytes ≡ shown_nothing ++ rest → rest ≡ element (constructed 18) names ++ after_names → names ≡ text_at 105 name → after_names ≡ element (constructed 21) asked → asked ≡ query_octets query
+    → bytes ≡ shown_nothing ++ rest → rest ≡ element (constructed 18) names ++ after_names → names ≡ octets_field 105 name → after_names ≡ element (constructed 21) asked → asked ≡ query_octets query
     → bytes ≡ search_fields search
 search-made search bytes rest names after_names asked name query served one good e f g h i =
     let plain = search_fields-plain search name query served one good in cc

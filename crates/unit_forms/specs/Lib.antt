@@ -1,8 +1,9 @@
 pub mod Fields
 pub mod Query
-pub mod Requests
+pub mod Records
 pub mod Replies
+pub mod Requests
 pub mod Served
-pub mod Read
+pub mod Tags
 pub mod Told
-pub mod OneValue
+pub mod Reading

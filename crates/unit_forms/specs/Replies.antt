@@ -1,63 +1,89 @@
--- Replies as they are written (ANSI/NISO Z39.50-2003, InitializeResponse, SearchResponse, Records and Close)
-use Rattle.std.specs.Prelude.{ℕ, Bool, true, List, [], ◌∷◌, ◌++◌, Option, codes}
+-- Replies as they are written (ANSI/NISO Z39.50-2003, InitializeResponse, SearchResponse, PresentResponse, ScanResponse and Close)
+use Rattle.std.specs.Prelude.{ℕ, pos, Bool, List, [], ◌∷◌, ◌++◌, Option, codes, length}
 use Rattle.std.specs.List.{flat_map}
-use Rattle.z_ber.specs.declared.tag.Tag.{Tag}
 use Rattle.z_ber.specs.Written.{element}
 use Rattle.z_types.specs.declared.diagnostic.Diag.{Diag}
-use Rattle.z_types.specs.declared.records.Form.{Form}
-use Rattle.z_types.specs.declared.records.Form.TheVariants.{Single, Octets, Arbitrary}
-use Rattle.z_types.specs.declared.records.Item.{Item}
-use Rattle.z_types.specs.declared.records.Item.TheVariants.{Record, Surrogate}
-use Rattle.z_types.specs.declared.records.NamedRecord.{NamedRecord}
 use Rattle.z_types.specs.declared.records.Body.{Body}
-use Rattle.z_types.specs.declared.records.Body.TheVariants as body
 use Rattle.z_types.specs.declared.replies.Reply.{Reply}
 use Rattle.z_types.specs.declared.replies.Reply.TheVariants as reply
-use Rattle.unit_forms.specs.Fields.{primitive, constructed, sequence, object_identifier, integer, general_string, text_at, number_at, flag_at, optional, ref_id_field}
+use Rattle.z_types.specs.declared.requests.Init.{Init}
+use Rattle.z_types.specs.declared.scan.ScanEntry.{ScanEntry}
+use Rattle.z_types.specs.declared.scan.ScanAnswer.{ScanAnswer}
+use Rattle.unit_forms.specs.Fields.{octets_field, number_field, boolean_field, tree_field, optional, ref_id_field}
+use Rattle.unit_forms.specs.Query.{term_octets}
+use Rattle.unit_forms.specs.Records.{diag_octets, body_octets}
 use Rattle.unit_forms.specs.Requests.{init_fields, close_octets}
-
--- DefaultDiagFormat: the diagnostic set, the condition and the additional information
-unfoldable pub diag_fields : Diag → List ℕ
-diag_fields diag = object_identifier diag.set ++ integer diag.condition ++ general_string diag.addinfo
-
--- the encoding of an EXTERNAL's value (X.690, 8.18)
-abbrev pub encoding_tag : Form → Tag
-encoding_tag Single = constructed 0
-encoding_tag Octets = primitive 1
-encoding_tag Arbitrary = primitive 2
-
--- EXTERNAL (X.690, 8.18)
-abbrev pub external : Tag
-external = record { class = 0; constructed = true; number = 8 }
-
--- a record, or a diagnostic in its place
-unfoldable pub item_octets : Item → List ℕ
-item_octets (Record syntax form bytes) = element (constructed 1) (element external (object_identifier syntax ++ element (encoding_tag form) bytes))
-item_octets (Surrogate diag) = element (constructed 2) (element sequence (diag_fields diag))
-
--- NamePlusRecord
-unfoldable pub named_octets : NamedRecord → List ℕ
-named_octets named = element sequence (optional (text_at 0) named.name ++ element (constructed 1) (item_octets named.item))
-
--- the records of a response; an empty list of them is left out
-unfoldable pub body_octets : Body → List ℕ
-body_octets body.None = []
-body_octets (body.Records []) = []
-body_octets (body.Records (first ∷ rest)) = element (constructed 28) (flat_map named_octets (first ∷ rest))
-body_octets (body.Diag diag) = element (constructed 130) (diag_fields diag)
-body_octets (body.Diags diags) = element (constructed 205) (flat_map (λ diag. element sequence (diag_fields diag)) diags)
+use Rattle.unit_forms.specs.Tags as tag
 
 -- the implementation's id, name and version, which each InitializeResponse tells
 unfoldable pub implementation_fields : List ℕ
-implementation_fields = text_at 110 (codes "mp") ++ text_at 111 (codes "gateway") ++ text_at 112 (codes "1")
+implementation_fields =
+    octets_field tag.implementation_id (codes "mp")
+    ++ octets_field tag.implementation_name (codes "gateway")
+    ++ octets_field tag.implementation_version (codes "1")
+
+-- the fields of an InitializeResponse
+abbrev pub init_reply_fields : Init → Bool → List ℕ
+init_reply_fields init result = init_fields init ++ boolean_field tag.init_result result ++ implementation_fields
 
 -- the fields of a SearchResponse
 unfoldable pub search_reply_fields : Option (List ℕ) → ℕ → ℕ → ℕ → Bool → Option ℕ → Body → List ℕ
 search_reply_fields ref_id count returned next ok status body =
-    ref_id_field ref_id ++ number_at 23 count ++ number_at 24 returned ++ number_at 25 next ++ flag_at 22 ok ++ optional (number_at 27) status ++ body_octets body
+    ref_id_field ref_id
+    ++ number_field tag.result_count count
+    ++ number_field tag.number_of_records_returned returned
+    ++ number_field tag.next_result_set_position next
+    ++ boolean_field tag.search_status ok
+    ++ optional (number_field tag.present_status) status
+    ++ body_octets body
+
+-- the fields of a PresentResponse
+unfoldable pub present_reply_fields : Option (List ℕ) → ℕ → ℕ → ℕ → Body → List ℕ
+present_reply_fields ref_id returned next status body =
+    ref_id_field ref_id
+    ++ number_field tag.number_of_records_returned returned
+    ++ number_field tag.next_result_set_position next
+    ++ number_field tag.present_status status
+    ++ body_octets body
+
+-- the fields of a TermInfo: the term, and in how many records it stands
+abbrev pub term_info_fields : ScanEntry → List ℕ
+term_info_fields entry = term_octets entry.term ++ optional (number_field tag.global_occurrences) entry.occurrences
+
+-- Entry, as a TermInfo
+unfoldable pub entry_octets : ScanEntry → List ℕ
+entry_octets entry = tree_field tag.term_info (term_info_fields entry)
+
+-- the entries of a ListEntries, which are left out where there are none beside diagnostics
+abbrev pub list_entries_field : List ScanEntry → List Diag → List ℕ
+list_entries_field [] [] = tree_field tag.list_entries []
+list_entries_field [] (diag ∷ diags) = []
+list_entries_field (entry ∷ entries) diags = tree_field tag.list_entries (flat_map entry_octets (entry ∷ entries))
+
+-- the diagnostics of a ListEntries, where there are some
+abbrev pub scan_diags_field : List Diag → List ℕ
+scan_diags_field [] = []
+scan_diags_field (diag ∷ diags) = tree_field tag.nonsurrogate_diagnostics (flat_map diag_octets (diag ∷ diags))
+
+-- ListEntries
+unfoldable pub list_entries : List ScanEntry → List Diag → List ℕ
+list_entries entries diags = list_entries_field entries diags ++ scan_diags_field diags
+
+-- the fields of a ScanResponse
+unfoldable pub scan_reply_fields : Option (List ℕ) → ℕ → ScanAnswer → List Diag → List ℕ
+scan_reply_fields ref_id status answer diags =
+    ref_id_field ref_id
+    ++ number_field tag.scan_status status
+    ++ number_field tag.number_of_entries_returned (length answer.entries)
+    ++ optional (number_field tag.position_of_term) answer.position
+    ++ tree_field tag.scan_entries (list_entries answer.entries diags)
 
 -- the one written form of a reply
 abbrev pub spell_reply : Reply → List ℕ
-spell_reply (reply.Init init result) = element (constructed 21) (init_fields init ++ flag_at 12 result ++ implementation_fields)
-spell_reply (reply.Search ref_id count returned next ok status body) = element (constructed 23) (search_reply_fields ref_id count returned next ok status body)
+spell_reply (reply.Init init result) = tree_field tag.init_response (init_reply_fields init result)
+spell_reply (reply.Search ref_id count returned next ok status body) =
+    tree_field tag.search_response (search_reply_fields ref_id count returned next ok status body)
+spell_reply (reply.Present ref_id returned next status body) =
+    tree_field tag.present_response (present_reply_fields ref_id returned next status body)
+spell_reply (reply.Scan ref_id status answer diags) = tree_field tag.scan_response (scan_reply_fields ref_id status answer diags)
 spell_reply (reply.Close close) = close_octets close

@@ -14,7 +14,7 @@ use Rattle.z_types.specs.declared.requests.Search.{Search}
 use Rattle.z_types.specs.declared.requests.Close.{Close}
 use Rattle.z_types.specs.declared.requests.Request.{Request}
 use Rattle.z_types.specs.declared.requests.Request.TheVariants as request
-use Rattle.unit_forms.specs.Fields.{number_at, flag_at, text_at}
+use Rattle.unit_forms.specs.Fields.{number_field, boolean_field, octets_field}
 use Rattle.unit_forms.specs.Requests.{spell_request}
 
 -- a number of a field: 0 to 2147483647
@@ -63,7 +63,7 @@ IsServedQuery (Bad diag) = ⊥
 
 -- the bounds, the replace indicator and the name of such a Search, as they are written
 unfoldable pub shown_nothing : List ℕ
-shown_nothing = number_at 13 0 ++ number_at 14 1 ++ number_at 15 0 ++ flag_at 16 true ++ text_at 17 (codes "1")
+shown_nothing = number_field 13 0 ++ number_field 14 1 ++ number_field 15 0 ++ boolean_field 16 true ++ octets_field 17 (codes "1")
 
 -- a Search of one database for the set `1`, that shows no records
 pub record IsServedSearch (search : Search) : Type 0 where
@@ -89,6 +89,8 @@ pub record IsServedClose (close : Close) : Type 0 where
 abbrev pub IsServed : Request → Type 0
 IsServed (request.Init init) = IsServedInit init
 IsServed (request.Search search) = IsServedSearch search
+IsServed (request.Present present) = ⊥
+IsServed (request.Scan scan) = ⊥
 IsServed (request.Close close) = IsServedClose close
 
 -- the unit is the written form of the request

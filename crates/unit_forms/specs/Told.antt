@@ -31,8 +31,10 @@ IsToldBody (body.Records records) = (0 < length records) × AllByRecursion IsTol
 IsToldBody (body.Diag diag) = IsToldDiag diag
 IsToldBody (body.Diags diags) = AllByRecursion IsToldDiag diags
 
--- a reply that its octets tell whole
+-- a reply that its octets tell whole; a PresentResponse and a ScanResponse are not written yet
 abbrev pub IsTold : Reply → Type 0
 IsTold (reply.Init init result) = Unit {0}
 IsTold (reply.Search ref_id count returned next ok status body) = IsToldBody body
+IsTold (reply.Present ref_id returned next status body) = ⊥
+IsTold (reply.Scan ref_id status answer diags) = ⊥
 IsTold (reply.Close close) = Unit {0}

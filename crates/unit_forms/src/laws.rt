@@ -1,7 +1,7 @@
 //! What is true of every unit: it is the written form of one value at most. These functions do
 //! nothing; what they ensure is the law.
 
-ghost use Rattle.unit_forms.specs.OneValue.{HasOneValue, HasOneReading};
+ghost use Rattle.z_types.specs.OneValue.{HasOneValue, HasOneReading};
 ghost use Rattle.unit_forms.specs.Requests.{spell_request};
 ghost use Rattle.unit_forms.specs.Replies.{spell_reply};
 ghost use Rattle.unit_forms.specs.Served.{IsServed, IsReading};

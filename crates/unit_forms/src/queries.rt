@@ -2,14 +2,13 @@
 
 ghost use Rattle.std.specs.Prelude.{IfOk};
 ghost use Rattle.std.specs.List.{flat_map};
-ghost use Rattle.unit_forms.specs.Read.{IsReadAs};
+ghost use Rattle.z_types.specs.ReadAs.{IsReadAs};
 ghost use Rattle.unit_forms.specs.Query.{attr_fields, attr_octets, tree_octets, query_octets};
 ghost use Rattle.unit_forms.specs.Served.{IsServedAttr, AreServedAttrs, IsServedTree, IsServedRpn};
 
 use crate::elements::{
-    constructed_field, field, identifier_field, only_constructed, only_primitive,
+    SEQUENCE, constructed_field, field, identifier_field, only_constructed, only_primitive,
 };
-use crate::fields::SEQUENCE;
 use crate::values::{number_field, only_number};
 use std::alloc::Global;
 use z_ber::oid_of;

@@ -3,8 +3,8 @@
 
 ghost use Rattle.std.specs.Prelude.{◌≡◌, ℕ, List, ◌++◌, None, IfOk};
 ghost use Rattle.std.specs.Option.{option_copied};
-ghost use Rattle.unit_forms.specs.Fields.{ref_id_field, text_at};
-ghost use Rattle.unit_forms.specs.Read.{IsReadAs};
+ghost use Rattle.unit_forms.specs.Fields.{ref_id_field, octets_field};
+ghost use Rattle.z_types.specs.ReadAs.{IsReadAs};
 ghost use Rattle.unit_forms.specs.Requests.{init_fields, close_fields};
 ghost use Rattle.unit_forms.specs.Served.{IsServedInit, IsServedClose, IsReading};
 
@@ -44,7 +44,8 @@ pub fn read_request(alloc: Global, unit: &[u8]) -> Result<Option<Request>, Memor
 /// The referenceId where octets begin with one, and what follows it.
 fn ref_id_of(bytes: &[u8]) -> (Option<&[u8]>, &[u8])
     ensures spelled { bytes.now ≡ ref_id_field (option_copied result.0) ++ result.1.now }
-    ensures none { option_copied result.0 ≡ None → (octets rest : List ℕ) → bytes.now ≡ text_at 2 octets ++ rest → ⊥ }
+    ensures none { option_copied result.0 ≡ None → (octets rest : List ℕ)
+        → bytes.now ≡ octets_field 2 octets ++ rest → ⊥ }
 {
     match primitive_field(2, bytes) {
         Some((octets, rest)) => (Some(octets), rest),

@@ -1,7 +1,7 @@
 //! A Search, read where it is one of the form that is served (ANSI/NISO Z39.50-2003, SearchRequest).
 
 ghost use Rattle.std.specs.Prelude.{◌≡◌, ℕ, List, [], ◌∷◌, ◌++◌, IfOk, IfSome, IfNone};
-ghost use Rattle.unit_forms.specs.Read.{IsReadAs};
+ghost use Rattle.z_types.specs.ReadAs.{IsReadAs};
 ghost use Rattle.unit_forms.specs.Requests.{search_fields};
 ghost use Rattle.unit_forms.specs.Served.{IsServedSearch, shown_nothing};
 

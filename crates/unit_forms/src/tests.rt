@@ -4,8 +4,7 @@ use crate::*;
 use std::alloc::Global;
 use std::test::Fail;
 use z_types::{
-    Asked, Attr, Body, Close, Diag, Init, List, Memory, Oid, Reply, Request, Rpn, RpnQuery, Search,
-    Term, Text,
+    Asked, Attr, Close, Init, List, Memory, Oid, Request, Rpn, RpnQuery, Search, Term, Text,
 };
 
 /// An Init of versions 1 to 3, options 0 to 14 and both sizes 1048576.
@@ -108,19 +107,6 @@ fn search(alloc: Global) -> Result<Search, Memory> {
     })
 }
 
-/// The reply to a Search of this count, with this next position and this in the records' place.
-fn found(count: u32, next: u32, ok: bool, body: Body) -> Reply {
-    Reply::Search {
-        ref_id: None,
-        count,
-        returned: 0,
-        next,
-        ok,
-        status: None,
-        body,
-    }
-}
-
 /// Whether a unit reads as this request.
 fn reads(alloc: Global, unit: &[u8], request: Request) -> Result<bool, Memory> {
     match read_request(alloc, unit)? {
@@ -170,48 +156,6 @@ fn a_unit_is_read_in_its_one_form(rt: HostRuntime) -> Result<(), Fail> {
     }
     for unit in [INIT, SEARCH, CLOSE] {
         assert!(rt; is_none_of_another_length(alloc, unit)?, "another length");
-    }
-    Ok(())
-}
-
-#[test]
-fn a_reply_is_written_in_its_one_form(rt: HostRuntime) -> Result<(), Fail> {
-    let alloc = rt.alloc();
-    let nope = Diag::bib1(alloc, 235, Text::copy_of(alloc, b"Nope")?)?;
-    let replies: [(Reply, &[u8]); 4] = [
-        (
-            // options 0, 1, 7 and 14
-            Reply::Init {
-                init: init(7, 0x4083),
-                result: true,
-            },
-            &[
-                0xb5, 0x29, 0x83, 2, 5, 0xe0, 0x84, 3, 1, 0xc1, 2, 0x85, 3, 0x10, 0, 0, 0x86, 3,
-                0x10, 0, 0, 0x8c, 1, 0xff, 0x9f, 0x6e, 2, b'm', b'p', 0x9f, 0x6f, 7, b'g', b'a',
-                b't', b'e', b'w', b'a', b'y', 0x9f, 0x70, 1, b'1',
-            ],
-        ),
-        (
-            found(3, 1, true, Body::None),
-            &[
-                0xb7, 0x0c, 0x97, 1, 3, 0x98, 1, 0, 0x99, 1, 1, 0x96, 1, 0xff,
-            ],
-        ),
-        (
-            found(0, 0, false, Body::Diag(nope)),
-            &[
-                0xb7, 0x23, 0x97, 1, 0, 0x98, 1, 0, 0x99, 1, 0, 0x96, 1, 0, 0xbf, 0x81, 2, 0x13, 6,
-                7, 0x2a, 0x86, 0x48, 0xce, 0x13, 4, 1, 2, 2, 0, 0xeb, 0x1b, 4, b'N', b'o', b'p',
-                b'e',
-            ],
-        ),
-        (Reply::Close(finished()), CLOSE),
-    ];
-    for (reply, octets) in &replies {
-        assert!(rt;
-            write_reply(alloc, reply)?.as_slice() == *octets,
-            "{octets:?}"
-        );
     }
     Ok(())
 }

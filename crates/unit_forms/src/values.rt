@@ -2,7 +2,7 @@
 
 ghost use Rattle.std.specs.Prelude.{◌≡◌, ℕ, pos, List, ◌++◌, ◌<◌, ◌^◌, IfSome, IfNone, true, false};
 ghost use Rattle.z_ber.specs.Written.{int_octets, bits_octets};
-ghost use Rattle.unit_forms.specs.Fields.{number_at, bits_at};
+ghost use Rattle.unit_forms.specs.Fields.{number_field, bits_field};
 
 use crate::elements::{only_primitive, primitive_field};
 use z_ber::{bits_of, int_of};
@@ -12,8 +12,10 @@ const MOST: i64 = 2147483647;
 
 /// The number from 0 to 2147483647 whose written form contents are.
 fn number_of(contents: &[u8]) -> Option<u32>
-    ensures found { IfSome result (λ value. (value < 2 ^ 31) × (contents.now ≡ int_octets (pos value))) }
-    ensures none { IfNone result ((value : ℕ) → value < 2 ^ 31 → contents.now ≡ int_octets (pos value) → ⊥) }
+    ensures found { IfSome result
+        (λ value. (value < 2 ^ 31) × (contents.now ≡ int_octets (pos value))) }
+    ensures none { IfNone result ((value : ℕ) → value < 2 ^ 31
+        → contents.now ≡ int_octets (pos value) → ⊥) }
 {
     match int_of(contents) {
         Some(value) => {
@@ -38,8 +40,10 @@ fn is_number(value: i64) -> bool
 /// The number of the field that octets begin with, and what follows it.
 pub(crate) fn number_field(number: u32, bytes: &[u8]) -> Option<(u32, &[u8])>
     requires { number < 2 ^ 31 }
-    ensures found { IfSome result (λ x. (x.0 < 2 ^ 31) × (bytes.now ≡ number_at number x.0 ++ x.1.now)) }
-    ensures none { IfNone result ((value : ℕ) (rest : List ℕ) → value < 2 ^ 31 → bytes.now ≡ number_at number value ++ rest → ⊥) }
+    ensures found { IfSome result
+        (λ x. (x.0 < 2 ^ 31) × (bytes.now ≡ number_field number x.0 ++ x.1.now)) }
+    ensures none { IfNone result ((value : ℕ) (rest : List ℕ) → value < 2 ^ 31
+        → bytes.now ≡ number_field number value ++ rest → ⊥) }
 {
     match primitive_field(number, bytes) {
         Some((contents, rest)) => match number_of(contents) {
@@ -53,8 +57,10 @@ pub(crate) fn number_field(number: u32, bytes: &[u8]) -> Option<(u32, &[u8])>
 /// The number of the field that octets are.
 pub(crate) fn only_number(number: u32, bytes: &[u8]) -> Option<u32>
     requires { number < 2 ^ 31 }
-    ensures found { IfSome result (λ value. (value < 2 ^ 31) × (bytes.now ≡ number_at number value)) }
-    ensures none { IfNone result ((value : ℕ) → value < 2 ^ 31 → bytes.now ≡ number_at number value → ⊥) }
+    ensures found { IfSome result
+        (λ value. (value < 2 ^ 31) × (bytes.now ≡ number_field number value)) }
+    ensures none { IfNone result ((value : ℕ) → value < 2 ^ 31
+        → bytes.now ≡ number_field number value → ⊥) }
 {
     match only_primitive(number, bytes) {
         Some(contents) => match number_of(contents) {
@@ -68,8 +74,10 @@ pub(crate) fn only_number(number: u32, bytes: &[u8]) -> Option<u32>
 /// The bits of the field that octets begin with, and what follows it.
 pub(crate) fn bits_field(number: u32, bytes: &[u8]) -> Option<(u32, &[u8])>
     requires { number < 2 ^ 31 }
-    ensures found { IfSome result (λ x. (x.0 < 2 ^ 32) × (bytes.now ≡ bits_at number x.0 ++ x.1.now)) }
-    ensures none { IfNone result ((value : ℕ) (rest : List ℕ) → value < 2 ^ 32 → bytes.now ≡ bits_at number value ++ rest → ⊥) }
+    ensures found { IfSome result
+        (λ x. (x.0 < 2 ^ 32) × (bytes.now ≡ bits_field number x.0 ++ x.1.now)) }
+    ensures none { IfNone result ((value : ℕ) (rest : List ℕ) → value < 2 ^ 32
+        → bytes.now ≡ bits_field number value ++ rest → ⊥) }
 {
     match primitive_field(number, bytes) {
         Some((contents, rest)) => match bits_of(contents) {

@@ -1,5 +1,5 @@
 use Rattle.std.proofs.Common.{sym, ◌∙◌}
-use Rattle.unit_forms.proofs.Tags.{tag_exact, tag_other}
+use Rattle.unit_forms.proofs.EqualTags.{tag_exact, tag_other}
 use Rattle.unit_forms.proofs.elements.is_same_tag.Goals as goal
 
 pub returns : goal.returns

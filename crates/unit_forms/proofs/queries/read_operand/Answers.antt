@@ -1,7 +1,7 @@
 use Rattle.std.proofs.Common.{sym, ap, ◌∙◌}
 use Rattle.unit_forms.proofs.Peel.{peel, peel_only}
 use Rattle.unit_forms.proofs.QueryLemmas.{operand_of, operand-made}
-use Rattle.unit_forms.specs.Fields.{text_at}
+use Rattle.unit_forms.specs.Fields.{octets_field}
 use Rattle.unit_forms.proofs.queries.read_operand.Goals as goal
 
 pub returns-in_default : goal.returns-in_default
@@ -36,4 +36,4 @@ returns-in_default-2 c = λ x served e.
 pub returns : goal.returns
 returns c =
     let attrs = rw c.in-Some-2.is at c.in_ok-attrs.ensures in
-    rw c.leaf.ensures ((attrs.0, tt), operand-made _ _ _ _ _ _ _ c.in-Some.ensures.found c.in-Some-only_constructed.ensures.found c.in-Some-constructed_field.ensures.found attrs.1 (c.in-Some-only_primitive.ensures.found ∙ ap (text_at 45) (sym c.in_ok-copy_of.ensures)))
+    rw c.leaf.ensures ((attrs.0, tt), operand-made _ _ _ _ _ _ _ c.in-Some.ensures.found c.in-Some-only_constructed.ensures.found c.in-Some-constructed_field.ensures.found attrs.1 (c.in-Some-only_primitive.ensures.found ∙ ap (octets_field 45) (sym c.in_ok-copy_of.ensures)))

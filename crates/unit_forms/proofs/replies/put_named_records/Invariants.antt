@@ -1,7 +1,0 @@
-use Rattle.std.proofs.Common.{◌≡◌, ◌++◌, take}
-use Rattle.std.specs.List.{flat_map}
-use Rattle.unit_forms.specs.Replies.{named_octets}
-use Rattle.unit_forms.proofs.replies.put_named_records.Given as goal
-
-abbrev pub invariant-loop-named : goal.invariant-loop-named
-invariant-loop-named l = l.out ≡ l.fn.out ++ flat_map named_octets (take l.named-index l.named-items)

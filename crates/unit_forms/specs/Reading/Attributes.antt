@@ -1,0 +1,72 @@
+-- Attributes and terms as they are read (ANSI/NISO Z39.50-2003, AttributesPlusTerm, AttributeElement, Term).
+use Rattle.std.specs.Prelude.{ℕ, List, [], ◌∷◌, Bool, true, ◌==◌, Option, Some, None, Result, Ok, Err, if◌then◌else◌}
+use Rattle.z_types.specs.declared.query.Attr.{Attr}
+use Rattle.z_types.specs.declared.query.Term.{Term}
+use Rattle.z_types.specs.declared.query.Term.TheVariants.{General, Number, Words}
+use Rattle.z_types.specs.declared.requests.Asked.{Asked}
+use Rattle.z_types.specs.declared.requests.Asked.TheVariants.{Good, Bad}
+use Rattle.z_ber.specs.declared.tag.Tag.{Tag}
+use Rattle.z_ber.specs.Element.{Forest}
+use Rattle.unit_forms.specs.declared.refusal.Refusal.{Refusal}
+use Rattle.unit_forms.specs.declared.refusal.Refusal.TheVariants.{BadValue}
+use Rattle.unit_forms.specs.Reading.Elements.{Field, has_tag, first_of}
+use Rattle.unit_forms.specs.Reading.Answers.{◌⊗◌, read_as, each, both_asked, asked_as, all_asked}
+use Rattle.unit_forms.specs.Reading.Rows.{octets_of, integer_of, number_of, oid_of, context, universal, required, required_of, optional, within}
+use Rattle.unit_forms.specs.Reading.Diagnostics.{other_form}
+
+-- attributeValue: numeric [121], or complex [224], which is not served
+abbrev pub value_of : Field → Result (Asked ℕ) Refusal
+value_of field = if field.tag.number == 224 then Ok (Bad (other_form 224)) else read_as Good (number_of field)
+
+abbrev pub value_choice : List Tag
+value_choice = context 121 ∷ context 224 ∷ []
+
+abbrev attr_with : Option (List ℕ) → ℕ → ℕ → Attr
+attr_with set kind value = record { set = set; kind = kind; value = value }
+
+abbrev as_attr : Option (List ℕ) × (ℕ × Asked ℕ) → Asked Attr
+as_attr p = asked_as (attr_with p.0 p.1.0) p.1.1
+
+-- AttributeElement: attributeSet [1] OPTIONAL, attributeType [120], attributeValue
+unfoldable pub attr_in : Forest → Result (Asked Attr) Refusal
+attr_in fields =
+    read_as as_attr (optional 1 oid_of fields ⊗ required 120 number_of fields ⊗ required_of 121 value_choice value_of fields)
+
+-- each attribute is a SEQUENCE
+abbrev pub attr_of : Field → Result (Asked Attr) Refusal
+attr_of field = if has_tag field.tag (universal 16) then within attr_in field else Err (BadValue field.tag.number)
+
+-- AttributeList [44]: every element in it
+unfoldable pub attrs_in : Forest → Result (Asked (List Attr)) Refusal
+attrs_in elements = read_as all_asked (each (λ field. true) attr_of elements)
+
+abbrev pub attrs_of : Field → Result (Asked (List Attr)) Refusal
+attrs_of field = within attrs_in field
+
+-- Term: general [45], numeric [215], characterString [216], or another one, which is not served
+abbrev pub term_choice : List Tag
+term_choice =
+    context 45 ∷ context 215 ∷ context 216 ∷ context 217 ∷ context 218 ∷ context 219 ∷ context 220 ∷ context 221 ∷ []
+
+abbrev pub term_of : Field → Result (Asked Term) Refusal
+term_of field =
+    if field.tag.number == 45 then read_as (λ octets. Good (General octets)) (octets_of field)
+    else (if field.tag.number == 215 then read_as (λ number. Good (Number number)) (integer_of field)
+    else (if field.tag.number == 216 then read_as (λ octets. Good (Words octets)) (octets_of field)
+    else Ok (Bad (other_form field.tag.number))))
+
+-- whether the attributes stand before the term
+abbrev pub is_attributes_first : Option Field → Bool
+is_attributes_first None = true
+is_attributes_first (Some field) = field.tag.number == 44
+
+-- attributes and a term, of which the first from the left tells what is not served
+abbrev pub operand_asked : Bool → Asked (List Attr) × Asked Term → Asked (List Attr × Term)
+operand_asked attributes_first p =
+    if attributes_first then both_asked p.0 p.1 else asked_as (λ q. (q.1, q.0)) (both_asked p.1 p.0)
+
+-- AttributesPlusTerm: AttributeList [44], Term
+unfoldable pub attrs_and_term_in : Forest → Result (Asked (List Attr × Term)) Refusal
+attrs_and_term_in fields =
+    read_as (operand_asked (is_attributes_first (first_of (context 44 ∷ term_choice) fields)))
+    (required 44 attrs_of fields ⊗ required_of 45 term_choice term_of fields)

@@ -1,0 +1,14 @@
+-- A Close as it is read (ANSI/NISO Z39.50-2003, Close).
+use Rattle.std.specs.Prelude.{ℕ, List, Option, Result}
+use Rattle.z_types.specs.declared.requests.Close.{Close}
+use Rattle.z_ber.specs.Element.{Forest}
+use Rattle.unit_forms.specs.declared.refusal.Refusal.{Refusal}
+use Rattle.unit_forms.specs.Reading.Answers.{◌⊗◌, read_as}
+use Rattle.unit_forms.specs.Reading.Rows.{octets_of, number_of, required, optional}
+
+abbrev as_close : Option (List ℕ) × (ℕ × Option (List ℕ)) → Close
+as_close p = record { ref_id = p.0; reason = p.1.0; info = p.1.1 }
+
+-- referenceId [2] OPTIONAL, closeReason [211], diagnosticInformation [3] OPTIONAL
+unfoldable pub close_in : Forest → Result Close Refusal
+close_in fields = read_as as_close (optional 2 octets_of fields ⊗ required 211 number_of fields ⊗ optional 3 octets_of fields)

@@ -1,0 +1,25 @@
+-- An Init as it is read (ANSI/NISO Z39.50-2003, InitializeRequest and InitializeResponse).
+use Rattle.std.specs.Prelude.{ℕ, List, Bool, Option, Result}
+use Rattle.z_types.specs.declared.requests.Init.{Init}
+use Rattle.z_ber.specs.Element.{Forest}
+use Rattle.unit_forms.specs.declared.refusal.Refusal.{Refusal}
+use Rattle.unit_forms.specs.Reading.Answers.{◌⊗◌, read_as}
+use Rattle.unit_forms.specs.Reading.Rows.{octets_of, bits_of, number_of, truth_of, required, optional}
+
+abbrev as_init : Option (List ℕ) × (ℕ × (ℕ × (ℕ × ℕ))) → Init
+as_init p =
+    record { ref_id = p.0; versions = p.1.0; options = p.1.1.0; preferred = p.1.1.1.0; exceptional = p.1.1.1.1 }
+
+-- referenceId [2] OPTIONAL, protocolVersion [3], options [4], preferredMessageSize [5], exceptionalRecordSize [6]
+unfoldable pub init_in : Forest → Result Init Refusal
+init_in fields =
+    read_as as_init (
+    optional 2 octets_of fields
+    ⊗ required 3 bits_of fields
+    ⊗ required 4 bits_of fields
+    ⊗ required 5 number_of fields
+    ⊗ required 6 number_of fields)
+
+-- the same, and result [12]
+unfoldable pub init_response_in : Forest → Result (Init × Bool) Refusal
+init_response_in fields = init_in fields ⊗ required 12 truth_of fields

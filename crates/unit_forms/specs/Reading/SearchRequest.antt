@@ -1,0 +1,78 @@
+-- A Search as it is read (ANSI/NISO Z39.50-2003, SearchRequest).
+use Rattle.std.specs.Prelude.{ℕ, List, Bool, Option, Some, None, Result}
+use Rattle.z_types.specs.declared.query.RpnQuery.{RpnQuery}
+use Rattle.z_types.specs.declared.requests.Asked.{Asked}
+use Rattle.z_types.specs.declared.requests.Asked.TheVariants.{Good, Bad}
+use Rattle.z_types.specs.declared.requests.Search.{Search}
+use Rattle.z_ber.specs.Element.{Forest}
+use Rattle.unit_forms.specs.declared.refusal.Refusal.{Refusal}
+use Rattle.unit_forms.specs.Reading.Answers.{◌⊗◌, read_as}
+use Rattle.unit_forms.specs.Reading.Elements.{Field}
+use Rattle.unit_forms.specs.Reading.ElementNames.{names_of}
+use Rattle.unit_forms.specs.Reading.Queries.{query_in}
+use Rattle.unit_forms.specs.Reading.Rows.{octets_of, number_of, truth_of, oid_of, context, required, optional, within, each_with}
+
+-- the names of databases, each a DatabaseName [105]
+unfoldable pub databases_in : Forest → Result (List (List ℕ)) Refusal
+databases_in elements = each_with (context 105) octets_of elements
+
+abbrev pub databases_of : Field → Result (List (List ℕ)) Refusal
+databases_of field = within databases_in field
+
+-- an element set name, where one is told that is served
+abbrev pub name_in : Option (Asked (List ℕ)) → Option (List ℕ)
+name_in None = None
+name_in (Some (Good name)) = Some name
+name_in (Some (Bad diag)) = None
+
+-- element set names that are not served make the query so, where it is served itself
+abbrev pub with_names : Option (Asked (List ℕ)) → Asked RpnQuery → Asked RpnQuery
+with_names names (Bad diag) = Bad diag
+with_names None (Good query) = Good query
+with_names (Some (Good name)) (Good query) = Good query
+with_names (Some (Bad diag)) (Good query) = Bad diag
+
+-- referenceId [2] OPTIONAL, smallSetUpperBound [13], largeSetLowerBound [14], mediumSetPresentNumber [15]
+abbrev pub Bounds : Type 0
+Bounds = Option (List ℕ) × (ℕ × (ℕ × ℕ))
+
+unfoldable pub bounds_in : Forest → Result Bounds Refusal
+bounds_in fields =
+    optional 2 octets_of fields ⊗ required 13 number_of fields ⊗ required 14 number_of fields ⊗ required 15 number_of fields
+
+-- replaceIndicator [16], resultSetName [17], databaseNames [18]
+abbrev pub Named : Type 0
+Named = Bool × (List ℕ × List (List ℕ))
+
+unfoldable pub named_in : Forest → Result Named Refusal
+named_in fields = required 16 truth_of fields ⊗ required 17 octets_of fields ⊗ required 18 databases_of fields
+
+-- smallSetElementSetNames [100] OPTIONAL, mediumSetElementSetNames [101] OPTIONAL, preferredRecordSyntax [104] OPTIONAL, query [21]
+abbrev pub Wanted : Type 0
+Wanted = Option (Asked (List ℕ)) × (Option (Asked (List ℕ)) × (Option (List ℕ) × Asked RpnQuery))
+
+unfoldable pub wanted_in : Forest → Result Wanted Refusal
+wanted_in fields =
+    optional 100 names_of fields
+    ⊗ optional 101 names_of fields
+    ⊗ optional 104 oid_of fields
+    ⊗ required 21 (within query_in) fields
+
+abbrev pub as_search : Bounds × (Named × Wanted) → Search
+as_search p = record {
+  ref_id = p.0.0;
+  small = p.0.1.0;
+  large = p.0.1.1.0;
+  medium = p.0.1.1.1;
+  replace = p.1.0.0;
+  set_name = p.1.0.1.0;
+  dbs = p.1.0.1.1;
+  small_element = name_in p.1.1.0;
+  medium_element = name_in p.1.1.1.0;
+  syntax = p.1.1.1.1.0;
+  query = with_names p.1.1.1.0 (with_names p.1.1.0 p.1.1.1.1.1);
+}
+
+-- SearchRequest
+unfoldable pub search_in : Forest → Result Search Refusal
+search_in fields = read_as as_search (bounds_in fields ⊗ named_in fields ⊗ wanted_in fields)

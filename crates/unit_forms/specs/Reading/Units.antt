@@ -1,0 +1,54 @@
+-- Units as they are read (ANSI/NISO Z39.50-2003, PDU).
+use Rattle.std.specs.Prelude.{ℕ, Result, Err, ◌==◌, if◌then◌else◌}
+use Rattle.z_types.specs.declared.requests.Request.{Request}
+use Rattle.z_types.specs.declared.requests.Request.TheVariants as request
+use Rattle.z_types.specs.declared.replies.Reply.{Reply}
+use Rattle.z_types.specs.declared.replies.Reply.TheVariants as reply
+use Rattle.z_ber.specs.Element.{Forest}
+use Rattle.unit_forms.specs.declared.refusal.Refusal.{Refusal}
+use Rattle.unit_forms.specs.declared.refusal.Refusal.TheVariants.{UnknownUnit}
+use Rattle.unit_forms.specs.Reading.Answers.{read_as, read_or}
+use Rattle.unit_forms.specs.Reading.CloseUnit.{close_in}
+use Rattle.unit_forms.specs.Reading.Elements.{Field, first_element}
+use Rattle.unit_forms.specs.Reading.InitRequest.{init_in}
+use Rattle.unit_forms.specs.Reading.PresentRequest.{present_in}
+use Rattle.unit_forms.specs.Reading.Responses.{init_reply_in, search_reply_in, present_reply_in, scan_reply_in}
+use Rattle.unit_forms.specs.Reading.Rows.{within}
+use Rattle.unit_forms.specs.Reading.ScanRequest.{scan_in}
+use Rattle.unit_forms.specs.Reading.SearchRequest.{search_in}
+
+-- initRequest [20], searchRequest [22], presentRequest [24], scanRequest [35], close [48]
+abbrev pub numbered_request : ℕ → Field → Result Request Refusal
+numbered_request number field =
+    if number == 20 then read_as request.Init (within init_in field)
+    else (if number == 22 then read_as request.Search (within search_in field)
+    else (if number == 24 then read_as request.Present (within present_in field)
+    else (if number == 35 then read_as request.Scan (within scan_in field)
+    else (if number == 48 then read_as request.Close (within close_in field)
+    else Err (UnknownUnit number)))))
+
+-- a unit has a tag of the context class
+unfoldable pub request_of : Field → Result Request Refusal
+request_of field =
+    if field.tag.class == 2 then numbered_request field.tag.number field else Err (UnknownUnit field.tag.number)
+
+-- initResponse [21], searchResponse [23], presentResponse [25], scanResponse [36], close [48]
+abbrev pub numbered_reply : ℕ → Field → Result Reply Refusal
+numbered_reply number field =
+    if number == 21 then within init_reply_in field
+    else (if number == 23 then within search_reply_in field
+    else (if number == 25 then within present_reply_in field
+    else (if number == 36 then within scan_reply_in field
+    else (if number == 48 then read_as reply.Close (within close_in field)
+    else Err (UnknownUnit number)))))
+
+unfoldable pub reply_of : Field → Result Reply Refusal
+reply_of field =
+    if field.tag.class == 2 then numbered_reply field.tag.number field else Err (UnknownUnit field.tag.number)
+
+-- the request, or the reply, that a unit with this tree is; an element has a first element
+abbrev pub request_in : Forest → Result Request Refusal
+request_in tree = read_or (UnknownUnit 0) request_of (first_element tree)
+
+abbrev pub reply_in : Forest → Result Reply Refusal
+reply_in tree = read_or (UnknownUnit 0) reply_of (first_element tree)

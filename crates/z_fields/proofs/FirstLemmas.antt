@@ -1,0 +1,75 @@
+-- The first element of some tags, met from the front.
+use Rattle.std.proofs.Common.{◌≡◌, ◌∙◌, ◌<◌, Bool, true, false, cond, ◌==◌, List, Some, None, sym, ap, arith, refl}
+use Rattle.z_ber.specs.declared.tag.Tag.{Tag}
+use Rattle.z_ber.specs.Element.{Forest, none, leaf, branch}
+use Rattle.unit_forms.specs.Reading.Elements.{Field, first_element, other_elements, is_one_of, first_of, first_context}
+use Rattle.z_fields.specs.Trees.{count}
+
+some_none : {P : Type 0} (f : Field) → Some f ≡ None → P
+some_none f e = absurd (grind arith)
+
+field_is : (f g : Field) → Some f ≡ Some g → f ≡ g
+field_is f g e = cc
+
+pub none_at : (choice : List Tag) (forest : Forest) → None ≡ first_element forest → first_of choice forest ≡ None
+none_at choice none e = refl
+none_at choice (leaf t c os) e = some_none _ (sym e)
+none_at choice (branch t c is os) e = some_none _ (sym e)
+
+pub first_at : (choice : List Tag) (forest : Forest) (f : Field) → Some f ≡ first_element forest → first_of choice forest ≡ cond (is_one_of choice f.tag) (Some f) (first_of choice (other_elements forest))
+first_at choice none f e = some_none f e
+first_at choice (leaf t c os) f e = rw (field_is f _ e) refl
+first_at choice (branch t c is os) f e = rw (field_is f _ e) refl
+
+none_context_at : (forest : Forest) → None ≡ first_element forest → first_context forest ≡ None
+none_context_at none e = refl
+none_context_at (leaf t c os) e = some_none _ (sym e)
+none_context_at (branch t c is os) e = some_none _ (sym e)
+
+context_at : (forest : Forest) (f : Field) → Some f ≡ first_element forest → first_context forest ≡ cond (f.tag.class == 2) (Some f) (first_context (other_elements forest))
+context_at none f e = some_none f e
+context_at (leaf t c os) f e = rw (field_is f _ e) refl
+context_at (branch t c is os) f e = rw (field_is f _ e) refl
+
+when : {A : Type 0} (b : Bool) (x y : A) → b ≡ true → cond b x y ≡ x
+when b x y e = rw e refl
+
+unless : {A : Type 0} (b : Bool) (x y : A) → b ≡ false → cond b x y ≡ y
+unless b x y e = rw e refl
+
+-- no element is left, and none was passed that is the one
+pub none_first : (choice : List Tag) (start forest : Forest) → first_of choice start ≡ first_of choice forest → None ≡ first_element forest → None ≡ first_of choice start
+none_first choice start forest passed e = sym (passed ∙ none_at choice forest e)
+
+-- the element at the front is the one
+pub here_first : (choice : List Tag) (start forest : Forest) (f : Field) → first_of choice start ≡ first_of choice forest → Some f ≡ first_element forest → is_one_of choice f.tag ≡ true → Some f ≡ first_of choice start
+here_first choice start forest f passed e y = sym (passed ∙ first_at choice forest f e ∙ when (is_one_of choice f.tag) _ _ y)
+
+-- it is passed
+pub later_first : (choice : List Tag) (start forest others : Forest) (f : Field) → first_of choice start ≡ first_of choice forest → Some f ≡ first_element forest → others ≡ other_elements forest → is_one_of choice f.tag ≡ false → first_of choice start ≡ first_of choice others
+later_first choice start forest others f passed e o y =
+    passed ∙ first_at choice forest f e ∙ unless (is_one_of choice f.tag) _ _ y ∙ ap (first_of choice) (sym o)
+
+-- likewise of the context class
+pub none_context : (start forest : Forest) → first_context start ≡ first_context forest → None ≡ first_element forest → None ≡ first_context start
+none_context start forest passed e = sym (passed ∙ none_context_at forest e)
+
+pub here_context : (start forest : Forest) (f : Field) → first_context start ≡ first_context forest → Some f ≡ first_element forest → (f.tag.class == 2) ≡ true → Some f ≡ first_context start
+here_context start forest f passed e y = sym (passed ∙ context_at forest f e ∙ when (f.tag.class == 2) _ _ y)
+
+pub later_context : (start forest others : Forest) (f : Field) → first_context start ≡ first_context forest → Some f ≡ first_element forest → others ≡ other_elements forest → (f.tag.class == 2) ≡ false → first_context start ≡ first_context others
+later_context start forest others f passed e o y =
+    passed ∙ context_at forest f e ∙ unless (f.tag.class == 2) _ _ y ∙ ap first_context (sym o)
+
+fewer_at : (forest : Forest) (f : Field) → Some f ≡ first_element forest → count (other_elements forest) < count forest
+fewer_at none f e = some_none f e
+fewer_at (leaf t c os) f e = omega arith
+fewer_at (branch t c is os) f e = omega arith
+
+-- fewer are left
+pub fewer : (forest others : Forest) (f : Field) → Some f ≡ first_element forest → others ≡ other_elements forest → count others < count forest
+fewer forest others f e o = let less = fewer_at forest f e in let same = ap count o in omega arith
+
+pub ruleset first_steps = (none_first, here_first, later_first, fewer)
+
+pub ruleset context_steps = (none_context, here_context, later_context, fewer)

@@ -1,0 +1,10 @@
+use Rattle.std.proofs.Common.{◌≡◌}
+use Rattle.unit_forms.specs.Reading.Elements.{first_of}
+use Rattle.z_fields.specs.Trees.{count}
+use Rattle.z_fields.proofs.elements.Elements.first_of.Given as goal
+
+abbrev pub invariant-loop-field : goal.invariant-loop-field
+invariant-loop-field l = first_of l.choice l.fn.self ≡ first_of l.choice l.self
+
+abbrev pub decreases-loop-field : goal.decreases-loop-field
+decreases-loop-field l = count l.self
