@@ -1,0 +1,2 @@
+pub mod KeptFront
+pub mod StructureLaws

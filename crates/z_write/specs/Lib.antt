@@ -1,0 +1,4 @@
+pub mod Heads
+pub mod Kept
+pub mod Opened
+pub mod Operators
