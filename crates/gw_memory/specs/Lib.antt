@@ -1,0 +1,4 @@
+pub mod Calls
+pub mod Planned
+pub mod Named
+pub mod Moments

@@ -1,0 +1,91 @@
+//! Files in memory.
+
+ghost use Rattle.std.specs.Prelude.{◌≡◌, ◌≢◌, ◌≤◌, ℕ, List, IfSome, Some};
+ghost use Rattle.gw_outside.specs.Counts.{Rose};
+ghost use Rattle.gw_memory.specs.Planned.{after_call};
+ghost use Rattle.std.specs.Option.{option_copied};
+ghost use Rattle.gw_outside.specs.Files.{FileFits};
+ghost use Rattle.gw_memory.specs.Named.{file_named, octets_named};
+
+use crate::calls::Calls;
+use gw_outside::{FileGot, Files};
+use std::alloc::Global;
+use z_types::{List, Text, copy};
+
+/// Files of stated names and octets.
+#[derive(Drop)]
+pub struct MemoryFiles {
+    files: List<(Text, Text)>,
+    calls: Calls,
+    faults: u64,
+    last_failed: Option<Text>,
+}
+
+impl MemoryFiles {
+    /// These files, each a name and its octets, of which the first of a name counts. The read of any
+    /// other name fails, and so do the reads of these numbers, counted from 1.
+    pub fn new(files: List<(Text, Text)>, failing: List<u64>) -> MemoryFiles
+        ensures contents { ⟦<MemoryFiles as Files>⟧.contents result ≡ octets_named files }
+        ensures faults { ⟦<MemoryFiles as Files>⟧.faults result ≡ 0 }
+    {
+        MemoryFiles {
+            files,
+            calls: Calls::new(failing),
+            faults: 0,
+            last_failed: None,
+        }
+    }
+}
+
+impl Files for MemoryFiles {
+    ghost faults = { λ files. files.faults };
+
+    ghost contents = { λ files. octets_named files.files };
+
+    ghost last_failed = { λ files. files.last_failed };
+
+    fn read_all(&mut self, _: Global, name: &Text, limit: usize) -> FileGot
+        ensures fits { FileFits (octets_named self.old.files name.now) limit result }
+        ensures failed { result ≡ FileGot.Failed → Rose self.old.faults self.new.faults }
+        ensures named { result ≡ FileGot.Failed →
+            IfSome self.new.last_failed (λ last. last ≡ name.now) }
+        ensures kept { result ≢ FileGot.Failed → self.new.last_failed ≡ self.old.last_failed }
+        ensures contents { (other : List ℕ) →
+            octets_named self.new.files other ≡ octets_named self.old.files other }
+        ensures faults { self.old.faults ≤ self.new.faults }
+        ensures counted { self.new.calls ≡ after_call self.old.calls }
+    {
+        if !self.calls.next_fails() {
+            if let Some(file) = file_named(self.files.as_slice(), name) {
+                return read_limited(&file.1, limit);
+            }
+        }
+        let Ok(name) = copy(name) else {
+            return FileGot::Memory;
+        };
+        self.last_failed = Some(name);
+        self.faults = self.faults.saturating_add(1);
+        FileGot::Failed
+    }
+}
+
+/// The file of a name.
+fn file_named<'a>(files: &'a [(Text, Text)], name: &Text) -> Option<&'a (Text, Text)>
+    ensures { option_copied result ≡ file_named files.now name.now }
+{
+    files.iter().find(|file| file.0 == *name)
+}
+
+/// A file of these octets, read up to a limit.
+fn read_limited(octets: &Text, limit: usize) -> FileGot
+    ensures fits { FileFits (Some octets.now) limit result }
+    ensures read { result ≢ FileGot.Failed }
+{
+    if limit < octets.len() {
+        return FileGot::Longer;
+    }
+    match copy(octets) {
+        Ok(octets) => FileGot::Whole(octets),
+        Err(_) => FileGot::Memory,
+    }
+}

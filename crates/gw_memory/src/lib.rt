@@ -1,0 +1,16 @@
+//! The outside in memory, for tests and trials: files, sinks, sources and clocks with stated contents,
+//! which they tell, and with the calls that are to fail.
+#![tactic(auto)]
+
+mod calls;
+mod clocks;
+mod files;
+mod sinks;
+mod sources;
+#[cfg(test)]
+mod tests;
+
+pub use clocks::MemoryClock;
+pub use files::MemoryFiles;
+pub use sinks::MemorySink;
+pub use sources::MemorySource;

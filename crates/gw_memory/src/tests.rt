@@ -1,0 +1,92 @@
+//! Each object in memory gives and takes what was stated, and fails at the calls that are listed.
+
+use crate::*;
+use gw_outside::{Clock, FileGot, Files, Got, Sink, Source, Took, write_all};
+use std::alloc::Global;
+use std::test::Fail;
+use z_types::{List, Memory, Text};
+
+/// The list of these numbers.
+fn numbers(alloc: Global, items: &[u64]) -> Result<List<u64>, Memory> {
+    let mut list = List::new(alloc);
+    for item in items {
+        list.push(*item)?;
+    }
+    Ok(list)
+}
+
+#[test]
+fn a_sink_keeps_each_piece_and_fails_at_the_writes_that_are_listed(
+    rt: HostRuntime,
+) -> Result<(), Fail> {
+    let alloc = rt.alloc();
+    let mut whole = MemorySink::new(alloc, numbers(alloc, &[2])?);
+    let answers = [whole.write(b"abc"), whole.write(b"de"), whole.write(b"f")];
+    assert_eq!(rt; answers, [Took::Bytes(3), Took::Failed, Took::Bytes(1)]);
+    assert_eq!(rt; whole.received(), b"abcf".as_slice());
+    for (failing, written, left) in [
+        (0, true, b"abcde".as_slice()),
+        (1, false, b""),
+        (3, false, b"abcd"),
+    ] {
+        let mut parts = MemorySink::taking(alloc, 2, numbers(alloc, &[failing])?);
+        assert_eq!(rt; write_all(&mut parts, b"abcde"), written, "at {failing}");
+        assert_eq!(rt; parts.received(), left, "at {failing}");
+    }
+    Ok(())
+}
+
+#[test]
+fn a_source_fills_each_buffer_and_ends(rt: HostRuntime) -> Result<(), Fail> {
+    let alloc = rt.alloc();
+    let mut source = MemorySource::new(Text::copy_of(alloc, b"abc")?, numbers(alloc, &[2])?);
+    let mut buffer = [0u8; 2];
+    assert_eq!(rt; source.read(&mut buffer), Got::Bytes(2));
+    assert_eq!(rt; buffer, [b'a', b'b']);
+    assert_eq!(rt; source.read(&mut buffer), Got::Failed);
+    assert_eq!(rt; source.read(&mut buffer), Got::Bytes(1));
+    assert_eq!(rt; buffer, [b'c', b'b']);
+    assert_eq!(rt; source.read(&mut buffer), Got::End);
+    Ok(())
+}
+
+/// What a read gave, as a word.
+fn word_of(got: FileGot) -> &'static str {
+    match got {
+        FileGot::Whole(text) if text.as_slice() == b"xy".as_slice() => "xy",
+        FileGot::Whole(_) => "another",
+        FileGot::Longer => "longer",
+        FileGot::Failed => "failed",
+        FileGot::Memory => "memory",
+    }
+}
+
+#[test]
+fn files_are_found_by_name_and_the_first_counts(rt: HostRuntime) -> Result<(), Fail> {
+    let alloc = rt.alloc();
+    let mut stated = List::new(alloc);
+    for (name, octets) in [(b"a", b"xy"), (b"a", b"zz")] {
+        stated.push((Text::copy_of(alloc, name)?, Text::copy_of(alloc, octets)?))?;
+    }
+    let mut files = MemoryFiles::new(stated, numbers(alloc, &[4])?);
+    for (name, limit, wanted) in [
+        (b"a", 2, "xy"),
+        (b"a", 1, "longer"),
+        (b"b", 2, "failed"),
+        (b"a", 2, "failed"),
+        (b"a", 2, "xy"),
+    ] {
+        let got = files.read_all(alloc, &Text::copy_of(alloc, name)?, limit);
+        assert_eq!(rt; word_of(got), wanted);
+    }
+    Ok(())
+}
+
+#[test]
+fn a_clock_goes_on_to_its_last_moment(rt: HostRuntime) -> Result<(), Fail> {
+    let alloc = rt.alloc();
+    let mut clock = MemoryClock::new(numbers(alloc, &[7, 5])?);
+    assert_eq!(rt; [clock.now(), clock.now(), clock.now()], [7, 5, 5]);
+    assert_eq!(rt; MemoryClock::new(List::new(alloc)).now(), 0);
+    Ok(())
+}
