@@ -1,0 +1,13 @@
+//! The limits of a connection (this project's own): what a client that has used so much may still
+//! have. What follows from a refusal is for others to say.
+#![tactic(auto)]
+
+mod allowed;
+mod rules;
+mod spent;
+#[cfg(test)]
+mod tests;
+
+pub use allowed::Allowed;
+pub use rules::{allow, room};
+pub use spent::{Spent, Want};
