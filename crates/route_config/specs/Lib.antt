@@ -1,3 +1,3 @@
-pub mod Fault
+pub mod Faults
 pub mod Lookup
 pub mod Smallest

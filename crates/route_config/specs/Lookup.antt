@@ -1,5 +1,5 @@
 -- What stands at the places of a route (this project's own)
-use Rattle.std.specs.Prelude.{ℕ, List, Option, find, slice_get}
+use Rattle.std.specs.Prelude.{ℕ, List, Option, find, map, slice_get}
 use Rattle.std.specs.Str.{str_eq_ignore_ascii_case}
 use Rattle.std.specs.Option.{option_and_then}
 use Rattle.z_types.specs.declared.address.Address.{Address}
@@ -13,3 +13,7 @@ database_named route name = find (λ database. str_eq_ignore_ascii_case database
 -- the address of the first member of a class
 abbrev pub first_address : Route → ℕ → Option Address
 first_address route place = option_and_then (λ class. slice_get class.addresses 0) (slice_get route.classes place)
+
+-- the names of the targets, in order
+abbrev pub target_names : Route → List (List ℕ)
+target_names route = map (λ target. target.name) route.targets

@@ -28,8 +28,9 @@ smallest_route = record {
   pool = record { max_sessions = 64; sets_max = 10; session_ttl = 300; set_ttl = 60; repeats = 2; patience = 1000 };
   limits = record { units = 100000; searches = 10000; records = 100000; sets = 32 };
   indexes =
-      (record { name = codes "dc.title"; value = 4 }) ∷ (record { name = codes "dc.creator"; value = 1003 }) ∷ (record { name = codes "dc.subject"; value = 21 })
-      ∷ (record { name = codes "bath.isbn"; value = 7 }) ∷ (record { name = codes "bath.issn"; value = 8 }) ∷ (record { name = codes "cql.anywhere"; value = 1016 }) ∷ [];
+      (record { name = codes "dc.title"; value = 4 }) ∷ (record { name = codes "dc.creator"; value = 1003 })
+      ∷ (record { name = codes "dc.subject"; value = 21 }) ∷ (record { name = codes "bath.isbn"; value = 7 })
+      ∷ (record { name = codes "bath.issn"; value = 8 }) ∷ (record { name = codes "cql.anywhere"; value = 1016 }) ∷ [];
   schemas = (record { name = codes "dc"; uri = codes "info:srw/schema/1/dc-v1.1"; element = codes "dc" }) ∷ [];
 }
 

@@ -15,11 +15,11 @@ pub enum RouteFault {
 }
 
 impl RouteFault {
-    ghost use Rattle.route_config.specs.Fault.{number_of};
+    ghost use Rattle.route_config.specs.Faults.{fault_number};
 
     /// The number of the refusal: 0 for `Stage`, and 0 for want of memory.
     pub fn number(&self) -> u32
-        ensures { result ≡ number_of self.now }
+        ensures { result ≡ fault_number self.now }
     {
         match self {
             RouteFault::Stage => 0,

@@ -4,13 +4,15 @@
 
 mod faults;
 mod lookup;
+mod members;
 mod route;
 mod smallest;
 
 pub use faults::RouteFault;
-pub use lookup::{database_named, first_address};
+pub use lookup::{database_named, first_address, target_names};
+pub use members::Members;
 pub use route::{Class, Database, Group, Index, PoolNumbers, Route, RouteLeg, Target};
-pub use smallest::read_route;
+pub use smallest::{SMALLEST_TEXT, read_route};
 
 #[cfg(test)]
 mod tests;

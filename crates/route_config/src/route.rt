@@ -1,6 +1,7 @@
 //! The route and its parts. A number that names a target, database, leg or class is its place in
 //! the route's list of that kind, counted from 0.
 
+use crate::Members;
 use z_types::{Address, Limits, List, Schema, Text};
 
 /// A target.
@@ -44,12 +45,12 @@ pub struct RouteLeg {
 }
 
 /// A target or group that legs go to.
-#[derive(PartialEq, Eq, Clone, Drop)]
+#[derive(Drop)]
 pub struct Class {
     /// Its name.
     pub name: Text,
     /// The addresses of its members.
-    pub addresses: List<Address>,
+    pub addresses: Members,
 }
 
 /// The numbers of the pool of sessions.
@@ -79,7 +80,7 @@ pub struct Index {
 }
 
 /// Where searches go.
-#[derive(PartialEq, Eq, Clone, Drop)]
+#[derive(Drop)]
 pub struct Route {
     /// The targets, in file order.
     pub targets: List<Target>,

@@ -3,13 +3,19 @@
 ghost use Rattle.std.specs.Prelude.{◌≡◌, ◌↔◌, IfOk, IsTrue, [], ◌∷◌};
 ghost use Rattle.route_config.specs.Smallest.{smallest_text, smallest_route, IsConfiguration};
 
-use crate::{Class, Database, Index, PoolNumbers, Route, RouteFault, RouteLeg, Target};
+use crate::{Class, Database, Index, Members, PoolNumbers, Route, RouteFault, RouteLeg, Target};
 use std::alloc::Global;
 use z_types::{Address, Limits, List, Memory, Schema, Text};
 
 /// The text of the smallest configuration, each line ended by LF.
-const SMALLEST_TEXT: &[u8] =
-    b"[[target]]\nname = \"alpha\"\naddress = \"test:0\"\n\n[[database]]\nname = \"Default\"\n\n[[database.leg]]\nvia = \"alpha\"\ndatabases = [\"Default\"]\n";
+pub const SMALLEST_TEXT: &[u8] = b"[[target]]\n\
+name = \"alpha\"\n\
+address = \"test:0\"\n\n\
+[[database]]\n\
+name = \"Default\"\n\n\
+[[database.leg]]\n\
+via = \"alpha\"\n\
+databases = [\"Default\"]\n";
 
 /// The route of a configuration's octets. So far only the smallest configuration is read, and
 /// every other is refused as `Stage`.
@@ -92,7 +98,7 @@ fn smallest_class(alloc: Global) -> Result<Class, Memory>
 {
     Ok(Class {
         name: Text::copy_of(alloc, b"alpha")?,
-        addresses: one(alloc, Address::Test(0))?,
+        addresses: Members::new(one(alloc, Address::Test(0))?),
     })
 }
 

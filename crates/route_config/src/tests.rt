@@ -5,10 +5,6 @@ use std::alloc::Global;
 use std::test::Fail;
 use z_types::{Address, Memory};
 
-/// The octets of `examples/first.toml`.
-const FIRST: &[u8] =
-    b"[[target]]\nname = \"alpha\"\naddress = \"test:0\"\n\n[[database]]\nname = \"Default\"\n\n[[database.leg]]\nvia = \"alpha\"\ndatabases = [\"Default\"]\n";
-
 /// Why octets are no configuration.
 fn refusal(alloc: Global, text: &[u8]) -> Option<RouteFault> {
     match read_route(alloc, text) {
@@ -19,7 +15,7 @@ fn refusal(alloc: Global, text: &[u8]) -> Option<RouteFault> {
 
 /// The first configuration with another octet at a place.
 fn changed(alloc: Global, place: usize) -> Result<Vec<u8>, Memory> {
-    let mut text = FIRST.to_vec(alloc)?;
+    let mut text = SMALLEST_TEXT.to_vec(alloc)?;
     if let Some(octet) = text.get_mut(place) {
         *octet ^= 1;
     }
@@ -29,7 +25,7 @@ fn changed(alloc: Global, place: usize) -> Result<Vec<u8>, Memory> {
 /// The first configuration with CR LF at the end of each line.
 fn with_returns(alloc: Global) -> Result<Vec<u8>, Memory> {
     let mut text = Vec::new(alloc);
-    for octet in FIRST {
+    for octet in SMALLEST_TEXT {
         if *octet == b'\n' {
             text.push(b'\r')?;
         }
@@ -41,7 +37,7 @@ fn with_returns(alloc: Global) -> Result<Vec<u8>, Memory> {
 #[test]
 fn the_first_configuration_is_read(rt: HostRuntime) {
     let alloc = rt.alloc();
-    match read_route(alloc, FIRST) {
+    match read_route(alloc, SMALLEST_TEXT) {
         Ok(route) => {
             match database_named(&route, b"dEFAULT") {
                 Some(database) => assert!(rt; !database.hide_errors, "errors are told"),
@@ -67,8 +63,12 @@ fn the_first_configuration_is_read(rt: HostRuntime) {
 fn every_other_configuration_is_refused(rt: HostRuntime) -> Result<(), Fail> {
     let alloc = rt.alloc();
     let stage = Some(RouteFault::Stage);
-    for place in 0..FIRST.len() {
-        assert_eq!(rt; refusal(alloc, &FIRST[..place]), stage, "cut at {place}");
+    for place in 0..SMALLEST_TEXT.len() {
+        assert_eq!(rt;
+            refusal(alloc, &SMALLEST_TEXT[..place]),
+            stage,
+            "cut at {place}"
+        );
         let text = changed(alloc, place)?;
         assert_eq!(rt;
             refusal(alloc, text.as_slice()),

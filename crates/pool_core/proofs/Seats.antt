@@ -1,0 +1,175 @@
+-- The session of a seat, at its place
+use Rattle.std.proofs.Common.{◌≡◌, ◌==◌, ◌&&◌, ℕ, suc, zero, ◌<◌, ◌≤◌, ◌^◌, Bool, true, false, cond, nat_lt, nat_le, List, [], ◌∷◌, length, get_or, set, map, find, Option, None, Some, is_some, refl, sym, ◌∙◌, ap, subst, arith, position}
+use Rattle.std.specs.List.{position_or_len}
+use Rattle.std.specs.Option.{option_map_or}
+use Rattle.std.proofs.lemmas.Bool.Decides.{leb_tells}
+use Rattle.std.proofs.lemmas.Bool.{eqb-true}
+use Rattle.std.proofs.lemmas.List.{length-set}
+use Rattle.std.proofs.lemmas.List.Elements.{All-set}
+use Rattle.std.proofs.lemmas.List.Sums.{passes_at_first, fails_before_first}
+use Rattle.z_types.specs.equality.Tests.{both_true}
+use Rattle.z_types.specs.declared.address.Address.{Address}
+use Rattle.z_types.specs.declared.sitting.Sitting as sitting
+use Rattle.pool_sets.specs.declared.pooled.Parts.{Parts}
+use Rattle.pool_sets.specs.declared.sessions.Stand.TheVariants.{Idle, Out}
+use Rattle.pool_sets.specs.declared.doors.Seat.{Seat}
+use Rattle.pool_sets.specs.Sessions.{Session, is_out, member_for}
+use Rattle.pool_sets.specs.Plain.{Pool, address_at, without_seat, redial_member, redial, with_sessions, lost, put, is_seat}
+use Rattle.pool_core.specs.PoolView.{IsPool, Rests, Ascends}
+use Rattle.pool_core.proofs.First.{is_below, is_not_below}
+use Rattle.pool_core.proofs.Ascending.{none_below, below_tail}
+
+loop : (a b : ℕ) → a < b → b ≡ a → ⊥
+loop a b p e = omega arith
+
+under : (a m b : ℕ) → a ≤ m → m < b → a < b
+under a m b p q = omega arith
+
+from_lt : (a b : ℕ) → a < b → a ≤ b
+from_lt a b p = omega arith
+
+through : (a b c : ℕ) → a < b → b < c → a < c
+through a b c p q = omega arith
+
+even : (a b : ℕ) → a ≡ b → a ≤ b
+even a b e = omega arith
+
+at_once : (a b c : ℕ) → a < b → a ≡ c → b ≡ c → ⊥
+at_once a b c p e f = omega arith
+
+longer : (k n m : ℕ) → k < n → n ≤ m → k < m
+longer k n m p q = omega arith
+
+module _ {X : Type 0} (q : X → Bool) where
+  -- the place of the first that passes
+  pub place_of : (xs : List X) (i : ℕ) → position q xs ≡ Some i → (i < length xs) × ((d : X) → q (get_or xs i d) ≡ true)
+  place_of xs i e = (elim (nat_lt (position_or_len q xs) (length xs)) as (λ b. nat_lt (position_or_len q xs) (length xs) ≡ b → (i < length xs) × ((d : X) → q (get_or xs i d) ≡ true)) [
+    | true ↦ λ k.
+        let is_i : Some (position_or_len q xs) ≡ Some i = subst (λ b. cond b (Some (position_or_len q xs)) None ≡ Some i) k e in
+        let same : position_or_len q xs ≡ i = cc in
+        let within = is_below (position_or_len q xs) (length xs) k in
+        (subst (λ n. n < length xs) same within, λ d. subst (λ n. q (get_or xs n d) ≡ true) same (passes_at_first q xs d within))
+    | false ↦ λ k. let bad : ◌≡◌ {A = Option ℕ} None (Some i) = subst (λ b. cond b (Some (position_or_len q xs)) None ≡ Some i) k e in cc
+  ]) refl
+
+  -- where there is none, all fail
+  pub no_place : (xs : List X) → position q xs ≡ None → (k : ℕ) (d : X) → k < length xs → q (get_or xs k d) ≡ false
+  no_place xs e k d h = (elim (nat_lt (position_or_len q xs) (length xs)) as (λ b. nat_lt (position_or_len q xs) (length xs) ≡ b → q (get_or xs k d) ≡ false) [
+    | true ↦ λ t. let bad : ◌≡◌ {A = Option ℕ} (Some (position_or_len q xs)) None = subst (λ b. cond b (Some (position_or_len q xs)) None ≡ None) t e in cc
+    | false ↦ λ t. fails_before_first q xs k d (longer k (length xs) (position_or_len q xs) h (is_not_below (position_or_len q xs) (length xs) t))
+  ]) refl
+
+  head_fails : (x : X) (xs : List X) → ((k : ℕ) (d : X) → k < length (x ∷ xs) → q (get_or (x ∷ xs) k d) ≡ false) → q x ≡ false
+  head_fails x xs f = f 0 x (omega arith)
+
+  pub none_found : (xs : List X) → ((k : ℕ) (d : X) → k < length xs → q (get_or xs k d) ≡ false) → find q xs ≡ None
+  none_found [] f = refl
+  none_found (x ∷ xs) f = rw (head_fails x xs f) (none_found xs (λ k d h. f (suc k) d (omega arith)))
+
+  pub none_changes : (g : X → X) (xs : List X) → ((k : ℕ) (d : X) → k < length xs → q (get_or xs k d) ≡ false) → map (λ x. cond (q x) (g x) x) xs ≡ xs
+  none_changes g [] f = refl
+  none_changes g (x ∷ xs) f = rw (head_fails x xs f) (ap (λ r. x ∷ r) (none_changes g xs (λ k d h. f (suc k) d (omega arith))))
+
+  pub some_found : (xs : List X) (i : ℕ) (d : X) → i < length xs → q (get_or xs i d) ≡ true → is_some (find q xs) ≡ true
+  some_found [] i d p h = absurd (none_below i p)
+  some_found (x ∷ xs) zero d p h = rw h refl
+  some_found (x ∷ xs) (suc i) d p h =
+      (elim (q x) as (λ b. is_some (cond b (Some x) (find q xs)) ≡ true) [
+        | true ↦ refl
+        | false ↦ some_found xs i d (below_tail i xs x p) h
+      ])
+
+pub at_some : {X : Type 0} (a b : ℕ) (o : Option X) → is_some o ≡ true → option_map_or (λ _. a) o b ≡ a
+at_some a b None h = cc
+at_some a b (Some x) h = refl
+
+module _ {S : Type 0} where
+  -- a seat names one number
+  pub seat_number : (seat : Seat) (o : Session S) → is_seat seat o ≡ true → (o.number ≡ seat.number) × (is_out o.stand ≡ true)
+  seat_number seat o h =
+      let w = both_true ((o.number == seat.number) && (o.class == seat.class)) (is_out o.stand) h in
+      let v = both_true (o.number == seat.number) (o.class == seat.class) w.0 in
+      (eqb-true o.number seat.number v.0, w.1)
+
+  module _ (q : Session S → Bool) (g : Session S → Session S) (number : ℕ) (one : (o : Session S) → q o ≡ true → o.number ≡ number) where
+    -- beyond its number none changes
+    beyond : (m n : ℕ) (os : List (Session S)) → number ≤ m → Ascends m n os → map (λ o. cond (q o) (g o) o) os ≡ os
+    beyond m n [] h a = refl
+    beyond m n (o ∷ os) h a = (elim (q o) as (λ b. q o ≡ b → cond (q o) (g o) o ∷ map (λ x. cond (q x) (g x) x) os ≡ o ∷ os) [
+      | true ↦ λ t. absurd (loop number o.number (under number m o.number h a.0) (one o t))
+      | false ↦ λ t. rw t (ap (λ r. o ∷ r) (beyond o.number n os (from_lt number o.number (under number m o.number h a.0)) a.1))
+    ]) refl
+
+    above_all : (m n i : ℕ) (os : List (Session S)) (d : Session S) → i < length os → Ascends m n os → m < (get_or os i d).number
+    above_all m n i [] d p a = absurd (none_below i p)
+    above_all m n zero (o ∷ os) d p a = a.0
+    above_all m n (suc i) (o ∷ os) d p a = through m o.number (get_or os i d).number a.0 (above_all o.number n i os d (below_tail i os o p) a.1)
+
+    -- the session of the number changes, at its place
+    pub one_changes : (m n i : ℕ) (os : List (Session S)) (d : Session S) → i < length os → Ascends m n os → q (get_or os i d) ≡ true → map (λ o. cond (q o) (g o) o) os ≡ set os i (g (get_or os i d))
+    one_changes m n i [] d p a h = absurd (none_below i p)
+    one_changes m n zero (o ∷ os) d p a h = rw h (ap (λ r. g o ∷ r) (beyond o.number n os (even number o.number (sym (one o h))) a.1))
+    one_changes m n (suc i) (o ∷ os) d p a h = (elim (q o) as (λ b. q o ≡ b → cond (q o) (g o) o ∷ map (λ x. cond (q x) (g x) x) os ≡ o ∷ set os i (g (get_or os i d))) [
+      | true ↦ λ t. absurd (at_once o.number (get_or os i d).number number (above_all o.number n i os d (below_tail i os o p) a.1) (one o t) (one (get_or os i d) h))
+      | false ↦ λ t. rw t (ap (λ r. o ∷ r) (one_changes o.number n i os d (below_tail i os o p) a.1 h))
+    ]) refl
+
+  -- a session of the same number keeps the order
+  pub ascends_put : (m n i : ℕ) (os : List (Session S)) (x d : Session S) → i < length os → x.number ≡ (get_or os i d).number → Ascends m n os → Ascends m n (set os i x)
+  ascends_put m n i [] x d p e a = absurd (none_below i p)
+  ascends_put m n zero (o ∷ os) x d p e a = (subst (λ k. m < k) (sym e) a.0, subst (λ k. Ascends k n os) (sym e) a.1)
+  ascends_put m n (suc i) (o ∷ os) x d p e a = (a.0, ascends_put o.number n i os x d (below_tail i os o p) e a.1)
+
+module _ {W S : Type 0} (t : sitting.Ghosts S W) where
+  more_opens : (n a b : ℕ) → n ≤ a → a ≤ b → n ≤ b
+  more_opens n a b p q = omega arith
+
+  -- a session is changed in its place
+  pub pool_put : (os : List (Session S)) (given opens next place : ℕ) (x d : Session S) → place < length os → x.number ≡ (get_or os place d).number → Rests t x → opens ≤ next → IsPool t os given opens → IsPool t (set os place x) given next
+  pool_put os given opens next place x d within e r up k = record {
+    rests = All-set (Rests t) os place x r k.rests;
+    ascends = ascends_put 0 given place os x d within e k.ascends;
+    bound = subst (λ n. n ≤ next) (sym (length-set os place x)) (more_opens (length os) opens next k.bound up);
+    few = subst (λ n. n < 2 ^ 32) (sym (length-set os place x)) k.few;
+  }
+
+-- a rest that is put back
+pub not_le : (a b : ℕ) → b < a → nat_le a b ≡ false
+not_le a b h = grind (arith, leb_tells)
+
+pub is_le : (a b : ℕ) → a ≤ b → nat_le a b ≡ true
+is_le a b h = grind (arith, leb_tells)
+
+module _ {S : Type 0} where
+  abbrev pub idle_now : Parts S → ℕ → Session S → Session S
+  idle_now parts now o = record { number = o.number; class = o.class; member = o.member; stand = Idle parts now }
+
+  pub put_at : (seat : Seat) (parts : Parts S) (now : ℕ) (p : Pool S) (place : ℕ) (o : Session S) → place < length p.sessions → ((d : Session S) → is_seat seat (get_or p.sessions place d) ≡ true) → o ≡ get_or p.sessions place o → Ascends 0 p.given p.sessions → parts.table.most ≤ p.sets_max → with_sessions (set p.sessions place (idle_now parts now o)) p ≡ put seat parts now p
+  put_at seat parts now p place o within is e a le =
+      rw (is_le parts.table.most p.sets_max le) (ap (λ os. with_sessions os p)
+      (ap (λ x. set p.sessions place (idle_now parts now x)) e ∙ sym (one_changes (is_seat seat) (idle_now parts now) seat.number (λ x h. (seat_number seat x h).0) 0 p.given place p.sessions o within a (is o))))
+
+  pub put_nowhere : (seat : Seat) (parts : Parts S) (now : ℕ) (p : Pool S) → ((k : ℕ) (d : Session S) → k < length p.sessions → is_seat seat (get_or p.sessions k d) ≡ false) → parts.table.most ≤ p.sets_max → p ≡ put seat parts now p
+  put_nowhere seat parts now p none le =
+      rw (is_le parts.table.most p.sets_max le) (ap (λ os. with_sessions os p) (sym (none_changes (is_seat seat) (idle_now parts now) p.sessions none)))
+
+  pub put_too_large : (seat : Seat) (parts : Parts S) (now : ℕ) (p : Pool S) → p.sets_max < parts.table.most → lost seat p ≡ put seat parts now p
+  put_too_large seat parts now p h = rw (not_le parts.table.most p.sets_max h) refl
+
+  -- a redialled session stands at its place
+  abbrev pub moved : Seat → List Address → ℕ → Session S → Session S
+  moved seat at m o = record { number = o.number; class = o.class; member = m; stand = Out (address_at at m) }
+
+  pub redial_at : (seat : Seat) (at : List Address) (p : Pool S) (place : ℕ) (o : Session S) (m : ℕ) → place < length p.sessions → ((d : Session S) → is_seat seat (get_or p.sessions place d) ≡ true) → o ≡ get_or p.sessions place o → Ascends 0 p.given p.sessions → m ≡ redial_member seat at p → with_sessions (set p.sessions place (moved seat at m o)) p ≡ redial seat at p
+  redial_at seat at p place o m within is e a k =
+      subst (λ n. with_sessions (set p.sessions place (moved seat at m o)) p ≡ with_sessions (map (λ x. cond (is_seat seat x) (moved seat at n x) x) p.sessions) p) k
+      (ap (λ os. with_sessions os p) (ap (λ x. set p.sessions place (moved seat at m x)) e ∙ sym (one_changes (is_seat seat) (moved seat at m) seat.number (λ x h. (seat_number seat x h).0) 0 p.given place p.sessions o within a (is o))))
+
+  pub redial_nowhere : (seat : Seat) (at : List Address) (p : Pool S) → ((k : ℕ) (d : Session S) → k < length p.sessions → is_seat seat (get_or p.sessions k d) ≡ false) → p ≡ redial seat at p
+  redial_nowhere seat at p none = ap (λ os. with_sessions os p) (sym (none_changes (is_seat seat) (moved seat at (redial_member seat at p)) p.sessions none))
+
+  pub member_nowhere : (seat : Seat) (at : List Address) (p : Pool S) → ((k : ℕ) (d : Session S) → k < length p.sessions → is_seat seat (get_or p.sessions k d) ≡ false) → 0 ≡ redial_member seat at p
+  member_nowhere seat at p none = rw (none_found (is_seat seat) p.sessions none) refl
+
+  pub member_at : (seat : Seat) (at : List Address) (p : Pool S) (place : ℕ) (d : Session S) → place < length p.sessions → is_seat seat (get_or p.sessions place d) ≡ true → member_for seat.class at (without_seat seat p.sessions) ≡ redial_member seat at p
+  member_at seat at p place d within is = sym (at_some (member_for seat.class at (without_seat seat p.sessions)) 0 (find (is_seat seat) p.sessions) (some_found (is_seat seat) p.sessions place d within is))

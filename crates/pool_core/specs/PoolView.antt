@@ -1,0 +1,124 @@
+-- A pool as contracts see it (this project's own)
+use Rattle.std.specs.Prelude.{◌≡◌, ℕ, ◌<◌, ◌≤◌, ◌^◌, List, [], ◌∷◌, length, All, Bool, true, false, is_some, Option, position}
+use Rattle.z_types.specs.declared.address.Address.{Address}
+use Rattle.z_types.specs.declared.world.World as world
+use Rattle.z_types.specs.declared.sitting.Sitting as sitting
+use Rattle.pool_sets.specs.Sessions.{Session, idle_in, idle_with}
+use Rattle.pool_sets.specs.declared.pooled.Parts.{Parts}
+use Rattle.pool_sets.specs.declared.sessions.Stand.{Stand}
+use Rattle.pool_sets.specs.declared.sessions.Stand.TheVariants.{Idle, Out}
+use Rattle.pool_sets.specs.declared.doors.Seat.{Seat}
+use Rattle.pool_sets.specs.declared.doors.Taken.{Taken}
+use Rattle.pool_sets.specs.declared.doors.Taken.TheVariants.{Reuse, Fresh, Dial, Full, Memory}
+use Rattle.z_types.specs.declared.key.SetKey.{SetKey}
+use Rattle.pool_sets.specs.Doors.{IsReady, HasSet, one_more}
+use Rattle.z_types.specs.Pending.{resting}
+use Rattle.route_config.specs.declared.route.PoolNumbers.{PoolNumbers}
+use Rattle.pool_sets.specs.Plain.{Pool, redial}
+
+-- the pool and its counts
+pub record PoolView (S : Type 0) : Type 0 where
+  pub pool : Pool S
+  pub fulls : ℕ
+  pub opens : ℕ
+  pub booked : ℕ
+
+module _ {S : Type 0} where
+  -- the pool of a route's numbers with these sessions, the last of the numbers given
+  abbrev pub pool_of : PoolNumbers → ℕ → List (Session S) → Pool S
+  pool_of n given os = record {
+    sessions = os;
+    given = given;
+    max_sessions = n.max_sessions;
+    sets_max = n.sets_max;
+    session_ttl = n.session_ttl;
+    set_ttl = n.set_ttl;
+  }
+
+  -- it begins without sessions
+  abbrev pub new_pool : PoolNumbers → PoolView S
+  new_pool n = record { pool = pool_of n 0 []; fulls = 0; opens = 0; booked = 0 }
+
+  -- another pool with the same counts
+  abbrev pub with_pool : Pool S → PoolView S → PoolView S
+  with_pool p v = record { pool = p; fulls = v.fulls; opens = v.opens; booked = v.booked }
+
+  -- each redial opens a session
+  abbrev pub after_redial : Seat → List Address → PoolView S → PoolView S
+  after_redial seat at v =
+      record { pool = redial seat at v.pool; fulls = v.fulls; opens = one_more true v.opens; booked = v.booked }
+
+  -- the place of the first idle session of a class
+  abbrev pub idle_place : ℕ → List Address → List (Session S) → Option ℕ
+  idle_place class at os = position (λ o. is_some (idle_in class at o)) os
+
+  -- the place of the first of them that holds a set of the key
+  abbrev pub holder_place : ℕ → List Address → SetKey → List (Session S) → Option ℕ
+  holder_place class at key os = position (λ o. is_some (idle_with class at key o)) os
+
+  -- a session that is out for a member
+  abbrev pub at_member : ℕ → Address → Session S → Session S
+  at_member member address o = record { number = o.number; class = o.class; member = member; stand = Out address }
+
+-- an idle session rests
+abbrev pub StandRests : {W S : Type 0} → sitting.Ghosts S W → Stand (Parts S) Address → Type 0
+StandRests t (Idle parts since) = t.pending parts.session ≡ resting
+StandRests t (Out address) = Unit {0}
+
+abbrev pub Rests : {W S : Type 0} → sitting.Ghosts S W → Session S → Type 0
+Rests t o = StandRests t o.stand
+
+-- the numbers ascend, from above m to n at most
+abbrev pub Ascends : {S : Type 0} → ℕ → ℕ → List (Session S) → Type 0
+Ascends m n [] = m ≤ n
+Ascends m n (o ∷ os) = (m < o.number) × Ascends o.number n os
+
+-- what every pool keeps
+pub record IsPool {W S : Type 0} (t : sitting.Ghosts S W) (os : List (Session S)) (given opens : ℕ) : Type 0 where
+  pub rests : All (Rests t) os
+  pub ascends : Ascends 0 given os
+  pub bound : length os ≤ opens
+  pub few : length os < 2 ^ 32
+
+-- the answer and the pool after it, or nothing is changed for want of memory
+abbrev pub Gives : {S : Type 0} → Taken S × Pool S → Pool S → Taken S → Pool S → Type 0
+Gives wanted old Memory new = new ≡ old
+Gives wanted old answer new = (answer, new) ≡ wanted
+
+-- a session that holds a set of the key, or nothing for want of memory
+abbrev pub IsReuse : {W S : Type 0} → world.Ghosts W → sitting.Ghosts S W → List Address → SetKey → Taken S → Type 0
+IsReuse w t at key (Reuse seat p slot hits) = IsReady w t at p × HasSet p.table.entries slot key hits
+IsReuse w t at key Memory = Unit {0}
+IsReuse w t at key answer = ⊥
+
+-- a session that was idle, or nothing for want of memory
+abbrev pub IsFresh : {W S : Type 0} → world.Ghosts W → sitting.Ghosts S W → List Address → Taken S → Type 0
+IsFresh w t at (Fresh seat p) = IsReady w t at p
+IsFresh w t at Memory = Unit {0}
+IsFresh w t at answer = ⊥
+
+-- a place to dial, or that no more may be open, or nothing for want of memory
+abbrev pub IsOpened : {S : Type 0} → ℕ → ℕ → Taken S → Type 0
+IsOpened members most (Dial seat member) = member < members
+IsOpened members most (Full open_) = open_ ≡ most
+IsOpened members most Memory = Unit {0}
+IsOpened members most answer = ⊥
+
+-- any of these
+abbrev pub IsAny : {W S : Type 0} → world.Ghosts W → sitting.Ghosts S W → List Address → ℕ → Taken S → Type 0
+IsAny w t at most (Fresh seat p) = IsReady w t at p
+IsAny w t at most (Dial seat member) = member < length at
+IsAny w t at most (Full open_) = open_ ≡ most
+IsAny w t at most Memory = Unit {0}
+IsAny w t at most answer = ⊥
+
+-- a session that holds no set wanted
+abbrev pub is_new : {S : Type 0} → Taken S → Bool
+is_new (Fresh seat p) = true
+is_new (Dial seat member) = true
+is_new answer = false
+
+-- it is counted where a set was wanted
+abbrev pub after_book : {S : Type 0} → Taken S → PoolView S → PoolView S
+after_book answer v =
+    record { pool = v.pool; fulls = v.fulls; opens = v.opens; booked = one_more (is_new answer) v.booked }

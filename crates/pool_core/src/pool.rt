@@ -1,0 +1,424 @@
+//! The pool.
+
+ghost use Rattle.std.specs.Prelude.{◌≡◌, ◌<◌, ◌≤◌, [], Some, None, length, IfSome, IfOk, filter, map, OnOk, OnErr, ◌++◌, ◌∷◌, All, true};
+ghost use Rattle.z_types.specs.Members.{HasShortHost};
+ghost use Rattle.z_types.specs.Pending.{resting};
+ghost use Rattle.pool_sets.specs.declared.sessions.Stand.TheVariants.{Idle, Out};
+ghost use Rattle.pool_sets.specs.Sessions.{is_out, idle_parts, with_stand};
+ghost use Rattle.pool_sets.specs.Plain.{stays_open, with_fresh_sets, fresh_sessions, expire, take_with, take_any, open_one, lost, without_seat, put, redial_member};
+ghost use Rattle.pool_sets.specs.Doors.{TakenFits, one_more, is_full, is_dial, is_booked};
+ghost use Rattle.pool_sets.specs.Kept.{TableKept};
+ghost use Rattle.pool_core.specs.PoolView.{Gives, IsReuse, IsFresh, IsOpened, IsAny, idle_place, holder_place, at_member, new_pool, with_pool, after_book, after_redial};
+
+use crate::Spot;
+use crate::choice::{holder_place, idle_place, is_seat, member_for, open_in, seat_place};
+use pool_sets::{Open, Parts, Pooled, Seat, Stand, Taken};
+use route_config::{PoolNumbers, Route};
+use std::alloc::Global;
+use std::marker::Model;
+use std::mem;
+use z_types::{Address, Memory, SetKey, Sitting, World};
+
+/// A pool of sessions with the targets of a world, for one thread.
+#[derive(Drop)]
+pub struct Pool<W: World, S: Sitting<W>> {
+    sessions: Vec<Open<Pooled<W, S>, Spot>>,
+    given: u64,
+    numbers: PoolNumbers,
+    fulls: u64,
+    opens: u64,
+    booked: u64,
+}
+
+impl<W: World, S: Sitting<W>> Model for Pool<W, S> {
+    ghost use Rattle.std.specs.Coded.{codes};
+    ghost use Rattle.z_types.specs.Tree.{tree_code};
+    ghost use Rattle.pool_core.specs.PoolView.{PoolView, IsPool, pool_of};
+
+    ghost Value = { PoolView S };
+
+    ghost coded = { Prim.hlevel (codes, tree_code) };
+
+    ghost view = { λ p. record {
+      pool = pool_of p.numbers p.given p.sessions.items;
+      fulls = p.fulls;
+      opens = p.opens;
+      booked = p.booked;
+    } };
+
+    ghost invariant = { λ p. IsPool S.Sitting p.sessions.items p.given p.opens };
+}
+
+/// Puts the session out, and gives what was idle.
+fn lend<W: World, S: Sitting<W>>(
+    session: &mut Open<Pooled<W, S>, Spot>,
+    address: Spot,
+) -> Option<Pooled<W, S>>
+    ensures pooled { result ≡ idle_parts session.old.stand }
+    ensures out { session.new ≡ with_stand (Out address) session.old }
+{
+    match mem::replace(&mut session.stand, Stand::Out { address }) {
+        Stand::Idle { pooled, .. } => Some(pooled),
+        Stand::Out { .. } => None,
+    }
+}
+
+/// Puts a session to rest.
+fn rest<W: World, S: Sitting<W>>(
+    session: &mut Open<Pooled<W, S>, Spot>,
+    pooled: Pooled<W, S>,
+    since: u64,
+)
+    ensures { session.new ≡ with_stand (Idle pooled since) session.old }
+{
+    session.stand = Stand::Idle { pooled, since };
+}
+
+/// A session that is out is out for another member.
+fn move_to<W: World, S: Sitting<W>>(
+    session: &mut Open<Pooled<W, S>, Spot>,
+    member: u32,
+    to: &Address,
+)
+    requires short { HasShortHost to.now }
+    ensures { is_out session.old.stand ≡ true → session.new ≡ at_member member to.now session.old }
+{
+    if let Stand::Out { address } = &mut session.stand {
+        session.member = member;
+        address.replace(to);
+    }
+}
+
+/// A spot with the address of an idle session.
+fn spot_for<W: World, S: Sitting<W>>(
+    alloc: Global,
+    session: &Open<Pooled<W, S>, Spot>,
+) -> Option<Spot>
+    ensures { IfSome result (λ spot.
+        IfSome (idle_parts session.now.stand) (λ p. spot ≡ p.address)) }
+{
+    match &session.stand {
+        Stand::Idle { pooled, .. } => Spot::new(alloc, pooled.address()).ok(),
+        Stand::Out { .. } => None,
+    }
+}
+
+/// Drops the sessions, and forgets the sets, that were unused for too long.
+fn forget_old<W: World, S: Sitting<W>>(
+    sessions: &mut Vec<Open<Pooled<W, S>, Spot>>,
+    now: u64,
+    session_ttl: u64,
+    set_ttl: u64,
+)
+    ensures { sessions.new.items ≡ fresh_sessions now session_ttl set_ttl sessions.old.items }
+{
+    drop_old(sessions, now, session_ttl);
+    freshen_all(sessions.as_mut_slice(), now, set_ttl);
+}
+
+/// Drops the sessions that were unused for too long.
+fn drop_old<W: World, S: Sitting<W>>(
+    sessions: &mut Vec<Open<Pooled<W, S>, Spot>>,
+    now: u64,
+    ttl: u64,
+)
+    ensures { sessions.new.items ≡ filter (stays_open now ttl) sessions.old.items }
+{
+    sessions.retain(|o| stays(o, now, ttl));
+}
+
+/// Whether the session stays open.
+fn stays<W: World, S: Sitting<W>>(session: &Open<Pooled<W, S>, Spot>, now: u64, ttl: u64) -> bool
+    ensures { result ≡ stays_open now ttl session.now }
+{
+    match &session.stand {
+        Stand::Idle { since, .. } => now.saturating_sub(*since) < ttl,
+        Stand::Out { .. } => true,
+    }
+}
+
+/// Forgets the sets of a session that were unused for too long.
+fn freshen<W: World, S: Sitting<W>>(session: &mut Open<Pooled<W, S>, Spot>, now: u64, ttl: u64)
+    ensures { session.new ≡ with_fresh_sets now ttl session.old }
+{
+    if let Stand::Idle { pooled, .. } = &mut session.stand {
+        pooled.expire(now, ttl);
+    }
+}
+
+/// Forgets the sets of each session that were unused for too long.
+fn freshen_all<W: World, S: Sitting<W>>(
+    sessions: &mut [Open<Pooled<W, S>, Spot>],
+    now: u64,
+    ttl: u64,
+)
+    ensures { sessions.new ≡ map (with_fresh_sets now ttl) sessions.old }
+{
+    for session in sessions {
+        freshen(session, now, ttl);
+    }
+}
+
+/// Drops the session of the seat.
+fn drop_seat<W: World, S: Sitting<W>>(sessions: &mut Vec<Open<Pooled<W, S>, Spot>>, seat: &Seat)
+    ensures { sessions.new.items ≡ without_seat seat.now sessions.old.items }
+{
+    sessions.retain(|o| !is_seat(o, seat));
+}
+
+/// Puts a session at the end.
+fn add<W: World, S: Sitting<W>>(
+    sessions: &mut Vec<Open<Pooled<W, S>, Spot>>,
+    session: Open<Pooled<W, S>, Spot>,
+) -> Result<(), Memory>
+    ensures ok { OnOk result (sessions.new.items ≡ sessions.old.items ++ session ∷ []) }
+    ensures err { OnErr result (sessions.new.items ≡ sessions.old.items) }
+{
+    sessions.push(session)?;
+    Ok(())
+}
+
+impl<W: World, S: Sitting<W>> Pool<W, S> {
+    /// A pool without sessions, whose numbers are the route's. It takes no memory yet.
+    pub fn new(alloc: Global, route: &Route) -> Result<Pool<W, S>, Memory>
+        ensures new { IfOk result (λ pool. pool ≡ new_pool route.now.pool) }
+    {
+        Ok(Pool {
+            sessions: Vec::new(alloc),
+            given: 0,
+            numbers: route.pool,
+            fulls: 0,
+            opens: 0,
+            booked: 0,
+        })
+    }
+
+    /// Gives the session at a place, which is the first idle one that holds the key.
+    fn reuse(
+        &mut self,
+        alloc: Global,
+        class: u32,
+        at: &[Address],
+        key: &SetKey,
+        now: u64,
+        place: usize,
+    ) -> Taken<S>
+        requires first { holder_place class at.now key.now self.old.pool.sessions ≡ Some place }
+        ensures plain { Gives (take_with class at.now key.now now self.old.pool)
+            self.old.pool result self.new.pool }
+        ensures fits { IsReuse W.World S.Sitting at.now key.now result }
+        ensures counts { self.new ≡ with_pool self.new.pool self.old }
+        ensures bound { length self.new.pool.sessions ≤ self.new.opens }
+        ensures most { self.new.pool.max_sessions ≡ self.old.pool.max_sessions }
+    {
+        let Some(spot) = spot_for(alloc, &self.sessions[place]) else {
+            return Taken::Memory;
+        };
+        let session = &mut self.sessions[place];
+        let number = session.number;
+        let Some(mut pooled) = lend(session, spot) else {
+            unreachable!()
+        };
+        let Some((slot, hits)) = pooled.find(key, now) else {
+            unreachable!()
+        };
+        Taken::Reuse {
+            seat: Seat { class, number },
+            parts: pooled.apart(),
+            slot,
+            hits,
+        }
+    }
+
+    /// Gives the session at a place, which is the first idle one.
+    fn fresh(&mut self, alloc: Global, class: u32, at: &[Address], place: usize) -> Taken<S>
+        requires first { idle_place class at.now self.old.pool.sessions ≡ Some place }
+        ensures plain { Gives (take_any class at.now self.old.pool)
+            self.old.pool result self.new.pool }
+        ensures fits { IsFresh W.World S.Sitting at.now result }
+        ensures counts { self.new ≡ with_pool self.new.pool self.old }
+        ensures bound { length self.new.pool.sessions ≤ self.new.opens }
+        ensures most { self.new.pool.max_sessions ≡ self.old.pool.max_sessions }
+    {
+        let Some(spot) = spot_for(alloc, &self.sessions[place]) else {
+            return Taken::Memory;
+        };
+        let session = &mut self.sessions[place];
+        let number = session.number;
+        let Some(pooled) = lend(session, spot) else {
+            unreachable!()
+        };
+        Taken::Fresh {
+            seat: Seat { class, number },
+            parts: pooled.apart(),
+        }
+    }
+
+    /// Dials where fewer sessions are open than there may be.
+    fn dial(&mut self, alloc: Global, class: u32, at: &[Address]) -> Taken<S>
+        requires some { 0 < length at.now }
+        requires few { length at.now ≤ 16 }
+        ensures plain { Gives (open_one class at.now self.old.pool)
+            self.old.pool result self.new.pool }
+        ensures fits { IsOpened (length at.now) self.old.pool.max_sessions result }
+        ensures fulls { self.new.fulls ≡ one_more (is_full result) self.old.fulls }
+        ensures opens { self.new.opens ≡ one_more (is_dial result) self.old.opens }
+        ensures booked { self.new.booked ≡ self.old.booked }
+        ensures bound { length self.new.pool.sessions ≤ self.new.opens }
+        ensures most { self.new.pool.max_sessions ≡ self.old.pool.max_sessions }
+    {
+        if open_in(&self.sessions, class, at) >= self.numbers.max_sessions as usize {
+            self.fulls = self.fulls.saturating_add(1);
+            return Taken::Full {
+                open: self.numbers.max_sessions,
+            };
+        }
+        if self.sessions.len() >= u32::MAX as usize || self.given == u64::MAX {
+            return Taken::Memory;
+        }
+        let member = member_for(&self.sessions, class, at, None);
+        let Ok(address) = Spot::new(alloc, &at[member as usize]) else {
+            return Taken::Memory;
+        };
+        let number = self.given + 1;
+        let session = Open {
+            number,
+            class,
+            member,
+            stand: Stand::Out { address },
+        };
+        let Ok(()) = add(&mut self.sessions, session) else {
+            return Taken::Memory;
+        };
+        self.given = number;
+        self.opens = self.opens.saturating_add(1);
+        let seat = Seat { class, number };
+        Taken::Dial { seat, member }
+    }
+
+    /// Drops the sessions, and forgets the sets, that were unused for too long.
+    pub(crate) fn forget_old(&mut self, now: u64)
+        ensures { self.new ≡ with_pool (expire now self.old.pool) self.old }
+    {
+        let PoolNumbers {
+            session_ttl,
+            set_ttl,
+            ..
+        } = self.numbers;
+        forget_old(&mut self.sessions, now, session_ttl, set_ttl);
+    }
+
+    /// The place of the first idle session of the class that holds the key.
+    fn holder(&self, class: u32, at: &[Address], key: &SetKey) -> Option<usize>
+        ensures { result ≡ holder_place class at.now key.now self.now.pool.sessions }
+    {
+        holder_place(self.sessions.as_slice(), class, at, key)
+    }
+
+    /// The place of the first idle session of the class.
+    fn idle(&self, class: u32, at: &[Address]) -> Option<usize>
+        ensures { result ≡ idle_place class at.now self.now.pool.sessions }
+    {
+        idle_place(self.sessions.as_slice(), class, at)
+    }
+
+    /// Counts an answer to who wanted a set.
+    fn book(&mut self, taken: &Taken<S>)
+        ensures booked { self.new ≡ after_book taken.now self.old }
+    {
+        if matches!(taken, Taken::Fresh { .. } | Taken::Dial { .. }) {
+            self.booked = self.booked.saturating_add(1);
+        }
+    }
+
+    /// Takes any session of the class.
+    pub(crate) fn take_any(&mut self, alloc: Global, class: u32, at: &[Address]) -> Taken<S>
+        requires some { 0 < length at.now }
+        requires few { length at.now ≤ 16 }
+        ensures plain { Gives (take_any class at.now self.old.pool)
+            self.old.pool result self.new.pool }
+        ensures fits { IsAny W.World S.Sitting at.now self.old.pool.max_sessions result }
+        ensures fulls { self.new.fulls ≡ one_more (is_full result) self.old.fulls }
+        ensures opens { self.new.opens ≡ one_more (is_dial result) self.old.opens }
+        ensures booked { self.new.booked ≡ self.old.booked }
+        ensures bound { length self.new.pool.sessions ≤ self.new.opens }
+        ensures most { self.new.pool.max_sessions ≡ self.old.pool.max_sessions }
+    {
+        if let Some(place) = self.idle(class, at) {
+            return self.fresh(alloc, class, at, place);
+        }
+        self.dial(alloc, class, at)
+    }
+
+    /// Takes a session of the class, one that holds a set of the key where there is one.
+    pub(crate) fn take_for(
+        &mut self,
+        alloc: Global,
+        class: u32,
+        at: &[Address],
+        key: &SetKey,
+        now: u64,
+    ) -> Taken<S>
+        requires some { 0 < length at.now }
+        requires few { length at.now ≤ 16 }
+        ensures plain { Gives (take_with class at.now key.now now self.old.pool)
+            self.old.pool result self.new.pool }
+        ensures fits { TakenFits W.World S.Sitting
+            at.now (Some key.now) self.old.pool.max_sessions result }
+        ensures fulls { self.new.fulls ≡ one_more (is_full result) self.old.fulls }
+        ensures opens { self.new.opens ≡ one_more (is_dial result) self.old.opens }
+        ensures booked { self.new.booked
+            ≡ one_more (is_booked (Some key.now) result) self.old.booked }
+        ensures bound { length self.new.pool.sessions ≤ self.new.opens }
+        ensures most { self.new.pool.max_sessions ≡ self.old.pool.max_sessions }
+    {
+        if let Some(place) = self.holder(class, at, key) {
+            return self.reuse(alloc, class, at, key, now, place);
+        }
+        let taken = self.take_any(alloc, class, at);
+        self.book(&taken);
+        taken
+    }
+
+    /// Gives the session of the seat up, where it is out.
+    pub(crate) fn drop_seat(&mut self, seat: &Seat)
+        ensures { self.new ≡ with_pool (lost seat.now self.old.pool) self.old }
+    {
+        drop_seat(&mut self.sessions, seat);
+    }
+
+    /// Puts the session of the seat back, where it is out.
+    pub(crate) fn put_back(&mut self, seat: Seat, parts: Parts<S>, now: u64)
+        requires rests { S.pending parts.session ≡ resting }
+        requires kept { TableKept W.World S.Sitting parts }
+        ensures { self.new ≡ with_pool (put seat parts now self.old.pool) self.old }
+    {
+        if parts.table.max() > self.numbers.sets_max {
+            self.drop_seat(&seat);
+            return;
+        }
+        if let Some(place) = seat_place(self.sessions.as_slice(), &seat) {
+            let session = &mut self.sessions[place];
+            rest(session, Pooled::join(parts), now);
+        }
+    }
+
+    /// Dials for the seat again: the member, or 0 where its session is not out.
+    pub(crate) fn dial_again(&mut self, seat: &Seat, at: &[Address]) -> u32
+        requires some { 0 < length at.now }
+        requires few { length at.now ≤ 16 }
+        requires short { All HasShortHost at.now }
+        ensures member { result ≡ redial_member seat.now at.now self.old.pool }
+        ensures within { result < length at.now }
+        ensures plain { self.new ≡ after_redial seat.now at.now self.old }
+    {
+        self.opens = self.opens.saturating_add(1);
+        let Some(place) = seat_place(self.sessions.as_slice(), seat) else {
+            return 0;
+        };
+        let member = member_for(self.sessions.as_slice(), seat.class, at, Some(seat));
+        let session = &mut self.sessions[place];
+        move_to(session, member, &at[member as usize]);
+        member
+    }
+}

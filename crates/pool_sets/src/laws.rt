@@ -1,0 +1,15 @@
+//! Laws of the plain pool.
+
+ghost use Rattle.pool_sets.specs.PoolLaws.{PutIsReused, FullExactly};
+
+/// A session that is put back is reused by the next take of its class for a key that it holds. It
+/// does nothing; its contract is the law.
+pub fn put_is_reused<S: Drop>()
+    ensures { PutIsReused S }
+{}
+
+/// A pool is full for a class exactly where none of it is idle and as many as there may be are out.
+/// It does nothing; its contract is the law.
+pub fn full_exactly<S: Drop>()
+    ensures { FullExactly S }
+{}
