@@ -35,6 +35,8 @@ databases-plain w route search c d None e f =
 reply-plain : {W : Type 0} (w : world.Ghosts W) (route : Route) (asked : Request) (c d : Cause) → c.mark ≡ Plain → d.mark ≡ Plain → reply_to w route asked c ≡ reply_to w route asked d
 reply-plain w route (request.Init init) c d e f = refl
 reply-plain w route (request.Search search) c d e f = databases-plain w route search c d (first_unknown route search.dbs) e f
+reply-plain w route (request.Present present) c d e f = refl
+reply-plain w route (request.Scan scan) c d e f = refl
 reply-plain w route (request.Close close) c d e f = refl
 
 -- ---- all requests

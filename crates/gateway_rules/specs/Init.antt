@@ -1,5 +1,6 @@
 -- What the gateway agrees to (ANSI/NISO Z39.50-2003, 3.2.1.1, the Init service)
 use Rattle.std.specs.Prelude.{ℕ, ◌+◌, ◌^◌, ◌==◌, Bool, not, bit_and, min}
+use Rattle.z_types.specs.Bounds.{most_unit_octets}
 use Rattle.z_types.specs.declared.requests.Init.{Init}
 use Rattle.z_types.specs.declared.replies.Reply.{Reply}
 use Rattle.z_types.specs.declared.replies.Reply.TheVariants as reply
@@ -8,13 +9,13 @@ use Rattle.z_types.specs.declared.replies.Reply.TheVariants as reply
 abbrev pub own_versions : ℕ
 own_versions = 2 ^ 0 + 2 ^ 1 + 2 ^ 2
 
--- 3.2.1.1.6: search, present, scan and named result sets
+-- search, present, scan and named result sets
 abbrev pub own_options : ℕ
 own_options = 2 ^ 0 + 2 ^ 1 + 2 ^ 7 + 2 ^ 14
 
 -- 3.2.1.1.4: the most octets of a message and of a record
 abbrev pub own_size : ℕ
-own_size = 1048576
+own_size = most_unit_octets
 
 -- the session is accepted where a version is common
 abbrev pub has_version : Init → Bool

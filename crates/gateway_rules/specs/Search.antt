@@ -1,8 +1,10 @@
 -- What a Search is answered (ANSI/NISO Z39.50-2003, 3.2.2), as a route with private sessions answers it
-use Rattle.std.specs.Prelude.{ℕ, ◌-◌, ◌^◌, true, false, not, List, [], ◌∷◌, Option, None, Some, Result, Ok, Err, if◌then◌else◌, nat_le, min, sum, find, filter, is_none, slice_get}
+use Rattle.std.specs.Prelude.{ℕ, true, false, not, List, [], ◌∷◌, Option, None, Some, Result, Ok, Err, if◌then◌else◌, nat_le, min, sum, find, filter, is_none, slice_get}
 use Rattle.std.specs.List.{flat_map}
 use Rattle.std.specs.Str.{str_eq_ignore_ascii_case}
 use Rattle.z_types.specs.Bib1.{bib1}
+use Rattle.z_types.specs.Bounds.{most_number}
+use Rattle.z_types.specs.declared.conditions.Condition.TheVariants.{DatabaseDoesNotExist}
 use Rattle.z_types.specs.declared.diagnostic.Diag.{Diag}
 use Rattle.z_types.specs.declared.address.Address.{Address}
 use Rattle.z_types.specs.declared.query.RpnQuery.{RpnQuery}
@@ -58,9 +60,9 @@ abbrev pub hits_of : {W : Type 0} → world.Ghosts W → Route → RpnQuery → 
 hits_of w route query [] = Ok []
 hits_of w route query (leg ∷ legs) = in_front (hits_behind w route query (slice_get route.legs leg)) (hits_of w route query legs)
 
--- 3.2.2.1.6: the resultCount, at most what an INTEGER of the protocol holds
+-- the resultCount, at most what an INTEGER of the protocol holds
 abbrev pub total : List ℕ → ℕ
-total hits = min (sum hits) (2 ^ 31 - 1)
+total hits = min (sum hits) most_number
 
 -- the place after the last record given, or 0 where that is past the count: no record is given
 abbrev pub next_position : ℕ → ℕ
@@ -85,9 +87,9 @@ abbrev pub hits_of_asked : {W : Type 0} → world.Ghosts W → Route → Asked R
 hits_of_asked w route (Good query) legs = hits_of w route query legs
 hits_of_asked w route (Bad diag) legs = Err diag
 
--- 235 where a name is no virtual database, and otherwise what the legs answer
+-- a diagnostic where a name is no virtual database, and otherwise what the legs answer
 abbrev pub by_databases : {W : Type 0} → world.Ghosts W → Route → Search → Cause → Option (List ℕ) → Reply
-by_databases w route search cause (Some name) = failed_search search.ref_id (bib1 235 name)
+by_databases w route search cause (Some name) = failed_search search.ref_id (bib1 DatabaseDoesNotExist name)
 by_databases w route search cause None =
     by_mark search.ref_id (marked_diag cause.mark cause.class) (hits_of_asked w route search.query (legs_of route search.dbs))
 

@@ -22,16 +22,20 @@ protocol_error = reply.Close (record { ref_id = None; reason = 6; info = None })
 abbrev pub close_reply : Close → Reply
 close_reply close = reply.Close (record { ref_id = close.ref_id; reason = 0; info = None })
 
--- the reply to a request in its place, under a cause
+-- the reply to a request in its place, under a cause; a Present and a Scan are not served yet
 abbrev pub reply_to : {W : Type 0} → world.Ghosts W → Route → Request → Cause → Reply
 reply_to w route (request.Init init) cause = init_reply init
 reply_to w route (request.Search search) cause = search_reply w route search cause
+reply_to w route (request.Present present) cause = protocol_error
+reply_to w route (request.Scan scan) cause = protocol_error
 reply_to w route (request.Close close) cause = close_reply close
 
 -- the classes of which a request asks a target
 abbrev pub reached : Route → Request → List (List ℕ)
 reached route (request.Init init) = []
 reached route (request.Search search) = reached_by route search (first_unknown route search.dbs)
+reached route (request.Present present) = []
+reached route (request.Scan scan) = []
 reached route (request.Close close) = []
 
 -- a request may be answered under this cause: any mark but Plain comes only where a target is asked, and a Link names one of those asked

@@ -16,16 +16,22 @@ unknown_client = record { accepted = false }
 abbrev pub is_in_place : ClientState → Request → Bool
 is_in_place state (request.Init init) = not state.accepted
 is_in_place state (request.Search search) = state.accepted
+is_in_place state (request.Present present) = state.accepted
+is_in_place state (request.Scan scan) = state.accepted
 is_in_place state (request.Close close) = state.accepted
 
 -- the state after a request in its place: only an accepted Init changes it
 abbrev pub state_after : ClientState → Request → ClientState
 state_after state (request.Init init) = record { accepted = has_version init }
 state_after state (request.Search search) = state
+state_after state (request.Present present) = state
+state_after state (request.Scan scan) = state
 state_after state (request.Close close) = state
 
 -- a Close ends the session
 abbrev pub is_close : Request → Bool
 is_close (request.Init init) = false
 is_close (request.Search search) = false
+is_close (request.Present present) = false
+is_close (request.Scan scan) = false
 is_close (request.Close close) = true

@@ -3,7 +3,7 @@
 ghost use Rattle.std.specs.Prelude.{◌≡◌, IfOk};
 ghost use Rattle.gateway_rules.specs.Init.{init_reply, has_version};
 
-use z_types::{Init, Memory, Reply, copy};
+use z_types::{Init, MOST_UNIT_OCTETS, Memory, Reply, copy};
 
 /// Versions 1 to 3.
 const OWN_VERSIONS: u32 = 0b111;
@@ -12,7 +12,7 @@ const OWN_VERSIONS: u32 = 0b111;
 const OWN_OPTIONS: u32 = 1 << 0 | 1 << 1 | 1 << 7 | 1 << 14;
 
 /// The most octets of a message and of a record.
-const OWN_SIZE: u32 = 1048576;
+const OWN_SIZE: u32 = MOST_UNIT_OCTETS;
 
 /// The reply to an Init.
 pub fn init_reply(init: &Init) -> Result<Reply, Memory>

@@ -1,6 +1,8 @@
 //! Inits and what they are answered, by ANSI/NISO Z39.50-2003, 3.2.1.1; and the laws, at a world.
 
-ghost use Rattle.std.specs.Prelude.{List, [], ◌∷◌, None, Ok, Err};
+ghost use Rattle.std.specs.Prelude.{[], ◌∷◌, None, Ok, Err, refl};
+ghost use Rattle.std.proofs.Math.Nat.{min-le_right};
+ghost use Rattle.z_types.specs.Bounds.{most_number};
 
 use crate::*;
 use std::test::Fail;
@@ -75,6 +77,10 @@ impl World for EmptyWorld {
     ghost record_ = { λ _ _ _ _ _. Err (record { set = 1 ∷ 2 ∷ []; condition = 13; addinfo = [] }) };
 
     ghost scan = { λ _ _ _. Ok (record { position = None; entries = [] }) };
+
+    ghost hits_are_counts = { λ _ _. min-le_right 0 most_number };
+
+    ghost whole_is_not_gone = { λ _ _ _ _ _. refl };
 }
 
 #[test]

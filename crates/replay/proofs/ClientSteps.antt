@@ -1,5 +1,5 @@
 -- how what a client is answered goes on
-use Rattle.std.proofs.Common.{◌≡◌, ◌≤◌, ◌<◌, ◌+◌, ◌-◌, ◌∙◌, ℕ, Bool, List, [], ◌∷◌, ◌++◌, length, take, drop, refl, sym, ap, subst, inl, inr, arith, append_assoc, length-append}
+use Rattle.std.proofs.Common.{◌≡◌, ◌≤◌, ◌<◌, ◌+◌, ◌-◌, ◌∙◌, ℕ, Bool, List, [], ◌∷◌, ◌++◌, length, take, drop, refl, sym, ap, subst, inl, inr, arith, append_assoc}
 use Rattle.std.specs.List.{AllByRecursion}
 use Rattle.std.proofs.lemmas.List.{append-nil, take-append-drop, take_rest, drop-drop}
 use Rattle.std.proofs.lemmas.Grind.{common_steps}
@@ -11,7 +11,6 @@ use Rattle.z_types.specs.declared.world.World as world
 use Rattle.z_ber.specs.Frames.{IsDefiniteFrame}
 use Rattle.route_config.specs.declared.route.Route.{Route}
 use Rattle.unit_forms.specs.Replies.{spell_reply}
-use Rattle.unit_forms.proofs.Peel.{tag_octets-some}
 use Rattle.gateway_rules.specs.Answers.{AnswersFrom}
 use Rattle.gateway_rules.specs.Ending.{RestEnds, IsOpen, IsBad}
 use Rattle.gateway_rules.specs.Marks.{plain}
@@ -23,7 +22,7 @@ use Rattle.replay.specs.Framed.{IsFramed}
 use Rattle.replay.specs.declared.units.Answered.TheVariants as became
 use Rattle.replay.specs.Answered.{IsReplied, IsRefused}
 
--- a unit of so many octets, and the octets behind it
+-- a unit of a size, and the octets behind it
 pub cut_at : (bytes : List ℕ) (at size : ℕ) → take size (drop at bytes) ++ drop (at + size) bytes ≡ drop at bytes
 cut_at bytes at size = ap (λ x. take size (drop at bytes) ++ x) (sym (drop-drop size at bytes)) ∙ take-append-drop size (drop at bytes)
 
@@ -33,11 +32,6 @@ length-cut bytes at size h = grind (arith, common_steps)
 pub plain_more : (marks : List Mark) → AllByRecursion (λ mark. mark ≡ Plain) marks → AllByRecursion (λ mark. mark ≡ Plain) (marks ++ Plain ∷ [])
 plain_more [] h = (refl, tt)
 plain_more (mark ∷ marks) h = (h.0, plain_more marks h.1)
-
--- a unit has some octets
-pub frame-some : (frame : List ℕ) → IsDefiniteFrame frame → 0 < length frame
-frame-some frame h =
-    rw (h.spelled, h.header.spelled) (simp length-append (omega (arith, tag_octets-some h.tag)))
 
 -- a request that ends nothing: the rest is answered behind its reply
 pub went : {W : Type 0} (w : world.Ghosts W) (route : Route) (before now : Bool) (at size : ℕ) (bytes old new out : List ℕ) (marks : List Mark) (end : End)

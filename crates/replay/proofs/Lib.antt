@@ -1,3 +1,5 @@
-pub mod Hits
 pub mod AnsweredLemmas
 pub mod ClientSteps
+pub mod Hits
+pub mod InputLemmas
+pub mod RunSteps

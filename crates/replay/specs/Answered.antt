@@ -20,16 +20,19 @@ IsAfter state request (Went accepted) = (is_close request ≡ false) × (accepte
 -- a request was out of its place, and a protocol error was written; or its reply was written, and it leaves this
 abbrev pub IsAnsweredRequest : {W : Type 0} → world.Ghosts W → Route → ClientState → Request → List ℕ → List ℕ → Answered → Type 0
 IsAnsweredRequest w route state request old new Refused = (is_in_place state request ≡ false) × (new ≡ old ++ spell_reply protocol_error)
-IsAnsweredRequest w route state request old new Closed = (is_in_place state request ≡ true) × (is_close request ≡ true) × (new ≡ old ++ spell_reply (reply_to w route request plain))
+IsAnsweredRequest w route state request old new Closed =
+    (is_in_place state request ≡ true) × (is_close request ≡ true) × (new ≡ old ++ spell_reply (reply_to w route request plain))
 IsAnsweredRequest w route state request old new (Went accepted) =
-    (is_in_place state request ≡ true) × (is_close request ≡ false) × (accepted ≡ (state_after state request).accepted) × (new ≡ old ++ spell_reply (reply_to w route request plain))
+    (is_in_place state request ≡ true) × (is_close request ≡ false) × (accepted ≡ (state_after state request).accepted)
+    × (new ≡ old ++ spell_reply (reply_to w route request plain))
 
 -- a unit is no request, or out of its place
 abbrev pub IsRefused : ClientState → List ℕ → Type 0
 IsRefused state unit = IsReading unit None ⊎ ((request : Request) × Reads unit request × (is_in_place state request ≡ false))
 
 -- a request in its place was read, and this became of it
-pub record IsReplied {W : Type 0} (w : world.Ghosts W) (route : Route) (state : ClientState) (unit old new : List ℕ) (answered : Answered) : Type 0 where
+pub record IsReplied {W : Type 0} (w : world.Ghosts W) (route : Route) (state : ClientState)
+    (unit old new : List ℕ) (answered : Answered) : Type 0 where
   pub request : Request
   pub read : Reads unit request
   pub replied : IsAnsweredRequest w route state request old new answered

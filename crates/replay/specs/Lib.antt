@@ -1,4 +1,5 @@
 pub mod Page
 pub mod Answered
+pub mod Inputs
 pub mod Report
 pub mod Framed

@@ -46,7 +46,10 @@ line word value = word ++ value ++ 10 ∷ []
 -- the four lines of a client
 unfoldable pub client_lines : ClientReport → List ℕ
 client_lines client =
-    line (codes "client ") (decimal client.number) ++ line (codes "bytes ") (octets_text client.bytes) ++ line (codes "marks ") (marks_text client.marks) ++ line (codes "end ") (end_text client.end)
+    line (codes "client ") (decimal client.number)
+    ++ line (codes "bytes ") (octets_text client.bytes)
+    ++ line (codes "marks ") (marks_text client.marks)
+    ++ line (codes "end ") (end_text client.end)
 
 -- how many marks there are
 abbrev pub requests : List ClientReport → ℕ

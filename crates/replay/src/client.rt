@@ -48,7 +48,7 @@ pub fn answer<T: Targets>(
                 return Ok(ended(number, out, marks, End::Cut((bytes.len() - at) as u64)));
             }
             Framed::Bad => {
-                put_reply(alloc, &mut out, protocol_error())?;
+                put_reply(&mut out, protocol_error())?;
                 return Ok(ended(number, out, marks, End::Malformed(at as u64)));
             }
         }

@@ -4,6 +4,7 @@
 
 mod client;
 mod frames;
+mod inputs;
 mod page;
 mod reports;
 mod runs;

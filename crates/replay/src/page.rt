@@ -1,6 +1,6 @@
 //! The printed page of a report.
 
-ghost use Rattle.std.specs.Prelude.{◌≡◌, ◌∷◌, ◌++◌, ℕ, length, IfOk, OnOk, codes};
+ghost use Rattle.std.specs.Prelude.{◌≡◌, ◌∷◌, ◌++◌, IfOk, OnOk, codes};
 ghost use Rattle.std.specs.List.{flat_map};
 ghost use Rattle.std.specs.Fmt.{decimal};
 ghost use Rattle.replay.specs.Page.{page, client_lines, sums_line, requests, mark_text, marks_text, octets_text, end_text, line};
@@ -110,7 +110,8 @@ fn put_marks(alloc: Global, out: &mut Text, marks: &[Mark]) -> Result<(), Memory
 
 /// Marks with a space before each.
 fn put_other_marks(alloc: Global, out: &mut Text, marks: &[Mark]) -> Result<(), Memory>
-    ensures { OnOk result (out.new ≡ out.old ++ flat_map (λ other. 32 ∷ mark_text other) marks.now) }
+    ensures { OnOk result (out.new ≡
+        out.old ++ flat_map (λ other. 32 ∷ mark_text other) marks.now) }
 {
     for mark in marks {
         out.append(b" ")?;

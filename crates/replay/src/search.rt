@@ -1,17 +1,16 @@
 //! What a Search finds at the targets (ANSI/NISO Z39.50-2003, 3.2.2).
 
 ghost use Rattle.std.specs.Prelude.{◌≡◌, length, IfOk, slice_get};
-ghost use Rattle.gateway_rules.specs.Search.{search_reply, search_outcome, failed_search, hits_of, hits_behind, hits_of_asked, total, next_position};
+ghost use Rattle.gateway_rules.specs.Search.{search_reply, search_outcome, failed_search, hits_of, hits_behind, hits_of_asked, total};
 ghost use Rattle.gateway_rules.specs.Marks.{plain};
 ghost use Rattle.z_types.specs.Bib1.{bib1};
 
-use gw_outside::{Targets, Told};
+use gw_outside::{TargetAnswer, Targets};
 use route_config::{Route, database_named, first_address};
 use std::alloc::Global;
-use z_types::{Asked, Body, Diag, List, Memory, Reply, RpnQuery, Search, Text, copy};
-
-/// The most that a count of the protocol holds.
-const MOST: u32 = 2147483647;
+use z_types::{
+    Asked, Body, Condition, Diag, List, MOST_NUMBER, Memory, Reply, RpnQuery, Search, Text, copy,
+};
 
 /// The reply to a Search of one database.
 pub(crate) fn search_reply<T: Targets>(
@@ -30,7 +29,10 @@ pub(crate) fn search_reply<T: Targets>(
                 let hits = hits_of_asked(alloc, route, targets, &search.query, legs)?;
                 search_outcome(&search.ref_id, hits)
             }
-            None => failed_search(&search.ref_id, Diag::bib1(alloc, 235, copy(name)?)?),
+            None => failed_search(
+                &search.ref_id,
+                Diag::bib1(alloc, Condition::DatabaseDoesNotExist, copy(name)?)?,
+            ),
         },
         _ => unreachable!(),
     }
@@ -78,7 +80,7 @@ fn total(hits: &[u32]) -> u32
 {
     let mut sum = 0u32;
     for count in hits {
-        sum = sum.saturating_add(*count).min(MOST);
+        sum = sum.saturating_add(*count).min(MOST_NUMBER);
     }
     sum
 }
@@ -127,7 +129,8 @@ fn hits_behind<T: Targets>(
     query: &RpnQuery,
     leg: u32,
 ) -> Result<Result<u32, Diag>, Memory>
-    ensures { IfOk result (λ found. found ≡ hits_behind T.World route.now query.now (slice_get route.now.legs leg)) }
+    ensures { IfOk result (λ found. found ≡
+        hits_behind T.World route.now query.now (slice_get route.now.legs leg)) }
 {
     let Some(leg) = route.legs.get(leg as usize) else {
         return Ok(Ok(0));
@@ -136,8 +139,8 @@ fn hits_behind<T: Targets>(
         return Ok(Ok(0));
     };
     match targets.search(alloc, address, &leg.databases, query) {
-        Told::Good(count) => Ok(Ok(count)),
-        Told::Refused(diag) => Ok(Err(diag)),
-        Told::Memory => Err(Memory),
+        TargetAnswer::Good(count) => Ok(Ok(count)),
+        TargetAnswer::Refused(diag) => Ok(Err(diag)),
+        TargetAnswer::Memory => Err(Memory),
     }
 }

@@ -13,7 +13,7 @@ use gateway_rules::{has_version, init_reply};
 use gw_outside::Targets;
 use route_config::Route;
 use std::alloc::Global;
-use unit_forms::{read_request, write_reply};
+use unit_forms::read_request;
 use z_types::{Close, Memory, Reply, Request, Text, copy};
 
 /// What became of a unit.
@@ -36,7 +36,8 @@ pub(crate) fn answer_unit<T: Targets>(
     unit: &[u8],
     out: &mut Text,
 ) -> Result<Answered, Memory>
-    ensures { IfOk result (IsAnswered T.World route.now (record { accepted = accepted }) unit.now out.old out.new) }
+    ensures { IfOk result (IsAnswered T.World route.now
+        (record { accepted = accepted }) unit.now out.old out.new) }
 {
     match read_request(alloc, unit)? {
         Some(request) => answer_request(alloc, route, targets, accepted, &request, out),
@@ -46,9 +47,10 @@ pub(crate) fn answer_unit<T: Targets>(
 
 /// Writes a protocol error.
 fn refuse(alloc: Global, out: &mut Text) -> Result<Answered, Memory>
-    ensures { IfOk result (λ answered. (answered ≡ Answered.Refused) × (out.new ≡ out.old ++ spell_reply protocol_error)) }
+    ensures answer { IfOk result (λ answered. answered ≡ Answered.Refused) }
+    ensures written { OnOk result (out.new ≡ out.old ++ spell_reply protocol_error) }
 {
-    put_reply(alloc, out, protocol_error())?;
+    put_reply(out, protocol_error())?;
     Ok(Answered::Refused)
 }
 
@@ -62,12 +64,13 @@ fn answer_request<T: Targets>(
     out: &mut Text,
 ) -> Result<Answered, Memory>
     requires { IsServed request.now }
-    ensures { IfOk result (IsAnsweredRequest T.World route.now (record { accepted = accepted }) request.now out.old out.new) }
+    ensures { IfOk result (IsAnsweredRequest T.World route.now
+        (record { accepted = accepted }) request.now out.old out.new) }
 {
     if !is_in_place(accepted, request) {
         return refuse(alloc, out);
     }
-    put_reply(alloc, out, reply_to(alloc, route, targets, request)?)?;
+    put_reply(out, reply_to(alloc, route, targets, request)?)?;
     Ok(leaves(accepted, request))
 }
 
@@ -77,7 +80,7 @@ fn leaves(accepted: bool, request: &Request) -> Answered
 {
     match request {
         Request::Init(init) => Answered::Went(has_version(init)),
-        Request::Search(_) => Answered::Went(accepted),
+        Request::Search(_) | Request::Present(_) | Request::Scan(_) => Answered::Went(accepted),
         Request::Close(_) => Answered::Closed,
     }
 }
@@ -88,7 +91,7 @@ fn is_in_place(accepted: bool, request: &Request) -> bool
 {
     match request {
         Request::Init(_) => !accepted,
-        Request::Search(_) => accepted,
+        Request::Search(_) | Request::Present(_) | Request::Scan(_) => accepted,
         Request::Close(_) => accepted,
     }
 }
@@ -106,6 +109,7 @@ fn reply_to<T: Targets>(
     match request {
         Request::Init(init) => init_reply(init),
         Request::Search(search) => search_reply(alloc, route, targets, search),
+        Request::Present(_) | Request::Scan(_) => Ok(protocol_error()),
         Request::Close(close) => Ok(Reply::Close(Close {
             ref_id: copy(&close.ref_id)?,
             reason: 0,
@@ -126,9 +130,8 @@ pub(crate) fn protocol_error() -> Reply
 }
 
 /// Writes a reply behind what a client was written.
-pub(crate) fn put_reply(alloc: Global, out: &mut Text, reply: Reply) -> Result<(), Memory>
+pub(crate) fn put_reply(out: &mut Text, reply: Reply) -> Result<(), Memory>
     ensures { OnOk result (out.new ≡ out.old ++ spell_reply reply) }
 {
-    let text = write_reply(alloc, &reply)?;
-    out.append(text.as_slice())
+    z_write::put_reply(out, &reply)
 }

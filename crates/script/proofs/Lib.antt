@@ -1,2 +1,3 @@
 pub mod LineLemmas
-pub mod Fed
+pub mod ClientLemmas
+pub mod FlagLemmas

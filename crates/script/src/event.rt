@@ -1,44 +1,64 @@
-//! The events of a script, and why a script is refused.
+//! The events of a script.
 
 ghost use Rattle.std.specs.Prelude.{◌≡◌};
-ghost use Rattle.script.specs.declared.event.ScriptFault.TheVariants.{Memory as no_memory};
 
-use z_types::{Memory, Text};
+use z_types::Text;
 
-/// What happens in a replay.
+/// What happens in a replay, to a client of a number from 1 to 10000.
 #[derive(PartialEq, Eq, Clone, Drop)]
 pub enum Event {
-    /// These octets are appended to the input of a client, 1 to 10000.
+    /// These octets are appended to the client's input.
     Feed(u32, Text),
+    /// The client's input ends.
+    End(u32),
+    /// The client's connection is run until it is idle.
+    Run(u32),
 }
 
-/// Why a script is refused, or that no memory could be had.
-#[derive(Clone, Copy, Debug, PartialEq, Eq)]
-pub enum ScriptFault {
-    /// The line of this number, counted from 1, is not one of a script.
-    Line(u64),
-    /// No memory could be had.
-    Memory,
-}
+impl Event {
+    ghost use Rattle.script.specs.Events.{client_of, octets_of, is_of_input, is_end};
 
-impl ScriptFault {
-    ghost use Rattle.script.specs.Script.{fault_number};
-
-    /// The number of the refusal: 1 for a line, and 0 for want of memory.
-    pub fn number(&self) -> u32
-        ensures { result ≡ fault_number self.now }
+    /// The number of the client.
+    pub fn client(&self) -> u32
+        ensures { result ≡ client_of self.now }
     {
         match self {
-            ScriptFault::Line(_) => 1,
-            ScriptFault::Memory => 0,
+            Event::Feed(client, _) => *client,
+            Event::End(client) => *client,
+            Event::Run(client) => *client,
         }
     }
-}
 
-impl From<Memory> for ScriptFault {
-    ghost from_gives = { λ _ e. e ≡ no_memory };
+    /// The octets that are appended to the client's input.
+    pub fn octets(&self) -> &[u8]
+        ensures { result.now ≡ octets_of self.now }
+    {
+        match self {
+            Event::Feed(_, octets) => octets.as_slice(),
+            Event::End(_) => &[],
+            Event::Run(_) => &[],
+        }
+    }
 
-    fn from(_: Memory) -> ScriptFault {
-        ScriptFault::Memory
+    /// Whether it goes on with the client's input.
+    pub(crate) fn is_of_input(&self) -> bool
+        ensures { result ≡ is_of_input self.now }
+    {
+        match self {
+            Event::Feed(_, _) => true,
+            Event::End(_) => true,
+            Event::Run(_) => false,
+        }
+    }
+
+    /// Whether it ends the client's input.
+    pub(crate) fn is_end(&self) -> bool
+        ensures { result ≡ is_end self.now }
+    {
+        match self {
+            Event::Feed(_, _) => false,
+            Event::End(_) => true,
+            Event::Run(_) => false,
+        }
     }
 }

@@ -1,32 +1,34 @@
 //! One line of a script.
 
-ghost use Rattle.std.specs.Prelude.{◌≡◌, IfOk};
-ghost use Rattle.script.specs.Script.{said_by, said_by_words, fed_octets, lines, lines_behind};
-ghost use Rattle.std.specs.Prelude.{◌∷◌, ◌==◌, position};
+ghost use Rattle.std.specs.Prelude.{◌≡◌, ◌≤◌, ◌∷◌, ◌==◌, IfOk, IfSome, position};
 ghost use Rattle.std.specs.Option.{option_copied};
-ghost use Rattle.hex.specs.Hex.{decode_of};
+ghost use Rattle.script.specs.Lines.{said_by, said_by_words, feed_at, end_said, run_said, octets_written, SaysClient};
+ghost use Rattle.script.specs.Script.{lines, lines_behind};
 
+use crate::Event;
+use crate::clients::client_named;
 use hex::FromHexError;
 use std::alloc::Global;
 use z_types::{Memory, Text};
 
-/// The most octets that a line feeds.
-const MOST_FED: usize = 65536;
+/// The most hexadecimal digits that a line feeds, two for each octet.
+const MOST_DIGITS: usize = 2_097_152;
 
 /// What a line says.
 #[derive(Drop)]
 pub enum Said {
     /// Nothing.
     Nothing,
-    /// These octets are fed to client 1.
-    Fed(Text),
+    /// An event.
+    Says(Event),
     /// It is no line of a script.
     Unknown,
 }
 
 /// What a line says.
 pub(crate) fn said_by(alloc: Global, line: &[u8]) -> Result<Said, Memory>
-    ensures { IfOk result (λ said. said ≡ said_by line.now) }
+    ensures said { IfOk result (λ said. said ≡ said_by line.now) }
+    ensures client { IfOk result SaysClient }
 {
     match line {
         [] => Ok(Said::Nothing),
@@ -37,23 +39,74 @@ pub(crate) fn said_by(alloc: Global, line: &[u8]) -> Result<Said, Memory>
 
 /// What a line of words says.
 fn said_by_words(alloc: Global, line: &[u8]) -> Result<Said, Memory>
-    ensures { IfOk result (λ said. said ≡ said_by_words line.now) }
+    ensures said { IfOk result (λ said. said ≡ said_by_words line.now) }
+    ensures client { IfOk result SaysClient }
 {
-    match line.strip_prefix(b"feed 1 ") {
-        Some(digits) => fed_by(alloc, digits),
+    if let Some(fields) = line.strip_prefix(b"feed ") {
+        return feed_said(alloc, fields);
+    }
+    if let Some(number) = line.strip_prefix(b"end ") {
+        return Ok(end_said(client_named(number)));
+    }
+    if let Some(number) = line.strip_prefix(b"run ") {
+        return Ok(run_said(client_named(number)));
+    }
+    Ok(Said::Unknown)
+}
+
+/// What the fields of a feed say: the number of a client, one space, and octets in hexadecimal.
+fn feed_said(alloc: Global, fields: &[u8]) -> Result<Said, Memory>
+    ensures said { IfOk result (λ said. said ≡
+        feed_at fields.now (position (λ octet. octet == 32) fields.now)) }
+    ensures client { IfOk result SaysClient }
+{
+    let Some(space) = place_of(fields, b' ') else {
+        return Ok(Said::Unknown);
+    };
+    let Some(client) = client_named(&fields[..space]) else {
+        return Ok(Said::Unknown);
+    };
+    match octets_written(alloc, &fields[space + 1..])? {
+        Some(octets) => Ok(Said::Says(Event::Feed(client, octets))),
         None => Ok(Said::Unknown),
     }
 }
 
-/// The octets that hexadecimal digits feed.
-fn fed_by(alloc: Global, digits: &[u8]) -> Result<Said, Memory>
-    ensures { IfOk result (λ said. said ≡ fed_octets (decode_of digits.now)) }
+/// The octets that hexadecimal digits write.
+fn octets_written(alloc: Global, digits: &[u8]) -> Result<Option<Text>, Memory>
+    ensures { IfOk result (λ octets. octets ≡ octets_written digits.now) }
 {
+    if digits.is_empty() || digits.len() > MOST_DIGITS {
+        return Ok(None);
+    }
     match hex::decode(alloc, digits) {
-        Ok(octets) if octets.is_empty() || octets.len() > MOST_FED => Ok(Said::Unknown),
-        Ok(octets) => Ok(Said::Fed(Text::from_vec(octets))),
+        Ok(octets) => Ok(Some(Text::from_vec(octets))),
         Err(FromHexError::OutOfMemory) => Err(Memory),
-        Err(_) => Ok(Said::Unknown),
+        Err(_) => Ok(None),
+    }
+}
+
+/// The end of a client, if it is one.
+fn end_said(client: Option<u32>) -> Said
+    requires { IfSome client (λ number. (1 ≤ number) × (number ≤ 10000)) }
+    ensures said { result ≡ end_said client }
+    ensures client { SaysClient result }
+{
+    match client {
+        Some(client) => Said::Says(Event::End(client)),
+        None => Said::Unknown,
+    }
+}
+
+/// The run of a client, if it is one.
+fn run_said(client: Option<u32>) -> Said
+    requires { IfSome client (λ number. (1 ≤ number) × (number ≤ 10000)) }
+    ensures said { result ≡ run_said client }
+    ensures client { SaysClient result }
+{
+    match client {
+        Some(client) => Said::Says(Event::Run(client)),
+        None => Said::Unknown,
     }
 }
 
@@ -61,15 +114,15 @@ fn fed_by(alloc: Global, digits: &[u8]) -> Result<Said, Memory>
 pub(crate) fn first_line(text: &[u8]) -> (&[u8], Option<&[u8]>)
     ensures { lines text.now ≡ result.0.now ∷ lines_behind (option_copied result.1) }
 {
-    match line_end(text) {
+    match place_of(text, b'\n') {
         Some(end) => (&text[..end], Some(&text[end + 1..])),
         None => (text, None),
     }
 }
 
-/// The place of the first LF.
-fn line_end(text: &[u8]) -> Option<usize>
-    ensures { result ≡ position (λ octet. octet == 10) text.now }
+/// The first place of an octet.
+fn place_of(text: &[u8], wanted: u8) -> Option<usize>
+    ensures { result ≡ position (λ octet. octet == wanted) text.now }
 {
-    text.iter().position(|octet| *octet == b'\n')
+    text.iter().position(|octet| *octet == wanted)
 }

@@ -1,13 +1,15 @@
 use Rattle.std.proofs.Common.{◌≡◌, ◌+◌, ◌≤◌, length}
+use Rattle.std.specs.List.{AllByRecursion}
 use Rattle.std.specs.Option.{option_copied}
-use Rattle.script.specs.Script.{events_of, events_before, lines_behind, script_of}
-use Rattle.script.proofs.Fed.{was_fed}
+use Rattle.script.specs.Events.{HasClient}
+use Rattle.script.specs.Script.{events_of, lines_behind, script_of}
 use Rattle.script.proofs.read.read_script.Given as goal
 
+-- the events of all lines are those of the lines that are left, behind those that were read
 abbrev pub invariant-loop-rest : goal.invariant-loop-rest
 invariant-loop-rest l = record {
-  told : events_before l.events (events_of l.number (was_fed l.events) (lines_behind (option_copied l.rest))) ≡ script_of l.text;
-  few : length l.events ≤ 1;
+  said : events_of l.number l.events.list (lines_behind (option_copied l.rest)) ≡ script_of l._targets l.text;
+  clients : AllByRecursion HasClient l.events.list;
   count : l.number + length (lines_behind (option_copied l.rest)) ≤ length l.text + 2;
 }
 
