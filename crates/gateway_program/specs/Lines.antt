@@ -1,29 +1,42 @@
 -- The lines that a refusal prints (this project's own)
-use Rattle.std.specs.Prelude.{◌≡◌, ◌⊎◌, ℕ, List, [], ◌∷◌, ◌++◌, Option, codes}
+use Rattle.std.specs.Prelude.{◌≡◌, ◌⊎◌, ℕ, List, [], ◌∷◌, ◌++◌, codes}
 use Rattle.std.specs.Fmt.{decimal}
 use Rattle.gw_outside.specs.Counts.{Rose}
-use Rattle.gw_outside.specs.Written.{appended, ReceivedPrefix}
+use Rattle.gw_outside.specs.Sinks.{appended, ReceivedPrefix}
+use Rattle.gateway_program.specs.Outside.{SinkWrites}
 
 -- words, and the end of a line
-abbrev pub ended : List ℕ → List ℕ
-ended words = words ++ 10 ∷ []
+abbrev pub line_of : List ℕ → List ℕ
+line_of words = words ++ 10 ∷ []
 
 -- how the program is used
 abbrev pub usage_line : List ℕ
-usage_line = ended (codes "usage: check CONFIG | replay CONFIG SCRIPT | load N | serve CONFIG PORT WORKERS")
+usage_line = line_of (codes "usage: check CONFIG | replay CONFIG SCRIPT | load N | serve CONFIG PORT WORKERS")
 
 -- a configuration is refused
 abbrev pub config_line : List ℕ
-config_line = ended (codes "config 0 stage")
+config_line = line_of (codes "config 0 stage")
 
 -- a script is refused at a line
 abbrev pub script_line : ℕ → List ℕ
-script_line number = ended (codes "script line " ++ decimal number)
+script_line number = line_of (codes "script line " ++ decimal number)
 
 -- a file could not be read
 abbrev pub fault_line : List ℕ → List ℕ
-fault_line name = ended (codes "read fault " ++ name)
+fault_line name = line_of (codes "read fault " ++ name)
+
+-- nothing was received
+abbrev pub ReceivedNothing : SinkWrites → Type 0
+ReceivedNothing writes = writes.received_after ≡ writes.received
+
+-- this text was received, whole, and nothing else
+abbrev pub Received : SinkWrites → List ℕ → Type 0
+Received writes text = writes.received_after ≡ appended writes.received text
+
+-- a write failed: a front of this text was received, and nothing else
+abbrev pub FailedWithin : SinkWrites → List ℕ → Type 0
+FailedWithin writes text = ReceivedPrefix writes.received writes.received_after text × Rose writes.faults writes.faults_after
 
 -- the line was printed, or a front of it where the sink failed
-abbrev pub Says : Option (List ℕ) → Option (List ℕ) → ℕ → ℕ → List ℕ → Type 0
-Says old new faults faults_after line = (new ≡ appended old line) ⊎ (ReceivedPrefix old new line × Rose faults faults_after)
+abbrev pub Says : SinkWrites → List ℕ → Type 0
+Says writes line = Received writes line ⊎ FailedWithin writes line

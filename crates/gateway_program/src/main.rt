@@ -2,6 +2,7 @@
 #![tactic(auto)]
 
 mod command;
+mod descriptors;
 mod files;
 mod output;
 mod play;
@@ -11,6 +12,7 @@ mod status;
 #[cfg(test)]
 mod tests;
 mod top;
+mod words;
 
 use std::process::ExitCode;
 

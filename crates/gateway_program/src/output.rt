@@ -1,7 +1,6 @@
 //! The standard output. No octets are told of it.
 
 ghost use Rattle.std.specs.Prelude.{◌≡◌, None};
-ghost use Rattle.gw_outside.specs.Counts.{Rose};
 
 use gw_outside::{Sink, Took};
 use std::io::Write;

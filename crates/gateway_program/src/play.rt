@@ -1,13 +1,16 @@
 //! A script, read and played.
 
 ghost use Rattle.std.specs.Prelude.{◌≤◌, length, Some};
+ghost use Rattle.std.specs.List.{AllByRecursion};
+ghost use Rattle.script.specs.Events.{HasClient};
 ghost use Rattle.gateway_program.specs.Outcome.{IsRefusal, IsUnreadTold, Played, ScriptPlayed, ScriptDone};
+ghost use Rattle.gateway_program.specs.Outside.{file_reads, sink_writes};
 
 use crate::say::{fault_line, say, script_line};
 use crate::status::Status;
 use gw_outside::{FileGot, Files, Sink, Targets, write_all};
 use replay::{print, run};
-use route_config::Route;
+use route_config::{Route, target_names};
 use script::{Event, ScriptFault, read_script};
 use std::alloc::Global;
 use z_types::{List, Text};
@@ -24,7 +27,8 @@ pub(crate) fn play_script<T: Targets, F: Files, K: Sink>(
     name: &Text,
     out: &mut K,
 ) -> Status
-    ensures { ScriptDone T.World route.now name.now (record { told = F.told files.old; faults = F.faults files.old; faults_after = F.faults files.new; failed_after = F.last_failed files.new }) (record { old = K.received out.old; new = K.received out.new; faults = K.faults out.old; faults_after = K.faults out.new }) result }
+    ensures { ScriptDone T.World route.now name.now
+        (file_reads F.Files files.old files.new) (sink_writes K.Sink out.old out.new) result }
 {
     match files.read_all(alloc, name, SCRIPT_LIMIT) {
         FileGot::Whole(text) => play_text(alloc, route, targets, text.as_slice(), out),
@@ -36,7 +40,7 @@ pub(crate) fn play_script<T: Targets, F: Files, K: Sink>(
 
 /// Tells that the file of a name could not be read.
 pub(crate) fn unread<K: Sink>(alloc: Global, out: &mut K, name: &Text) -> Status
-    ensures { IsUnreadTold name.now (record { old = K.received out.old; new = K.received out.new; faults = K.faults out.old; faults_after = K.faults out.new }) result }
+    ensures { IsUnreadTold name.now (sink_writes K.Sink out.old out.new) result }
 {
     match fault_line(alloc, name) {
         Ok(line) => {
@@ -56,18 +60,23 @@ fn play_text<T: Targets, K: Sink>(
     out: &mut K,
 ) -> Status
     requires { length text.now ≤ 16777216 }
-    ensures { ScriptPlayed T.World route.now (Some text.now) (record { old = K.received out.old; new = K.received out.new; faults = K.faults out.old; faults_after = K.faults out.new }) result }
+    ensures { ScriptPlayed T.World route.now (Some text.now)
+        (sink_writes K.Sink out.old out.new) result }
 {
-    match read_script(alloc, text) {
+    let Ok(names) = target_names(alloc, route) else {
+        return Status::Memory;
+    };
+    match read_script(alloc, text, &names) {
         Ok(events) => play(alloc, route, targets, &events, out),
         Err(ScriptFault::Line(number)) => refuse(alloc, out, number),
+        Err(ScriptFault::TooMany(number)) => refuse(alloc, out, number),
         Err(ScriptFault::Memory) => Status::Memory,
     }
 }
 
 /// Refuses a script at a line.
 fn refuse<K: Sink>(alloc: Global, out: &mut K, number: u64) -> Status
-    ensures { IsRefusal number (record { old = K.received out.old; new = K.received out.new; faults = K.faults out.old; faults_after = K.faults out.new }) result }
+    ensures { IsRefusal number (sink_writes K.Sink out.old out.new) result }
 {
     match script_line(alloc, number) {
         Ok(line) => {
@@ -86,8 +95,8 @@ fn play<T: Targets, K: Sink>(
     events: &List<Event>,
     out: &mut K,
 ) -> Status
-    requires { length events.now ≤ 1 }
-    ensures { Played T.World route.now events.now (record { old = K.received out.old; new = K.received out.new; faults = K.faults out.old; faults_after = K.faults out.new }) result }
+    requires { AllByRecursion HasClient events.now }
+    ensures { Played T.World route.now events.now (sink_writes K.Sink out.old out.new) result }
 {
     let Ok(report) = run(alloc, route, targets, events) else {
         return Status::Memory;

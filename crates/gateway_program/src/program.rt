@@ -1,78 +1,77 @@
 //! The program over the real files, output and test targets.
 
-ghost use Rattle.std.specs.Prelude.{◌≡◌, ◌≢◌};
-ghost use Rattle.gw_outside.specs.Counts.{Rose};
-ghost use Rattle.gw_outside.specs.Written.{appended};
+ghost use Rattle.gateway_program.specs.Itself.{IsProgramDone, IsTold, own_text};
+ghost use Rattle.gateway_program.specs.Outside.{file_reads, sink_writes};
+ghost use Rattle.std.specs.Prelude.{◌≡◌};
+ghost use Rattle.std.specs.Option.{option_copied};
 
 use crate::files::SystemFiles;
 use crate::output::SystemOutput;
 use crate::status::Status;
 use crate::top::top;
-use gw_outside::{Sink, write_all};
+use crate::words::words;
+use gw_outside::{Files, Sink, Targets, write_all};
 use std::alloc::Global;
 use std::process::ExitCode;
-use std::rt::{Env, Files};
-use std::{env, io};
+use std::{io, rt};
 use test_target::TestWorld;
 use z_types::{Memory, Text};
 
 /// What `--help` prints.
-pub(crate) const HELP: &[u8] =
-    b"Zaklumen, a gateway for Z39.50 and SRU.\n\nreplay CONFIG SCRIPT  plays the octets that a script feeds to clients, and prints what they are answered\n--help                prints this\n--version             prints the version\n";
+pub(crate) const HELP: &[u8] = b"Zaklumen, a gateway for Z39.50 and SRU.\n\n\
+replay CONFIG SCRIPT  plays the octets that a script feeds to clients, and prints what they are answered\n\
+--help                prints this\n\
+--version             prints the version\n";
 
 /// What `--version` prints.
 pub(crate) const VERSION: &[u8] = b"zaklumen 0.1.0\n";
 
 /// Does what the words after the program's name say, with the system's files and output and the
 /// built-in test targets, and answers the exit status.
-pub(crate) fn run<R: Env + Files + Print + AllocGlobal>(runtime: &R) -> ExitCode {
+pub(crate) fn run<R: rt::Env + rt::Files + Print + AllocGlobal>(runtime: &R) -> ExitCode {
     let alloc = runtime.alloc();
+    let mut files = SystemFiles::new(runtime);
     let mut output = SystemOutput::new(io::writer(runtime));
     let status = match words(alloc, runtime) {
-        Ok(words) => command(alloc, runtime, words.as_slice(), &mut output),
+        Ok(words) => command(alloc, words.as_slice(), &mut files, &mut output, &TestWorld),
         Err(Memory) => Status::Memory,
     };
     ExitCode::from(status.number())
 }
 
-/// The words after the program's name.
-fn words<R: Env + AllocGlobal>(alloc: Global, runtime: &R) -> Result<Vec<Text>, Memory> {
-    let Ok(args) = env::args(runtime) else {
-        return Err(Memory);
-    };
-    let mut words = Vec::new(alloc);
-    for arg in args.skip(1) {
-        words.push(Text::copy_of(alloc, arg.as_bytes())?)?;
+/// One command: what the program tells of itself, and else what `top` does.
+pub(crate) fn command<T: Targets, F: Files, K: Sink>(
+    alloc: Global,
+    words: &[Text],
+    files: &mut F,
+    out: &mut K,
+    targets: &T,
+) -> Status
+    ensures { IsProgramDone T.World words.now
+        (file_reads F.Files files.old files.new) (sink_writes K.Sink out.old out.new) result }
+{
+    match own_text(words) {
+        Some(text) => tell(out, text),
+        None => top(alloc, words, files, out, targets),
     }
-    Ok(words)
 }
 
-/// One command: what the program tells of itself, or else what `top` does.
-pub(crate) fn command<R: Files, K: Sink>(
-    alloc: Global,
-    runtime: &R,
-    words: &[Text],
-    output: &mut K,
-) -> Status {
-    if let [word] = words {
-        if word.as_slice() == b"--help".as_slice() {
-            return tell(output, HELP);
-        }
-        if word.as_slice() == b"--version".as_slice() {
-            return tell(output, VERSION);
-        }
+/// The text of the program's own that these words ask for.
+fn own_text(words: &[Text]) -> Option<&'static [u8]>
+    ensures { option_copied result ≡ own_text words.now }
+{
+    match words {
+        [word] if word.as_slice() == b"--help".as_slice() => Some(HELP),
+        [word] if word.as_slice() == b"--version".as_slice() => Some(VERSION),
+        _ => None,
     }
-    let mut files = SystemFiles::new(runtime);
-    top(alloc, words, &mut files, output, &TestWorld)
 }
 
 /// Prints a text of the program's own.
-fn tell<K: Sink>(output: &mut K, text: &[u8]) -> Status
-    ensures told { result ≡ Status.Ok → K.received output.new ≡ appended (K.received output.old) text.now }
-    ensures status { result ≢ Status.Ok → result ≡ Status.WriteFault }
-    ensures fault { result ≢ Status.Ok → Rose (K.faults output.old) (K.faults output.new) }
+fn tell<K: Sink>(out: &mut K, text: &[u8]) -> Status
+    ensures { IsTold text.now (sink_writes K.Sink out.old out.new) result }
 {
-    if write_all(output, text) {
+    if write_all(out, text) {
         Status::Ok
     } else {
         Status::WriteFault

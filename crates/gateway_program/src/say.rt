@@ -2,6 +2,7 @@
 
 ghost use Rattle.std.specs.Prelude.{◌≡◌, IfOk};
 ghost use Rattle.gateway_program.specs.Lines.{fault_line, script_line, Says};
+ghost use Rattle.gateway_program.specs.Outside.{sink_writes};
 
 use gw_outside::{Sink, write_all};
 use std::alloc::Global;
@@ -16,7 +17,7 @@ pub(crate) const CONFIG_REFUSED: &[u8] = b"config 0 stage\n";
 
 /// Prints a line, as far as the sink takes it.
 pub(crate) fn say<K: Sink>(out: &mut K, line: &[u8])
-    ensures { Says (K.received out.old) (K.received out.new) (K.faults out.old) (K.faults out.new) line.now }
+    ensures { Says (sink_writes K.Sink out.old out.new) line.now }
 {
     let _ = write_all(out, line);
 }

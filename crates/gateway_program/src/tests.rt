@@ -1,22 +1,22 @@
-//! Replays over fake files and a fake sink. The octets that clients are answered were worked out by
+//! Replays over files and a sink in memory. The octets that clients are answered were worked out by
 //! hand from ANSI/NISO Z39.50-2003, appendix A, and X.690.
 
-ghost use Rattle.std.specs.Prelude.{◌≢◌, ℕ, List, [], ◌∷◌, Some, None, if◌then◌else◌, ◌==◌};
-ghost use lib.Pointwise.{pointwise};
-ghost use Rattle.gw_outside.specs.Files.{FileFits};
-
+use crate::files::SystemFiles;
+use crate::output::SystemOutput;
 use crate::program::{HELP, command};
 use crate::say::USAGE;
 use crate::status::Status;
 use crate::top::top;
-use gw_outside::{FileGot, Files, Sink, Took};
+use crate::words::words;
+use gw_memory::{MemoryFiles, MemorySink};
+use route_config::SMALLEST_TEXT;
 use std::alloc::Global;
+use std::env::FillError;
+use std::fs::OpenOptions;
+use std::rt::Env;
 use std::test::Fail;
 use test_target::TestWorld;
-use z_types::{Memory, Text, copy};
-
-const CONFIG: &[u8] =
-    b"[[target]]\nname = \"alpha\"\naddress = \"test:0\"\n\n[[database]]\nname = \"Default\"\n\n[[database.leg]]\nvia = \"alpha\"\ndatabases = [\"Default\"]\n";
+use z_types::{List, Memory, Text};
 
 /// A script that feeds client 1 an Init, and its page.
 const INIT: &[u8] = b"feed 1 b413830205e0840301fffe85031000008603100000\n";
@@ -44,104 +44,48 @@ const NO_COMMANDS: &[&[&str]] = &[
     &["serve", "c", "9999", "1"],
 ];
 
-/// The files `c` and `s`, and `l`, which is longer than any limit. No other can be read, nor can any at
-/// the read of a number.
-#[derive(Drop)]
-struct FakeFiles {
-    config: Text,
-    script: Text,
-    failing: u64,
-    reads: u64,
-    faults: u64,
-    last_failed: Option<Text>,
-}
-
-impl Files for FakeFiles {
-    ghost faults = { λ s. s.faults };
-
-    ghost told = { λ s name. if pointwise ◌==◌ name (99 ∷ []) then Some s.config else if pointwise ◌==◌ name (115 ∷ []) then Some s.script else None };
-
-    ghost last_failed = { λ s. s.last_failed };
-
-    fn read_all(&mut self, _: Global, name: &Text, limit: usize) -> FileGot {
-        self.reads = self.reads.saturating_add(1);
-        if self.reads != self.failing {
-            if name.as_slice() == b"c".as_slice() {
-                return given(&self.config, limit);
-            }
-            if name.as_slice() == b"s".as_slice() {
-                return given(&self.script, limit);
-            }
-            if name.as_slice() == b"l".as_slice() {
-                return FileGot::Longer;
-            }
-        }
-        let Ok(name) = copy(name) else {
-            return FileGot::Memory;
-        };
-        self.last_failed = Some(name);
-        self.faults = self.faults.saturating_add(1);
-        FileGot::Failed
-    }
-}
-
-/// A file of these octets, read up to a limit.
-fn given(text: &Text, limit: usize) -> FileGot
-    ensures fits { FileFits (Some text.now) limit result }
-    ensures read { result ≢ FileGot.Failed }
-{
-    if limit < text.len() {
-        return FileGot::Longer;
-    }
-    match copy(text) {
-        Ok(text) => FileGot::Whole(text),
-        Err(_) => FileGot::Memory,
-    }
-}
-
-/// A sink that takes an octet at a write, and fails at the write of a number.
-#[derive(Drop)]
-struct FakeSink {
-    received: Vec<u8>,
-    failing: usize,
-    writes: usize,
-    faults: u64,
-}
-
-impl Sink for FakeSink {
-    ghost faults = { λ s. s.faults };
-
-    ghost received = { λ s. Some s.received.items };
-
-    fn write(&mut self, piece: &[u8]) -> Took {
-        self.writes = self.writes.saturating_add(1);
-        if self.writes != self.failing {
-            if let Ok(()) = self.received.push(piece[0]) {
-                return Took::Bytes(1);
-            }
-        }
-        self.faults = self.faults.saturating_add(1);
-        Took::Failed
-    }
-}
-
-/// Two files, and the numbers of the read and of the write that fail; 0 for none.
+/// The files `c` and `s`, and the numbers of the read and of the write that fail; 0 for none.
 #[derive(Clone, Copy)]
 struct Outside<'a> {
     config: &'a [u8],
     script: &'a [u8],
     failing_read: u64,
-    failing_write: usize,
+    failing_write: u64,
 }
 
 /// The smallest configuration and a script, where nothing fails.
 fn sound(script: &[u8]) -> Outside<'_> {
     Outside {
-        config: CONFIG,
+        config: SMALLEST_TEXT,
         script,
         failing_read: 0,
         failing_write: 0,
     }
+}
+
+/// The list of one number.
+fn numbers(alloc: Global, number: u64) -> Result<List<u64>, Memory> {
+    let mut list = List::new(alloc);
+    list.push(number)?;
+    Ok(list)
+}
+
+/// Files of these names and octets.
+fn files(alloc: Global, stated: &[(&[u8], &[u8])], failing: u64) -> Result<MemoryFiles, Memory> {
+    let mut files = List::new(alloc);
+    for (name, octets) in stated {
+        files.push((Text::copy_of(alloc, name)?, Text::copy_of(alloc, octets)?))?;
+    }
+    Ok(MemoryFiles::new(files, numbers(alloc, failing)?))
+}
+
+/// The words of a line.
+fn texts(alloc: Global, line: &[&str]) -> Result<Vec<Text>, Memory> {
+    let mut words = Vec::new(alloc);
+    for word in line {
+        words.push(Text::copy_of(alloc, word.as_bytes())?)?;
+    }
+    Ok(words)
 }
 
 /// Whether words end with this status, and print this.
@@ -152,26 +96,15 @@ fn ends(
     wanted: Status,
     printed: &[u8],
 ) -> Result<bool, Memory> {
-    let mut words = Vec::new(alloc);
-    for word in line {
-        words.push(Text::copy_of(alloc, word.as_bytes())?)?;
-    }
-    let mut files = FakeFiles {
-        config: Text::copy_of(alloc, outside.config)?,
-        script: Text::copy_of(alloc, outside.script)?,
-        failing: outside.failing_read,
-        reads: 0,
-        faults: 0,
-        last_failed: None,
-    };
-    let mut out = FakeSink {
-        received: Vec::new(alloc),
-        failing: outside.failing_write,
-        writes: 0,
-        faults: 0,
-    };
+    let words = texts(alloc, line)?;
+    let stated = [
+        (b"c".as_slice(), outside.config),
+        (b"s".as_slice(), outside.script),
+    ];
+    let mut files = files(alloc, &stated, outside.failing_read)?;
+    let mut out = MemorySink::taking(alloc, 1, numbers(alloc, outside.failing_write)?);
     let status = top(alloc, words.as_slice(), &mut files, &mut out, &TestWorld);
-    Ok(status == wanted && out.received.as_slice() == printed)
+    Ok(status == wanted && out.received() == printed)
 }
 
 /// Whether a replay ends with this status, and prints this.
@@ -196,6 +129,42 @@ fn a_page_is_printed_of_each_script(rt: HostRuntime) -> Result<(), Fail> {
     Ok(())
 }
 
+/// Scripts in which clients 7 and 10000 are fed the same octets, in turns, in pieces, run and ended where
+/// they may be.
+const IN_TURNS: [&[u8]; 3] = [
+    b"feed 10000 b413830205e0840301fffe85031000008603100000\nfeed 7 b413830205e0840301fffe85031000008603100000\n",
+    b"feed 7 b413830205e08403\nrun 7\nfeed 10000 b413830205e0840301fffe8503100000\nfeed 7 01fffe85031000008603100000\nrun 7\nend 7\nfeed 10000 8603100000\nrun 7\n",
+    b"run 10000\nfeed 10000 b413\nfeed 7 b413\nfeed 10000 830205e0840301fffe85031000008603100000\nend 10000\nfeed 7 830205e0840301fffe85031000008603100000",
+];
+
+const IN_TURNS_PAGE: &[u8] =
+    b"client 7\nbytes b529830205e0840301c102850310000086031000008c01ff9f6e026d709f6f07676174657761799f700131\nmarks Plain\nend Finished\nclient 10000\nbytes b529830205e0840301c102850310000086031000008c01ff9f6e026d709f6f07676174657761799f700131\nmarks Plain\nend Finished\nclients 2 requests 2\n";
+
+#[test]
+fn clients_are_answered_the_same_in_any_turns(rt: HostRuntime) -> Result<(), Fail> {
+    for script in IN_TURNS {
+        assert!(rt; replays(rt.alloc(), sound(script), Status::Ok, IN_TURNS_PAGE)?);
+    }
+    Ok(())
+}
+
+#[test]
+fn a_file_over_its_limit_is_refused_without_its_octets(rt: HostRuntime) -> Result<(), Fail> {
+    let alloc = rt.alloc();
+    let config = vec![in alloc; b'#'; 262_145]?;
+    let script = vec![in alloc; b'#'; 16_777_217]?;
+    let long_config = Outside {
+        config: config.as_slice(),
+        ..sound(b"")
+    };
+    assert!(rt; replays(alloc, long_config, Status::Config, b"config 0 stage\n")?);
+    let long_script = sound(script.as_slice());
+    assert!(rt; replays(alloc, long_script, Status::Script, b"script line 0\n")?);
+    let longest_script = sound(&script.as_slice()[1..]);
+    assert!(rt; replays(alloc, longest_script, Status::Ok, b"clients 0 requests 0\n")?);
+    Ok(())
+}
+
 #[test]
 fn words_that_are_no_command_are_told_the_usage(rt: HostRuntime) -> Result<(), Fail> {
     for line in NO_COMMANDS {
@@ -214,18 +183,6 @@ fn a_refused_file_is_told_by_its_first_fault(rt: HostRuntime) -> Result<(), Fail
             b"config 0 stage\n".as_slice(),
         ),
         (
-            ["replay", "l", "s"],
-            b"x",
-            Status::Config,
-            b"config 0 stage\n",
-        ),
-        (
-            ["replay", "c", "l"],
-            b"",
-            Status::Script,
-            b"script line 0\n",
-        ),
-        (
             ["replay", "c", "s"],
             b"feed 1 b",
             Status::Script,
@@ -233,9 +190,9 @@ fn a_refused_file_is_told_by_its_first_fault(rt: HostRuntime) -> Result<(), Fail
         ),
         (
             ["replay", "c", "s"],
-            b"#\nfeed 2 b4",
+            b"#\nfeed 2 b4\nfeed 2 b4\nend 2\nfeed 2 b4",
             Status::Script,
-            b"script line 2\n",
+            b"script line 5\n",
         ),
         (
             ["replay", "d", "s"],
@@ -274,7 +231,7 @@ fn each_read_that_fails_is_told_by_the_name_of_its_file(rt: HostRuntime) -> Resu
 fn a_front_is_printed_up_to_the_write_that_fails(rt: HostRuntime) -> Result<(), Fail> {
     for written in 0..INIT_PAGE.len() {
         let outside = Outside {
-            failing_write: written + 1,
+            failing_write: written as u64 + 1,
             ..sound(INIT)
         };
         let front = &INIT_PAGE[..written];
@@ -285,7 +242,7 @@ fn a_front_is_printed_up_to_the_write_that_fails(rt: HostRuntime) -> Result<(), 
     }
     for written in 0..14 {
         let outside = Outside {
-            failing_write: written + 1,
+            failing_write: written as u64 + 1,
             ..sound(b"x")
         };
         let front = &b"script line 1\n"[..written];
@@ -297,24 +254,106 @@ fn a_front_is_printed_up_to_the_write_that_fails(rt: HostRuntime) -> Result<(), 
     Ok(())
 }
 
-/// Whether one word, over the system's files, ends well and prints this.
-fn tells(runtime: &HostRuntime, word: &str, printed: &[u8]) -> Result<bool, Memory> {
+/// Whether words, over the system's files, end so and print this.
+fn ends_at_the_system(
+    runtime: &HostRuntime,
+    line: &[&str],
+    wanted: Status,
+    printed: &[u8],
+) -> Result<bool, Memory> {
     let alloc = runtime.alloc();
-    let words = [Text::copy_of(alloc, word.as_bytes())?];
-    let mut out = FakeSink {
-        received: Vec::new(alloc),
-        failing: 0,
-        writes: 0,
-        faults: 0,
-    };
-    let status = command(alloc, runtime, &words, &mut out);
-    Ok(status == Status::Ok && out.received.as_slice() == printed)
+    let words = texts(alloc, line)?;
+    let mut files = SystemFiles::new(runtime);
+    let mut out = MemorySink::new(alloc, List::new(alloc));
+    let status = command(alloc, words.as_slice(), &mut files, &mut out, &TestWorld);
+    Ok(status == wanted && out.received() == printed)
 }
 
 #[test]
-fn the_program_tells_of_itself(rt: HostRuntime) -> Result<(), Fail> {
-    assert!(rt; tells(&rt, "--help", HELP)?, "help");
-    assert!(rt; tells(&rt, "--version", b"zaklumen 0.1.0\n")?, "version");
+fn the_program_tells_of_itself_and_of_the_files_that_it_cannot_read(
+    rt: HostRuntime,
+) -> Result<(), Fail> {
+    for (line, status, printed) in [
+        (["--help"].as_slice(), Status::Ok, HELP),
+        (&["--version"], Status::Ok, b"zaklumen 0.1.0\n"),
+        (&["--version", "--version"], Status::Words, USAGE),
+        // a file that is missing, a folder, one without an end, an empty one
+        (
+            &["replay", "/no/such/file", "s"],
+            Status::ReadFault,
+            b"read fault /no/such/file\n",
+        ),
+        (&["replay", "/", "s"], Status::ReadFault, b"read fault /\n"),
+        (
+            &["replay", "/dev/zero", "s"],
+            Status::Config,
+            b"config 0 stage\n",
+        ),
+        (
+            &["replay", "/dev/null", "s"],
+            Status::Config,
+            b"config 0 stage\n",
+        ),
+    ] {
+        assert!(rt; ends_at_the_system(&rt, line, status, printed)?);
+    }
+    Ok(())
+}
+
+#[test]
+fn an_output_that_fails_is_a_fault_unless_a_refusal_came_first(
+    rt: HostRuntime,
+) -> Result<(), Fail> {
+    let alloc = rt.alloc();
+    for (line, wanted) in [
+        (["--version"].as_slice(), Status::WriteFault),
+        (&["--no-such-flag"], Status::Words),
+    ] {
+        let words = texts(alloc, line)?;
+        let mut files = SystemFiles::new(&rt);
+        let full = OpenOptions::new().write(true).open(&rt, "/dev/full")?;
+        let mut out = SystemOutput::new(full);
+        let status = command(alloc, words.as_slice(), &mut files, &mut out, &TestWorld);
+        assert_eq!(rt; status, wanted);
+    }
+    Ok(())
+}
+
+/// The words that a program was started with, its name among them.
+#[derive(Drop)]
+struct FakeEnvironment<'a> {
+    words: &'a [&'a [u8]],
+}
+
+impl Env for FakeEnvironment<'_> {
+    fn arg(&self, place: usize, into: &mut [u8]) -> Result<usize, FillError> {
+        match self.words.get(place) {
+            None => Err(FillError::NotPresent),
+            Some(word) if word.len() > into.len() => Err(FillError::TooLong),
+            Some(word) => {
+                into[..word.len()].copy_from_slice(word);
+                Ok(word.len())
+            }
+        }
+    }
+
+    fn var(&self, _: &str, _: &mut [u8]) -> Result<usize, FillError> {
+        Err(FillError::NotPresent)
+    }
+
+    fn var_at(&self, _: usize, _: &mut [u8]) -> Result<usize, FillError> {
+        Err(FillError::NotPresent)
+    }
+}
+
+#[test]
+fn each_word_is_handed_on_as_it_stands(rt: HostRuntime) -> Result<(), Fail> {
+    let started: [&[u8]; 5] = [b"gateway", b"", b"\xff\xfe", &[b'a'; 300], b"s"];
+    let handed = words(rt.alloc(), &FakeEnvironment { words: &started })?;
+    assert_eq!(rt; handed.len(), 4);
+    for (place, word) in handed.as_slice().iter().enumerate() {
+        assert!(rt; word.as_slice() == started[place + 1], "at {place}");
+    }
     Ok(())
 }
 

@@ -1,8 +1,9 @@
 //! The call that the program makes.
 
-ghost use Rattle.std.specs.Prelude.{◌≡◌, ℕ, List, [], ◌∷◌, Some, codes};
+ghost use Rattle.std.specs.Prelude.{◌≡◌};
 ghost use Rattle.gateway_program.specs.Outcome.{IsDone, ReplayDone};
-ghost use Rattle.gateway_program.specs.Headline.{IsReplay};
+ghost use Rattle.gateway_program.specs.Outside.{file_reads, sink_writes};
+ghost use Rattle.gateway_program.specs.Headline.{IsHeadline};
 ghost use Rattle.gateway_program.specs.Lines.{Says, config_line};
 
 use crate::command::command_of;
@@ -27,12 +28,12 @@ pub fn top<T: Targets, F: Files, K: Sink>(
     targets: &T,
 ) -> Status
     // At Ok the page of one report is printed, of the answers that a route with private sessions gives.
-    ensures headline { (config script config_text script_text : List ℕ) → result ≡ Status.Ok → words.now ≡ codes "replay" ∷ config ∷ script ∷ []
-        → F.told files.old config ≡ Some config_text → F.told files.old script ≡ Some script_text
-        → IsReplay T.World config_text script_text (K.received out.old) (K.received out.new) }
+    ensures headline { IsHeadline T.World words.now
+        (file_reads F.Files files.old files.new) (sink_writes K.Sink out.old out.new) result }
 
     // Each status comes exactly as its definition says, with what is printed.
-    ensures done { IsDone T.World words.now (record { told = F.told files.old; faults = F.faults files.old; faults_after = F.faults files.new; failed_after = F.last_failed files.new }) (record { old = K.received out.old; new = K.received out.new; faults = K.faults out.old; faults_after = K.faults out.new }) result }
+    ensures done { IsDone T.World words.now
+        (file_reads F.Files files.old files.new) (sink_writes K.Sink out.old out.new) result }
 {
     match command_of(words) {
         Some((config, script)) => replay(alloc, config, script, files, out, targets),
@@ -52,7 +53,8 @@ fn replay<T: Targets, F: Files, K: Sink>(
     out: &mut K,
     targets: &T,
 ) -> Status
-    ensures { ReplayDone T.World config.now script.now (record { told = F.told files.old; faults = F.faults files.old; faults_after = F.faults files.new; failed_after = F.last_failed files.new }) (record { old = K.received out.old; new = K.received out.new; faults = K.faults out.old; faults_after = K.faults out.new }) result }
+    ensures { ReplayDone T.World config.now script.now
+        (file_reads F.Files files.old files.new) (sink_writes K.Sink out.old out.new) result }
 {
     match files.read_all(alloc, config, CONFIG_LIMIT) {
         FileGot::Whole(text) => match read_route(alloc, text.as_slice()) {
@@ -69,7 +71,7 @@ fn replay<T: Targets, F: Files, K: Sink>(
 /// Refuses a configuration.
 fn refuse<K: Sink>(out: &mut K) -> Status
     ensures status { result ≡ Status.Config }
-    ensures says { Says (K.received out.old) (K.received out.new) (K.faults out.old) (K.faults out.new) config_line }
+    ensures says { Says (sink_writes K.Sink out.old out.new) config_line }
 {
     say(out, CONFIG_REFUSED);
     Status::Config
