@@ -1,5 +1,5 @@
 -- How the lengths of white space, strings and words go on by one octet.
-use Rattle.std.proofs.Common.{◌≡◌, ℕ, suc, ◌+◌, ◌<◌, ◌≤◌, ◌==◌, List, [], ◌∷◌, length, get_or, drop, Bool, true, false, ◌&&◌, not, cond, Option, Some, None, option_map, IfSome, refl, ap, sym, ◌∙◌, arith, add-one, drop-cons}
+use Rattle.std.proofs.Common.{◌≡◌, ℕ, suc, ◌+◌, ◌<◌, ◌==◌, List, ◌∷◌, length, get_or, drop, Bool, true, false, ◌&&◌, not, cond, Option, Some, None, option_map, IfSome, refl, ap, arith, add-one, drop-cons}
 use Rattle.cql_lex.specs.Characters.{is_space, ends_word, spaces, quoted_length, word_length}
 
 -- one more passed is one less left

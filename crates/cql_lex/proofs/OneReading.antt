@@ -1,6 +1,6 @@
 -- A text has one list of tokens, or one place where it is open.
 use Rattle.std.proofs.Common.{◌≡◌, ℕ, ◌<◌, List, [], ◌∷◌, ◌++◌, length, Some, None, refl, sym, ◌∙◌, arith, subst, ap}
-use Rattle.cql_lex.specs.Tokens.{LeadsTo, IsNext, AreTokens, IsOpen, next_start, token_at, open_place}
+use Rattle.cql_lex.specs.Tokens.{LeadsTo, IsNext, AreTokens, IsUnclosed, next_start, token_at, unclosed_place}
 use Rattle.cql_lex.specs.declared.token.Token.{Token}
 
 -- tokens in order, and one more
@@ -35,14 +35,14 @@ pub one_list : (text : List ℕ) (a b : List Token) → AreTokens text a → Are
 one_list text a b h k =
     (same_way text (λ at. next_start text at ≡ length text) (λ at t s n. at_end s n) 0 a b h.0 k.0 h.1 h.2 k.1 k.2).0
 
-pub one_place : (text : List ℕ) (p q : ℕ) → IsOpen text p → IsOpen text q → p ≡ q
+pub one_place : (text : List ℕ) (p q : ℕ) → IsUnclosed text p → IsUnclosed text q → p ≡ q
 one_place text p q h k =
     let way = same_way text (λ at. token_at text (next_start text at) ≡ None) (λ at t s n. at_open s n) 0 h.0 k.0 h.1 k.1 h.2 h.4 k.2 k.4 in
     let same : h.1 ≡ k.1 = way.1 in
-    h.5 ∙ ap (λ (end : ℕ). open_place text (next_start text end)) same ∙ sym k.5
+    h.5 ∙ ap (λ (end : ℕ). unclosed_place text (next_start text end)) same ∙ sym k.5
 
 -- where the text ends it is not open
-pub not_both : (text : List ℕ) (ts : List Token) (p : ℕ) → AreTokens text ts → IsOpen text p → ⊥
+pub not_both : (text : List ℕ) (ts : List Token) (p : ℕ) → AreTokens text ts → IsUnclosed text p → ⊥
 not_both text ts p h k = go 0 ts k.0 h.0 k.1 h.1 h.2 k.2 k.3 k.4
   where
     go : (at : ℕ) (a b : List Token) (m n : ℕ) → LeadsTo text at a m → next_start text m ≡ length text → LeadsTo text at b n → next_start text n < length text → token_at text (next_start text n) ≡ None → ⊥

@@ -1,4 +1,6 @@
 pub mod Characters
 pub mod Tokens
+pub mod Spans
+pub mod OneReading
 pub mod Numbers
 pub mod Refusals

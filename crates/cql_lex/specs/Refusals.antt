@@ -1,7 +1,7 @@
 -- When the lexer refuses a text (CQL 1.2; RFC 3629 for UTF-8). Whether it is UTF-8 is asked first.
 use Rattle.std.specs.Prelude.{ℕ, ◌≤◌, List, length, take}
 use Rattle.std.specs.Str.{IsUtf8}
-use Rattle.cql_lex.specs.Tokens.{IsOpen}
+use Rattle.cql_lex.specs.Tokens.{IsUnclosed}
 use Rattle.cql_lex.specs.declared.fault.LexFault.{LexFault}
 use Rattle.cql_lex.specs.declared.fault.LexFault.TheVariants.{OpenQuote, NotUtf8, Memory}
 
@@ -15,4 +15,4 @@ IsUtf8UpTo text len =
 abbrev pub IsRefusal : List ℕ → LexFault → Type 0
 IsRefusal text Memory = Unit {0}
 IsRefusal text (NotUtf8 len) = (¬ (IsUtf8 text)) × IsUtf8UpTo text len
-IsRefusal text (OpenQuote place) = IsUtf8 text × IsOpen text place
+IsRefusal text (OpenQuote place) = IsUtf8 text × IsUnclosed text place

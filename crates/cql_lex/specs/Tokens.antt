@@ -60,10 +60,10 @@ AreTokens text ts = (end : ℕ) × LeadsTo text 0 ts end × (next_start text end
 
 -- Behind some tokens comes a string without its end, which starts at this place, or a word whose
 -- backslash, the text's last octet, has nothing to take.
-abbrev pub open_place : List ℕ → ℕ → ℕ
-open_place text start = if slice_index text start == 34 then start else length text - 1
+abbrev pub unclosed_place : List ℕ → ℕ → ℕ
+unclosed_place text start = if slice_index text start == 34 then start else length text - 1
 
-abbrev pub IsOpen : List ℕ → ℕ → Type 0
-IsOpen text place =
+abbrev pub IsUnclosed : List ℕ → ℕ → Type 0
+IsUnclosed text place =
     (ts : List Token) × (end : ℕ) × LeadsTo text 0 ts end × (next_start text end < length text)
-    × (token_at text (next_start text end) ≡ None) × (place ≡ open_place text (next_start text end))
+    × (token_at text (next_start text end) ≡ None) × (place ≡ unclosed_place text (next_start text end))

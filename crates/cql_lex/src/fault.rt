@@ -4,6 +4,7 @@ ghost use Rattle.std.specs.Prelude.{◌≡◌};
 ghost use Rattle.cql_lex.specs.declared.fault.LexFault.TheVariants.{Memory as no_memory};
 ghost use Rattle.cql_lex.specs.Numbers.{number_of};
 
+use std::fmt;
 use z_types::Memory;
 
 /// Why a text has no tokens. Nothing was changed.
@@ -36,5 +37,15 @@ impl From<Memory> for LexFault {
 
     fn from(_: Memory) -> LexFault {
         LexFault::Memory
+    }
+}
+
+impl fmt::Display for LexFault {
+    fn fmt<W: fmt::Write>(&self, f: &mut fmt::Formatter<W>) -> fmt::Result {
+        match self {
+            LexFault::OpenQuote(place) => write!(f, "what begins at octet {place} has no end"),
+            LexFault::NotUtf8(len) => write!(f, "no UTF-8 behind the first {len} octets"),
+            LexFault::Memory => f.write_str("out of memory"),
+        }
     }
 }

@@ -1,12 +1,12 @@
-//! What is true of tokens, whatever reads them.
+//! What is true of tokens, whatever reads them. These functions do nothing; what they ensure is the law.
 
-ghost use Rattle.std.specs.Prelude.{◌≡◌, ℕ, List};
-ghost use Rattle.cql_lex.specs.Tokens.{AreTokens, IsOpen};
-ghost use Rattle.cql_lex.specs.declared.token.Token.{Token};
+ghost use Rattle.std.specs.Prelude.{ℕ, List};
+ghost use Rattle.cql_lex.specs.OneReading.{HasReading, HasOneList, HasOnePlace, HasNotBoth};
 
-/// A text has one list of tokens, or one place where it is open, and never both.
+/// A text has one list of tokens, or one place where it is unclosed, and never both.
 pub fn one_reading()
-    ensures tokens { (text : List ℕ) (a b : List Token) → AreTokens text a → AreTokens text b → a ≡ b }
-    ensures open { (text : List ℕ) (p q : ℕ) → IsOpen text p → IsOpen text q → p ≡ q }
-    ensures apart { (text : List ℕ) (ts : List Token) (p : ℕ) → AreTokens text ts → IsOpen text p → ⊥ }
+    ensures reading { (text : List ℕ) → HasReading text }
+    ensures list { (text : List ℕ) → HasOneList text }
+    ensures place { (text : List ℕ) → HasOnePlace text }
+    ensures apart { (text : List ℕ) → HasNotBoth text }
 {}

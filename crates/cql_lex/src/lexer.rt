@@ -1,11 +1,12 @@
 //! The tokens of a text, in one pass.
 
-ghost use Rattle.std.specs.Prelude.{◌≡◌, ◌<◌, ◌≤◌, length, IfOk, IfErr, IfSome, IfNone};
+ghost use Rattle.std.specs.Prelude.{All, AllPairs, ◌≡◌, ◌<◌, length, IfOk, IfErr};
 ghost use Rattle.std.specs.Str.{IsUtf8};
-ghost use Rattle.cql_lex.specs.Tokens.{AreTokens, LeadsTo, IsNext, next_start, open_place};
-ghost use Rattle.cql_lex.specs.Refusals.{IsRefusal, IsUtf8UpTo};
+ghost use Rattle.cql_lex.specs.Tokens.{AreTokens, next_start, unclosed_place};
+ghost use Rattle.cql_lex.specs.Spans.{IsSpan, EndsBefore};
+ghost use Rattle.cql_lex.specs.Refusals.{IsRefusal};
 
-use crate::scan::{next_start, token_at};
+use crate::next_token::{next_start, token_at};
 use crate::{LexFault, Token};
 use std::alloc::Global;
 use std::str;
@@ -16,6 +17,8 @@ use z_types::List;
 pub fn tokens(alloc: Global, text: &[u8]) -> Result<List<Token>, LexFault>
     ensures utf8 { IfOk result (λ ts. IsUtf8 text.now) }
     ensures tokens { IfOk result (AreTokens text.now) }
+    ensures spans { IfOk result (All (IsSpan (length text.now))) }
+    ensures order { IfOk result (AllPairs EndsBefore) }
     ensures refused { IfErr result (IsRefusal text.now) }
 {
     match str::from_utf8(text) {
@@ -28,6 +31,8 @@ pub fn tokens(alloc: Global, text: &[u8]) -> Result<List<Token>, LexFault>
 fn split(alloc: Global, text: &[u8]) -> Result<List<Token>, LexFault>
     requires { IsUtf8 text.now }
     ensures tokens { IfOk result (AreTokens text.now) }
+    ensures spans { IfOk result (All (IsSpan (length text.now))) }
+    ensures order { IfOk result (AllPairs EndsBefore) }
     ensures refused { IfErr result (IsRefusal text.now) }
 {
     let mut found = List::new(alloc);
@@ -38,7 +43,7 @@ fn split(alloc: Global, text: &[u8]) -> Result<List<Token>, LexFault>
             return Ok(found);
         }
         let Some(token) = token_at(text, start) else {
-            return Err(LexFault::OpenQuote(open_place(text, start)));
+            return Err(LexFault::OpenQuote(unclosed_place(text, start)));
         };
         at = token.end;
         found.push(token)?;
@@ -46,9 +51,9 @@ fn split(alloc: Global, text: &[u8]) -> Result<List<Token>, LexFault>
 }
 
 /// The place of a fault: the first quote of a string, or the text's last octet, a backslash.
-fn open_place(text: &[u8], start: usize) -> usize
+fn unclosed_place(text: &[u8], start: usize) -> usize
     requires { start < length text.now }
-    ensures { result ≡ open_place text.now start }
+    ensures { result ≡ unclosed_place text.now start }
 {
     if text[start] == b'"' {
         start

@@ -2,16 +2,17 @@
 //! place in the text. What the tokens mean together is `cql_parse`'s.
 #![tactic(auto)]
 
+mod characters;
 mod fault;
 mod laws;
 mod lexer;
-mod scan;
+mod next_token;
 #[cfg(test)]
 mod tests;
 mod token;
 
+pub use characters::is_word;
 pub use fault::LexFault;
 pub use laws::one_reading;
 pub use lexer::tokens;
-pub use scan::is_word;
 pub use token::{Kind, Token};

@@ -62,6 +62,18 @@ fn spans_are_in_order(rt: HostRuntime) -> Result<(), Fail> {
 }
 
 #[test]
+fn a_token_is_cut_from_the_text(rt: HostRuntime) -> Result<(), Fail> {
+    let text = b"dc.title = \"a b\"".as_slice();
+    let found = tokens(rt.alloc(), text)?;
+    let wanted = [b"dc.title".as_slice(), b"=", b"\"a b\""];
+    assert_eq!(rt; found.len(), wanted.len());
+    for (token, octets) in found.as_slice().iter().zip(wanted.as_slice()) {
+        assert_eq!(rt; &text[token.start..token.end], *octets);
+    }
+    Ok(())
+}
+
+#[test]
 fn the_longest_symbol_is_taken(rt: HostRuntime) -> Result<(), Fail> {
     reads_as(
         &rt,
@@ -105,4 +117,11 @@ fn utf8_is_asked_first(rt: HostRuntime) {
     is_refused(&rt, b"a\xc3\xa9\xc3", LexFault::NotUtf8(3));
     assert_eq!(rt; LexFault::OpenQuote(7).number(), 1);
     assert_eq!(rt; LexFault::NotUtf8(7).number(), 2);
+}
+
+#[test]
+fn a_fault_is_printed_with_its_place(rt: HostRuntime) -> Result<(), Fail> {
+    let printed = format!(in rt.alloc(); "{}", LexFault::OpenQuote(7))?;
+    assert_eq!(rt; printed.as_str(), "what begins at octet 7 has no end");
+    Ok(())
 }

@@ -6,16 +6,16 @@ use Rattle.cql_parse.specs.declared.tree.Head.{Head}
 use Rattle.cql_parse.specs.declared.tree.SortKey.{SortKey}
 use Rattle.cql_parse.specs.declared.lexeme.Class.{Class}
 use Rattle.cql_parse.specs.declared.lexeme.Class.TheVariants as class
-use Rattle.cql_parse.specs.declared.scan.Owner.{Owner}
-use Rattle.cql_parse.specs.declared.scan.Owner.TheVariants.{Relation, Boolean, Key}
-use Rattle.cql_parse.specs.declared.scan.Phase.{Phase}
-use Rattle.cql_parse.specs.declared.scan.Phase.TheVariants.{Clause, Term, After, SortBy, Sign, PrefixWord, Uri, Modified, Slash, Named, Value}
-use Rattle.cql_parse.specs.declared.scan.Spot.{Spot}
+use Rattle.cql_parse.specs.declared.first_fault.Owner.{Owner}
+use Rattle.cql_parse.specs.declared.first_fault.Owner.TheVariants.{Relation, Boolean, Key}
+use Rattle.cql_parse.specs.declared.first_fault.Phase.{Phase}
+use Rattle.cql_parse.specs.declared.first_fault.Phase.TheVariants.{Clause, Term, After, SortBy, Sign, PrefixWord, Uri, Modified, Slash, Named, Value}
+use Rattle.cql_parse.specs.declared.first_fault.Spot.{Spot}
 use Rattle.cql_parse.specs.Tree.{Tree, clause, assigned, sorted}
 use Rattle.cql_parse.specs.Classes.{lower, is_word, is_term, is_symbol, is_relation, is_slash, is_close, is_equal, is_open, is_greater, is_boolean, is_sortby}
 use Rattle.cql_parse.specs.Lexemes.{Lexeme, starts}
 use Rattle.cql_parse.specs.Grammar.{Left, Due, operand, after, join, Repeats, IsName, IsModifier, AreModifiers, IsKey, IsClause, IsPrefix, Reads, plain, bracket, prefix, boolean, sort, done, ends_query, IsQuery}
-use Rattle.cql_parse.specs.Phases.{spot, step_of, accepts}
+use Rattle.cql_parse.specs.ParserPhases.{spot, step_of, accepts}
 use Rattle.cql_parse.proofs.Faults.{accepts_some, accepts_none}
 use Rattle.cql_parse.proofs.Accepting.{phase_of, on_clause_term, on_bare, on_operand, on_end, on_open, on_close, on_unvalued, on_unequal, on_sign, on_sortby, modifiers_end, term_no_slash, close_no_boolean, close_no_sortby}
 
@@ -23,14 +23,6 @@ use Rattle.cql_parse.proofs.Accepting.{phase_of, on_clause_term, on_bare, on_ope
 decided : (b : Bool) → (b ≡ true) ⊎ (b ≡ false)
 decided true = inl refl
 decided false = inr refl
-
--- what is accepted has a next phase
-next_of : (p : Phase) (n : ℕ) (x : Lexeme) (rest : List Lexeme) → accepts p n (x ∷ rest) ≡ true → (s : Spot) × (step_of p n x.class ≡ Some s) × (accepts s.phase s.«open» rest ≡ true)
-next_of p n x rest h = go (step_of p n x.class) refl
-  where
-    go : (o : Option Spot) → step_of p n x.class ≡ o → (s : Spot) × (step_of p n x.class ≡ Some s) × (accepts s.phase s.«open» rest ≡ true)
-    go None e = absurd (false≢true (sym (accepts_none p n x rest e) ∙ h))
-    go (Some s) e = (s, e, sym (accepts_some p n x rest s e) ∙ h)
 
 -- where a phase has no next one for a token, it accepts none
 refuse : {A : Type 0} (p : Phase) (n : ℕ) (x : Lexeme) (rest : List Lexeme) → step_of p n x.class ≡ None → accepts p n (x ∷ rest) ≡ true → A

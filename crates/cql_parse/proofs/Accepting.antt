@@ -6,16 +6,16 @@ use Rattle.cql_parse.specs.declared.tree.Head.{Head}
 use Rattle.cql_parse.specs.declared.tree.SortKey.{SortKey}
 use Rattle.cql_parse.specs.declared.lexeme.Class.{Class}
 use Rattle.cql_parse.specs.declared.lexeme.Class.TheVariants as class
-use Rattle.cql_parse.specs.declared.scan.Owner.{Owner}
-use Rattle.cql_parse.specs.declared.scan.Owner.TheVariants.{Relation, Boolean, Key}
-use Rattle.cql_parse.specs.declared.scan.Phase.{Phase}
-use Rattle.cql_parse.specs.declared.scan.Phase.TheVariants.{Clause, Term, After, SortBy, Sign, PrefixWord, Uri, Modified, Slash, Named, Value}
-use Rattle.cql_parse.specs.declared.scan.Spot.{Spot}
+use Rattle.cql_parse.specs.declared.first_fault.Owner.{Owner}
+use Rattle.cql_parse.specs.declared.first_fault.Owner.TheVariants.{Relation, Boolean, Key}
+use Rattle.cql_parse.specs.declared.first_fault.Phase.{Phase}
+use Rattle.cql_parse.specs.declared.first_fault.Phase.TheVariants.{Clause, Term, After, SortBy, Sign, PrefixWord, Uri, Modified, Slash, Named, Value}
+use Rattle.cql_parse.specs.declared.first_fault.Spot.{Spot}
 use Rattle.cql_parse.specs.Tree.{Tree}
 use Rattle.cql_parse.specs.Classes.{is_word, is_term, is_symbol, is_relation, is_slash, is_close, is_equal, is_open, is_greater, is_boolean, is_sortby}
 use Rattle.cql_parse.specs.Lexemes.{Lexeme, starts}
 use Rattle.cql_parse.specs.Grammar.{Due, operand, after, Repeats, IsName, MayHaveValue, AreModifiers, IsKey, AreKeys, IsClause, IsPrefix, Reads, plain, bracket, prefix, boolean, sort, done, ends_query, IsQuery}
-use Rattle.cql_parse.specs.Phases.{spot, step_of, accepts}
+use Rattle.cql_parse.specs.ParserPhases.{spot, step_of, accepts}
 use Rattle.cql_parse.proofs.Inverting.{open_no_term, greater_no_term, sortby_no_boolean, close_no_term}
 use Rattle.cql_parse.proofs.Faults.{accepts_some}
 
@@ -39,10 +39,6 @@ close_no_sortby _ h = refl
 pub greater_no_open : (c : Class) → is_greater c ≡ true → is_open c ≡ false
 greater_no_open class.Open h = cc
 greater_no_open _ h = refl
-
-pub symbol_no_slash : (c : Class) → is_symbol c ≡ true → is_slash c ≡ false
-symbol_no_slash class.Slash h = cc
-symbol_no_slash _ h = refl
 
 -- phases with the same next phase accept the same
 same_step : (p q : Phase) (n : ℕ) (x : Lexeme) (rest : List Lexeme) → step_of p n x.class ≡ step_of q n x.class → accepts p n (x ∷ rest) ≡ accepts q n (x ∷ rest)

@@ -2,10 +2,7 @@
 use Rattle.std.proofs.Common.{◌≡◌, ℕ, suc, ◌<◌, ◌≤◌, ◌==◌, Bool, true, false, List, [], ◌∷◌, ◌++◌, length, get_or, take, Option, Some, None, option_map, refl, sym, ◌∙◌, subst, ap, arith}
 use Rattle.std.proofs.lemmas.Bool.{false≢true, eqb-true}
 use Rattle.cql_lex.specs.Characters.{is_space, ends_word, quoted_length, word_length, is_whole, is_word}
-
--- these octets may stand between quotes
-pub record IsQuotable (text : List ℕ) : Type 0 where
-  pub closes : (rest : List ℕ) → quoted_length false (text ++ 34 ∷ rest) ≡ Some (suc (length text))
+use Rattle.cql_parse.specs.WellFormed.{IsQuotable}
 
 -- a bare word ends before these octets
 abbrev pub ends_before : List ℕ → Bool

@@ -7,7 +7,7 @@ use Rattle.cql_parse.specs.Classes.{is_open}
 use Rattle.cql_parse.specs.Lexemes.{Lexeme}
 use Rattle.cql_parse.specs.Grammar.{Left, Due, operand, after, join, Reads, plain, bracket, prefix, boolean, sort, done}
 use Rattle.cql_parse.specs.Nesting.{nesting}
-use Rattle.cql_parse.specs.Unfinished.{left_of, Ends, Completes}
+use Rattle.cql_parse.specs.ParserState.{left_of, Ends, Completes}
 
 -- the levels of what is read so far
 pub due_depth : Due → ℕ

@@ -1,10 +1,10 @@
 -- Where tokens stop being the beginning of a query, by what comes before.
 use Rattle.std.proofs.Common.{◌≡◌, ℕ, suc, ◌+◌, ◌<◌, ◌≤◌, Bool, true, false, List, [], ◌∷◌, ◌++◌, length, take, Option, Some, None, option_map, if◌then◌else◌, refl, sym, ◌∙◌, subst, ap, arith}
 use Rattle.cql_lex.specs.declared.token.Token.{Token}
-use Rattle.cql_parse.specs.declared.scan.Phase.{Phase}
-use Rattle.cql_parse.specs.declared.scan.Spot.{Spot}
+use Rattle.cql_parse.specs.declared.first_fault.Phase.{Phase}
+use Rattle.cql_parse.specs.declared.first_fault.Spot.{Spot}
 use Rattle.cql_parse.specs.Lexemes.{Lexeme, lexemes}
-use Rattle.cql_parse.specs.Phases.{spot, step_of, ends_so, accepts, fault_at}
+use Rattle.cql_parse.specs.ParserPhases.{spot, step_of, ends_so, accepts, fault_at}
 
 -- one token, and what comes behind it
 pub accepts_some : (phase : Phase) (n : ℕ) (x : Lexeme) (rest : List Lexeme) (next : Spot) → step_of phase n x.class ≡ Some next → accepts phase n (x ∷ rest) ≡ accepts next.phase next.«open» rest

@@ -12,9 +12,9 @@ use Rattle.cql_parse.specs.declared.tree.Head.{Head}
 use Rattle.std.proofs.lemmas.Bool.{false≢true}
 use Rattle.cql_parse.specs.Classes.{is_term, is_equal, is_relation}
 use Rattle.cql_parse.specs.Grammar.{Repeats, IsKey, AreKeys, AreModifiers, IsClause, IsComparison, IsPrefix, IsNamedPrefix}
-use Rattle.cql_parse.proofs.Sure.{AreModifiers_sure}
+use Rattle.cql_parse.proofs.UniqueParts.{AreModifiers_unique}
 use Rattle.cql_parse.proofs.Repeating.{Reading, Reading_stuck}
-use Rattle.cql_parse.specs.Answers.{IsFront, Finds}
+use Rattle.cql_parse.specs.ParserAnswers.{IsFront, Finds}
 
 -- where a part is not found, what it is a part of is not
 pub Finds_err : {X Y : Type 0} (text : List ℕ) (R : X → List Lexeme → Type 0) (S : Y → List Lexeme → Type 0) (e : Stop) → ((y : Y) (rest : List Lexeme) → S y rest → (x : X) × (r : List Lexeme) × R x r) → Finds text R (Err e) → Finds text S (Err e)
@@ -76,5 +76,5 @@ comparison_modifiers ts x y more c rest e h =
 pub comparison_stuck : (ts : List Lexeme) (x y : Lexeme) (more : List Lexeme) (ms : List Modifier) (left : List Lexeme) → ts ≡ x ∷ y ∷ more → AreModifiers more ms left → starts is_term left ≡ false → (c : Head × List ℕ) (rest : List Lexeme) → IsComparison ts c.0 c.1 rest → ⊥
 comparison_stuck ts x y more ms left e m none c rest h =
     let w = comparison_modifiers ts x y more c rest e h in
-    let same = AreModifiers_sure more ms w.0 left w.1 m w.2 in
+    let same = AreModifiers_unique more ms w.0 left w.1 m w.2 in
     false≢true (sym none ∙ subst (λ (t : List Lexeme). starts is_term t ≡ true) (sym same.1) w.3)

@@ -18,13 +18,14 @@ use Rattle.cql_parse.specs.Classes.{lower, is_open, is_close, is_boolean, is_sor
 use Rattle.cql_parse.specs.Lexemes.{Lexeme, lexemes}
 use Rattle.cql_parse.specs.Grammar.{Due, operand, after, join, IsClause, IsPrefix, AreModifiers, AreKeys, Reads, IsQuery}
 use Rattle.cql_parse.specs.Nesting.{nesting}
-use Rattle.cql_parse.specs.Answers.{Finds}
-use Rattle.cql_parse.specs.Brackets.{IsFull}
-use Rattle.cql_parse.specs.Unfinished.{left_of, due_of, Makes, Ends, Completes, Goes, Unwinds, Finishes, Builds, Shallow}
+use Rattle.cql_parse.specs.ParserAnswers.{Finds}
+use Rattle.cql_parse.specs.ParserBrackets.{IsFull}
+use Rattle.cql_parse.specs.ParserState.{left_of, due_of, Makes, Ends, Completes, Goes, Unwinds, Finishes, Builds, Shallow}
 use Rattle.std.proofs.lemmas.List.{reverse-append}
 use Rattle.std.proofs.lemmas.Bool.{cases_lt}
 use Rattle.cql_parse.proofs.Steps.{bracket_step, clause_step, prefix_step, boolean_step, sort_step, end_step, close_step}
 use Rattle.cql_parse.proofs.Deeper.{completes_deep, ends_deep, nesting_least, nesting_open}
+use Rattle.z_types.specs.Bounds.{most_query_depth}
 
 -- where a part is not found and nothing goes on without it, no query goes on
 pub Goes_none : {X : Type 0} (text : List ℕ) (n : ℕ) (due : Due) (old new : List Frame) (ts : List Lexeme) (R : X → List Lexeme → Type 0) (e : Stop) → (((x : X) (rest : List Lexeme) → R x rest → ⊥) → (t : Tree) → Completes due old ts t → ⊥) → Finds text R (Err e) → Goes text n due old ts new (Err e)
@@ -94,21 +95,6 @@ pub close_deep : (query : Tree) (old new : List Frame) (x : Lexeme) (left : Opti
 close_deep query old new x left inner ts c u t h =
     completes_deep (join (option_map left_of left) inner.tree) new ts t ((close_step left new inner.tree x ts t c).0 ((u (x ∷ ts) t).0 ((close_ends query old x ts t c).0 h)))
 
-pub close_none : (query : Tree) (old new : List Frame) (x : Lexeme) (q : Grown) (ts : List Lexeme) → is_close x.class ≡ true → Unwinds query old new (Ok (Whole q)) → (t : Tree) → Completes (after query) old (x ∷ ts) t → ⊥
-close_none query old new x q ts c u t h =
-    let w = (u (x ∷ ts) t).0 ((close_ends query old x ts t c).0 h) in
-    let e : x ∷ ts ≡ [] = w.0 in cc
-
-pub close_err : (text : List ℕ) (n : ℕ) (query : Tree) (old new : List Frame) (x : Lexeme) (ts : List Lexeme) (e : Stop) → is_close x.class ≡ true → Unwinds query old new (Err e) → Goes text n (after query) old (x ∷ ts) new (Err e)
-close_err text n query old new x ts NoQuery c u = absurd u
-close_err text n query old new x ts Deep c u = λ t h. inl (u (x ∷ ts) t ((close_ends query old x ts t c).0 h))
-close_err text n query old new x ts Memory c u = tt
-
--- what is put around a query as it ends
-pub prefix_ends : (left : Option LeftOperand) (name : Option (List ℕ)) (uri : List ℕ) (fs : List Frame) (q : Tree) (g : Grown) (rest : List Lexeme) (t : Tree) → g.tree ≡ join (option_map left_of left) (assigned name uri q) → Ends (Prefix left name uri ∷ fs) q rest t ↔ Ends fs g.tree rest t
-prefix_ends left name uri fs q g rest t e =
-    subst (λ (y : Tree). Ends (Prefix left name uri ∷ fs) q rest t ↔ Ends fs y rest t) (sym e) (λ h. h, λ h. h)
-
 -- a prefix assignment that makes a query too deep makes the whole so
 pub unwind_deep : (whole : Tree) (old cur new left_over : List Frame) (query : Tree) (left : Option LeftOperand) (name : Option (List ℕ)) (uri : List ℕ) (made : Tree) (e : Stop) → ((rest : List Lexeme) (t : Tree) → Ends old whole rest t ↔ Ends (reverse cur) query rest t) → cur ≡ new ++ Prefix left name uri ∷ [] → depth made ≤ depth (join (option_map left_of left) (assigned name uri query)) → Makes (Err e) made → Unwinds whole old left_over (Err e)
 unwind_deep whole old cur new left_over query left name uri made NoQuery same frames has h = absurd h
@@ -130,24 +116,19 @@ finish_inner query old new left g u t h =
     let w = (u [] t).0 ((end_step query old [] t refl).0 h) in
     let e : [] ≡ w.0 ∷ w.1 = w.4 in cc
 
--- a query is a clause that is due within nothing
-pub whole_query : (ts : List Lexeme) (t : Tree) → IsQuery ts t ↔ Completes (operand None) [] ts t
-whole_query ts t =
-    (λ r. (t, [], r, (refl, refl)), λ h. subst (λ (x : Tree). IsQuery ts x) (sym h.3.1) (subst (λ (end : List Lexeme). Reads (operand None) ts h.0 end) h.3.0 h.2))
-
 -- one part after another
 pub query_more : (text : List ℕ) (all : List Lexeme) (due : Due) (old new : List Frame) (ts : List Lexeme) (n : ℕ) (state : State) (rest : Bor (List Token)) → ((t : Tree) → IsQuery all t ↔ Completes due old ts t) → Goes text n due old ts new (Ok (state, rest)) → (t : Tree) → IsQuery all t ↔ Completes (due_of state) new (lexemes text rest.now) t
 query_more text all due old new ts n state rest same goes t =
     (λ q. (goes t).0 ((same t).0 q), λ h. (same t).1 ((goes t).1 h))
 
-pub query_err : (text : List ℕ) (all : List Lexeme) (due : Due) (old new : List Frame) (ts : List Lexeme) (n : ℕ) (e : Stop) → ((t : Tree) → IsQuery all t ↔ Completes due old ts t) → ((48 < nesting 0 all) ↔ (48 < nesting n ts)) → Goes text n due old ts new (Err e) → Builds all (Err e)
+pub query_err : (text : List ℕ) (all : List Lexeme) (due : Due) (old new : List Frame) (ts : List Lexeme) (n : ℕ) (e : Stop) → ((t : Tree) → IsQuery all t ↔ Completes due old ts t) → ((most_query_depth < nesting 0 all) ↔ (most_query_depth < nesting n ts)) → Goes text n due old ts new (Err e) → Builds all (Err e)
 query_err text all due old new ts n NoQuery same nest goes = λ t q. goes t ((same t).0 q)
 query_err text all due old new ts n Memory same nest goes = tt
 query_err text all due old new ts n Deep same nest goes = λ t q. ⊎_elim (λ d. inl d) (λ b. inr (nest.1 b)) (goes t ((same t).0 q))
 
-pub query_done : (all : List Lexeme) (due : Due) (frames : List Frame) (n : ℕ) (r : Result Grown Stop) → ((t : Tree) → IsQuery all t ↔ Completes due frames [] t) → ((48 < nesting 0 all) ↔ (48 < n)) → n ≤ 48 → Shallow r → Finishes due frames r → Builds all r
+pub query_done : (all : List Lexeme) (due : Due) (frames : List Frame) (n : ℕ) (r : Result Grown Stop) → ((t : Tree) → IsQuery all t ↔ Completes due frames [] t) → ((most_query_depth < nesting 0 all) ↔ (most_query_depth < n)) → n ≤ most_query_depth → Shallow r → Finishes due frames r → Builds all r
 query_done all due frames n (Ok g) same nest few low f =
-    ((same g.tree).1 ((f g.tree).1 refl), low, ⊎_elim (λ above. absurd (omega (arith, nest.0 above, few))) (λ below. below) (cases_lt 48 (nesting 0 all)))
+    ((same g.tree).1 ((f g.tree).1 refl), low, ⊎_elim (λ above. absurd (omega (arith, nest.0 above, few))) (λ below. below) (cases_lt most_query_depth (nesting 0 all)))
 query_done all due frames n (Err NoQuery) same nest few low f = λ t q. f t ((same t).0 q)
 query_done all due frames n (Err Deep) same nest few low f = λ t q. inl (f t ((same t).0 q))
 query_done all due frames n (Err Memory) same nest few low f = tt

@@ -1,6 +1,6 @@
 pub mod Words
 pub mod Repeating
-pub mod Sure
+pub mod UniqueParts
 pub mod Finding
 pub mod Inverting
 pub mod Steps
@@ -17,8 +17,8 @@ pub mod Fronts
 pub mod Cuts
 pub mod Signs
 pub mod Sound
-pub mod Proper
-pub mod Laid
+pub mod ParsedIsWellFormed
+pub mod WrittenLexemes
 pub mod Parts
 pub mod ReadsBack
 pub mod Shallow

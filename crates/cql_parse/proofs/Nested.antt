@@ -10,6 +10,7 @@ use Rattle.cql_parse.specs.Lexemes.{Lexeme, starts}
 use Rattle.cql_parse.specs.Grammar.{Repeats, IsName, MayHaveValue, AreModifiers, IsKey, AreKeys, IsClause, IsPrefix}
 use Rattle.cql_parse.specs.Nesting.{nesting}
 use Rattle.cql_parse.proofs.Deeper.{nesting_least}
+use Rattle.z_types.specs.Bounds.{most_query_depth}
 
 -- a class that passes a test which brackets do not is none
 no_bracket : (test : Class → Bool) → test Open ≡ false → test Close ≡ false → (c : Class) → test c ≡ true → (is_open c ≡ false) × (is_close c ≡ false)
@@ -64,7 +65,7 @@ nesting_prefix n ts (Some name) uri rest h =
     ap (nesting n) h.tokens ∙ nesting_skip is_greater refl refl n h.sign (h.word ∷ h.equal ∷ h.term ∷ rest) h.is_sign ∙ nesting_skip is_word refl refl n h.word (h.equal ∷ h.term ∷ rest) h.is_word ∙ nesting_skip is_equal refl refl n h.equal (h.term ∷ rest) h.is_equal ∙ nesting_skip is_term refl refl n h.term rest h.is_term
 
 -- a closing bracket leaves one bracket less open
-pub nesting_close : (n : ℕ) (x : Lexeme) (ts : List Lexeme) → n ≤ 48 → is_close x.class ≡ true → (48 < nesting n (x ∷ ts)) ↔ (48 < nesting (n - 1) ts)
+pub nesting_close : (n : ℕ) (x : Lexeme) (ts : List Lexeme) → n ≤ most_query_depth → is_close x.class ≡ true → (most_query_depth < nesting n (x ∷ ts)) ↔ (most_query_depth < nesting (n - 1) ts)
 nesting_close n x ts few c = let o = close_no_open x.class c in rw (o, c) (λ h. omega (arith, h, few), λ h. omega (arith, h))
   where
     close_no_open : (c : Class) → is_close c ≡ true → is_open c ≡ false
@@ -80,5 +81,5 @@ nesting_close n x ts few c = let o = close_no_open x.class c in rw (o, c) (λ h.
     close_no_open Word h = refl
 
 -- equal nestings pass the limit together
-pub same_limit : (a b : ℕ) → a ≡ b → (48 < a) ↔ (48 < b)
+pub same_limit : (a b : ℕ) → a ≡ b → (most_query_depth < a) ↔ (most_query_depth < b)
 same_limit a b e = (λ h. omega (arith, e, h), λ h. omega (arith, e, h))

@@ -5,7 +5,7 @@ use Rattle.cql_parse.specs.Classes.{lower, is_term, is_open, is_greater, is_bool
 use Rattle.cql_parse.specs.Lexemes.{Lexeme, starts}
 use Rattle.cql_parse.specs.Grammar.{Left, Due, operand, after, join, IsClause, IsPrefix, AreModifiers, AreKeys, Reads, plain, bracket, prefix, boolean, sort, done, ends_query, IsQuery}
 use Rattle.cql_parse.proofs.Inverting.{FromOperand, by_clause, by_bracket, by_prefix, FromAfter, by_boolean, by_sort, by_end, from_operand, from_after, open_no_term, open_no_greater, boolean_term, sortby_term, sortby_no_boolean, close_no_term, clause_first, prefix_first, clash, term_or_greater}
-use Rattle.cql_parse.proofs.Sure.{IsClause_sure, IsPrefix_sure, AreModifiers_sure, AreKeys_sure}
+use Rattle.cql_parse.proofs.UniqueParts.{IsClause_unique, IsPrefix_unique, AreModifiers_unique, AreKeys_unique}
 use Rattle.cql_parse.specs.declared.tree.Modifier.{Modifier}
 use Rattle.cql_parse.specs.declared.tree.Head.{Head}
 use Rattle.cql_parse.specs.declared.tree.SortKey.{SortKey}
@@ -16,7 +16,7 @@ Agrees due ts q end = (p : Tree) (stop : List Lexeme) → Reads due ts p stop �
 
 agree_clause : (left : Option Left) (ts rest end : List Lexeme) (q : Tree) (head : Option Head) (text : List ℕ) → IsClause ts head text rest → Agrees (after (join left (clause head text))) rest q end → (p : Tree) (stop : List Lexeme) → FromOperand left ts p stop → (q ≡ p) × (end ≡ stop)
 agree_clause left ts rest end q head text c ih p stop (by_clause h u r d s) =
-    let w = IsClause_sure ts h head u text r rest d c in
+    let w = IsClause_unique ts h head u text r rest d c in
     let tree : clause h u ≡ clause head text = λ i. clause (w.0 i) (w.1 i) in
     let s' = subst (λ (x : Tree). Reads (after (join left x)) r p stop) tree s in
     ih p stop (subst (λ (l : List Lexeme). Reads (after (join left (clause head text))) l p stop) w.2 s')
@@ -45,7 +45,7 @@ agree_prefix left ts rest end inner name uri c ih p stop (by_bracket x y more r 
     let first = subst (λ (l : List Lexeme). starts is_greater l ≡ true) e (prefix_first ts name uri rest c) in
     clash (is_greater x.class) (is_greater x.class) first (open_no_greater x.class o) refl
 agree_prefix left ts rest end inner name uri c ih p stop (by_prefix n u r other d s eq) =
-    let w = IsPrefix_sure ts name n uri u rest r c d in
+    let w = IsPrefix_unique ts name n uri u rest r c d in
     let a = ih other stop (subst (λ (l : List Lexeme). Reads (operand None) l other stop) (sym w.2) s) in
     let made : join left (assigned name uri inner) ≡ join left (assigned n u other) = λ i. join left (assigned (w.0 i) (w.1 i) (a.0 i)) in
     (made ∙ sym eq, a.1)
@@ -55,7 +55,7 @@ agree_boolean tree x ts rest end q ms b m ih p stop (by_boolean z more r others 
     let word : z ≡ x = cc in
     let same : more ≡ ts = cc in
     let n' = subst (λ (l : List Lexeme). AreModifiers l others r) same n in
-    let w = AreModifiers_sure ts others ms r rest n' m in
+    let w = AreModifiers_unique ts others ms r rest n' m in
     let left : Left → Type 0 = λ l. Reads (operand (Some l)) r p stop in
     let lefts : record { tree = tree; boolean = lower z.text; modifiers = others } ≡ record { tree = tree; boolean = lower x.text; modifiers = ms } = λ i. record { tree = tree; boolean = lower (word i).text; modifiers = w.0 i } in
     ih p stop (subst (λ (l : List Lexeme). Reads (operand (Some (record { tree = tree; boolean = lower x.text; modifiers = ms }))) l p stop) w.1 (subst left lefts s))
@@ -71,7 +71,7 @@ agree_sort tree x ts end keys s k p stop (by_boolean z more r others e b' n m) =
     clash (is_boolean z.class) (is_boolean x.class) b' (sortby_no_boolean x.class s) (ap (λ (l : Lexeme). is_boolean l.class) word)
 agree_sort tree x ts end keys s k p stop (by_sort z more others e s' l f eq) =
     let same : more ≡ ts = cc in
-    let w = AreKeys_sure ts keys others end stop k (subst (λ (t : List Lexeme). AreKeys t others stop) same l) in
+    let w = AreKeys_unique ts keys others end stop k (subst (λ (t : List Lexeme). AreKeys t others stop) same l) in
     (ap (λ (ks : List SortKey). sorted tree ks) w.0 ∙ sym eq, w.1)
 agree_sort tree x ts end keys s k p stop (by_end f eq at) =
     clash (is_term x.class) (is_term x.class) (sortby_term x.class s) (close_no_term x.class f) refl

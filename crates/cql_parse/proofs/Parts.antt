@@ -12,11 +12,11 @@ use Rattle.cql_parse.specs.Classes.{is_word as is_word_class}
 use Rattle.cql_parse.specs.Lexemes.{Lexeme, starts}
 use Rattle.cql_parse.specs.Grammar.{Repeats, IsName, MayHaveValue, AreModifiers, IsKey, AreKeys, IsClause, IsPrefix, ends_query}
 use Rattle.cql_parse.proofs.Cuts.{by_test}
-use Rattle.cql_parse.proofs.Signs.{IsSign, equal, exact, less, greater, less_or_equal, greater_or_equal, less_or_greater, sign_lexeme, word_lexeme, quoted_lexeme, slash_lexeme}
+use Rattle.cql_parse.proofs.Signs.{sign_lexeme, word_lexeme, quoted_lexeme, slash_lexeme}
 use Rattle.cql_parse.proofs.Sound.{word_classes}
-use Rattle.cql_parse.proofs.Proper.{IsRelationText, symbol, word, ProperValue, ProperModifiers, ProperKeys, ProperHead, has_keys}
-use Rattle.cql_parse.proofs.Laid.{index_lexeme, relation_lexeme, value_lexemes, modifiers_lexemes, keys_lexemes, head_lexemes, prefix_lexemes}
+use Rattle.cql_parse.proofs.WrittenLexemes.{index_lexeme, relation_lexeme, value_lexemes, modifiers_lexemes, keys_lexemes, head_lexemes, prefix_lexemes}
 use Rattle.std.proofs.Common.{⊎_elim}
+use Rattle.cql_parse.specs.WellFormed.{IsSymbolText, equal, exact, less, greater, less_or_equal, greater_or_equal, less_or_greater, IsRelationText, symbol, word, IsWellFormedValue, AreWellFormedModifiers, AreWellFormedKeys, IsWellFormedHead, has_keys}
 
 -- a bare word is of a class of words
 pub word_is_word : (text : List ℕ) → is_word_class (word_class text) ≡ true
@@ -27,7 +27,7 @@ pub word_is_term : (text : List ℕ) → is_term (word_class text) ≡ true
 word_is_term text = ⊎_elim (λ (e : word_class text ≡ class.Word). ap is_term e) (λ others. ⊎_elim (λ (e : word_class text ≡ class.Boolean). ap is_term e) (λ (e : word_class text ≡ class.SortBy). ap is_term e) others) (word_classes text)
 
 -- a symbol is of a class of symbols
-pub sign_is_symbol : (sign : List ℕ) → IsSign sign → is_symbol (sign_lexeme sign).class ≡ true
+pub sign_is_symbol : (sign : List ℕ) → IsSymbolText sign → is_symbol (sign_lexeme sign).class ≡ true
 sign_is_symbol sign equal = refl
 sign_is_symbol sign exact = refl
 sign_is_symbol sign less = refl
@@ -57,7 +57,7 @@ pub relation_is : (text : List ℕ) → IsRelationText text → (is_relation (re
 relation_is text (word w c) = let e = w.word in (rw (e, c) refl, rw e refl)
 relation_is text (symbol s) = go s
   where
-    go : {t : List ℕ} → IsSign t → (is_relation (relation_lexeme t).class ≡ true) × ((relation_lexeme t).text ≡ t)
+    go : {t : List ℕ} → IsSymbolText t → (is_relation (relation_lexeme t).class ≡ true) × ((relation_lexeme t).text ≡ t)
     go equal = (refl, refl)
     go exact = (refl, refl)
     go less = (refl, refl)
@@ -67,7 +67,7 @@ relation_is text (symbol s) = go s
     go less_or_greater = (refl, refl)
 
 -- modifiers, before what is no slash and no symbol
-pub are_modifiers : (ms : List Modifier) (ls : List Lexeme) → ProperModifiers ms → starts is_slash ls ≡ false → starts is_symbol ls ≡ false → AreModifiers (modifiers_lexemes ms ls) ms ls
+pub are_modifiers : (ms : List Modifier) (ls : List Lexeme) → AreWellFormedModifiers ms → starts is_slash ls ≡ false → starts is_symbol ls ≡ false → AreModifiers (modifiers_lexemes ms ls) ms ls
 are_modifiers [] ls p no_slash no_symbol = (no_slash, refl)
 are_modifiers (m ∷ ms) ls p no_slash no_symbol =
     (refl, modifiers_lexemes ms ls, (value_lexemes m.value (modifiers_lexemes ms ls), name, value m.value p.1), are_modifiers ms ls p.2 no_slash no_symbol)
@@ -79,12 +79,12 @@ are_modifiers (m ∷ ms) ls p no_slash no_symbol =
     none [] = no_symbol
     none (m ∷ ms) = refl
 
-    value : (v : Option (List ℕ × List ℕ)) → ProperValue v → MayHaveValue (value_lexemes v (modifiers_lexemes ms ls)) v (modifiers_lexemes ms ls)
+    value : (v : Option (List ℕ × List ℕ)) → IsWellFormedValue v → MayHaveValue (value_lexemes v (modifiers_lexemes ms ls)) v (modifiers_lexemes ms ls)
     value None q = (none ms, refl)
     value (Some v) q = record { symbol = sign_lexeme v.0; term = quoted_lexeme v.1; tokens = refl; is_symbol = sign_is_symbol v.0 q.0; is_term = refl; spelled = refl }
 
 -- sort keys, before what is no slash, no symbol and no term
-are_more_keys : (ks : List SortKey) (ls : List Lexeme) → ProperKeys ks → starts is_slash ls ≡ false → starts is_symbol ls ≡ false → starts is_term ls ≡ false → Repeats (starts is_term) IsKey (keys_lexemes ks ls) ks ls
+are_more_keys : (ks : List SortKey) (ls : List Lexeme) → AreWellFormedKeys ks → starts is_slash ls ≡ false → starts is_symbol ls ≡ false → starts is_term ls ≡ false → Repeats (starts is_term) IsKey (keys_lexemes ks ls) ks ls
 are_more_keys [] ls p no_slash no_symbol no_term = (no_term, refl)
 are_more_keys (k ∷ ks) ls p no_slash no_symbol no_term = (index_is_term k.index, keys_lexemes ks ls, key, are_more_keys ks ls p.2 no_slash no_symbol no_term)
   where
@@ -116,11 +116,11 @@ end_no test none (x ∷ ls) h = go x.class h
     go _ e = absurd (false≢true e)
 
 -- sort keys, before the end of a query
-pub are_keys : (ks : List SortKey) (ls : List Lexeme) → has_keys ks ≡ true → ProperKeys ks → ends_query ls ≡ true → AreKeys (keys_lexemes ks ls) ks ls
+pub are_keys : (ks : List SortKey) (ls : List Lexeme) → has_keys ks ≡ true → AreWellFormedKeys ks → ends_query ls ≡ true → AreKeys (keys_lexemes ks ls) ks ls
 are_keys ks ls some p e = (keys_start ks ls some, are_more_keys ks ls p (end_no is_slash refl ls e) (end_no is_symbol refl ls e) (end_no is_term refl ls e))
 
 -- a clause, before what is no relation
-pub is_clause : (head : Option Head) (term : List ℕ) (ls : List Lexeme) → ProperHead head → starts is_relation ls ≡ false → IsClause (head_lexemes head (quoted_lexeme term ∷ ls)) head term ls
+pub is_clause : (head : Option Head) (term : List ℕ) (ls : List Lexeme) → IsWellFormedHead head → starts is_relation ls ≡ false → IsClause (head_lexemes head (quoted_lexeme term ∷ ls)) head term ls
 is_clause None term ls p alone = record { term = quoted_lexeme term; tokens = refl; is_term = refl; spelled = refl; alone = alone }
 is_clause (Some head) term ls p alone =
     let r = relation_is head.relation p.1 in

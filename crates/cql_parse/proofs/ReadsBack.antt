@@ -13,9 +13,9 @@ use Rattle.cql_parse.specs.Grammar.{Left, operand, after, join, Reads, plain, br
 use Rattle.cql_parse.specs.Written.{reaches_on, groups}
 use Rattle.cql_parse.proofs.Inverting.{FromAfter, by_boolean, by_sort, by_end, from_after}
 use Rattle.cql_parse.proofs.Signs.{word_lexeme, open_lexeme, close_lexeme}
-use Rattle.cql_parse.proofs.Proper.{IsBoolean, and_text, or_text, not_text, prox_text, ProperModifiers, ProperKeys, ProperHead, has_keys, Proper}
-use Rattle.cql_parse.proofs.Laid.{modifiers_lexemes, keys_lexemes, part_lexemes, tree_lexemes}
+use Rattle.cql_parse.proofs.WrittenLexemes.{modifiers_lexemes, keys_lexemes, part_lexemes, tree_lexemes}
 use Rattle.cql_parse.proofs.Parts.{term_no, index_is_term, are_modifiers, are_keys, is_clause, is_prefix}
+use Rattle.cql_parse.specs.WellFormed.{IsBooleanText, and_text, or_text, not_text, prox_text, AreWellFormedModifiers, AreWellFormedKeys, IsWellFormedHead, has_keys, IsWellFormed}
 
 -- behind a query so far comes no relation
 no_relation : (tree : Tree) (ls : List Lexeme) (q : Tree) (end : List Lexeme) → FromAfter tree ls q end → starts is_relation ls ≡ false
@@ -104,11 +104,11 @@ right_part q r left ls p end more = go (groups q) refl
     go false e = r.on_right e left ls p end more
 
 -- a clause
-clause_reads : (head : Option Head) (term : List ℕ) → ProperHead head → (left : Option Left) (ls : List Lexeme) (p : Tree) (end : List Lexeme) → Reads (after (join left (clause head term))) ls p end → Reads (operand left) (tree_lexemes (clause head term) ls) p end
+clause_reads : (head : Option Head) (term : List ℕ) → IsWellFormedHead head → (left : Option Left) (ls : List Lexeme) (p : Tree) (end : List Lexeme) → Reads (after (join left (clause head term))) ls p end → Reads (operand left) (tree_lexemes (clause head term) ls) p end
 clause_reads head term h left ls p end more =
     plain head term (is_clause head term ls h (no_relation (join left (clause head term)) ls p end (from_after more))) more
 
-reads_clause : (head : Option Head) (term : List ℕ) → ProperHead head → ReadsAs (clause head term)
+reads_clause : (head : Option Head) (term : List ℕ) → IsWellFormedHead head → ReadsAs (clause head term)
 reads_clause head term h = record {
   whole = λ ls e. clause_reads head term h None ls (clause head term) ls (done e);
   on_left = λ n ls p end more. clause_reads head term h None ls p end more;
@@ -116,13 +116,13 @@ reads_clause head term h = record {
 }
 
 -- a boolean is kept in lower case
-boolean_is : (b : List ℕ) → IsBoolean b → (is_boolean (word_lexeme b).class ≡ true) × (lower b ≡ b)
+boolean_is : (b : List ℕ) → IsBooleanText b → (is_boolean (word_lexeme b).class ≡ true) × (lower b ≡ b)
 boolean_is b and_text = (refl, refl)
 boolean_is b or_text = (refl, refl)
 boolean_is b not_text = (refl, refl)
 boolean_is b prox_text = (refl, refl)
 
-joined_reads : (b : List ℕ) (ms : List Modifier) (l r : Tree) → IsBoolean b → ProperModifiers ms → ReadsAs l → ReadsAs r → (ls : List Lexeme) (p : Tree) (end : List Lexeme) → Reads (after (joined b ms l r)) ls p end → Reads (operand None) (tree_lexemes (joined b ms l r) ls) p end
+joined_reads : (b : List ℕ) (ms : List Modifier) (l r : Tree) → IsBooleanText b → AreWellFormedModifiers ms → ReadsAs l → ReadsAs r → (ls : List Lexeme) (p : Tree) (end : List Lexeme) → Reads (after (joined b ms l r)) ls p end → Reads (operand None) (tree_lexemes (joined b ms l r) ls) p end
 joined_reads b ms l r is m at_left at_right ls p end more =
     let rest = part_lexemes (groups r) (tree_lexemes r) ls in
     let left : Left = record { tree = l; boolean = b; modifiers = ms } in
@@ -132,7 +132,7 @@ joined_reads b ms l r is m at_left at_right ls p end more =
     let mods = are_modifiers ms rest m (part_start is_slash no_slash (groups r) r (groups_more r) ls) (part_start is_symbol no_symbol (groups r) r (groups_more r) ls) in
     left_part l at_left (word_lexeme b ∷ modifiers_lexemes ms rest) p end (boolean (word_lexeme b) ms w.0 mods low)
 
-reads_joined : (b : List ℕ) (ms : List Modifier) (l r : Tree) → IsBoolean b → ProperModifiers ms → ReadsAs l → ReadsAs r → ReadsAs (joined b ms l r)
+reads_joined : (b : List ℕ) (ms : List Modifier) (l r : Tree) → IsBooleanText b → AreWellFormedModifiers ms → ReadsAs l → ReadsAs r → ReadsAs (joined b ms l r)
 reads_joined b ms l r is m at_left at_right = record {
   whole = λ ls e. joined_reads b ms l r is m at_left at_right ls (joined b ms l r) ls (done e);
   on_left = λ n ls p end more. joined_reads b ms l r is m at_left at_right ls p end more;
@@ -148,19 +148,19 @@ reads_assigned name uri q r = record {
 }
 
 -- sort keys end a query
-reads_sorted : (q : Tree) (keys : List SortKey) → has_keys keys ≡ true → ProperKeys keys → ReadsAs q → ReadsAs (sorted q keys)
+reads_sorted : (q : Tree) (keys : List SortKey) → has_keys keys ≡ true → AreWellFormedKeys keys → ReadsAs q → ReadsAs (sorted q keys)
 reads_sorted q keys some p r = record {
   whole = λ ls e. left_part q r (word_lexeme (codes "sortby") ∷ keys_lexemes keys ls) (sorted q keys) ls (sort (word_lexeme (codes "sortby")) keys refl (are_keys keys ls some p e) e);
   on_left = λ n ls p end more. absurd (false≢true (sym n));
   on_right = λ n left ls p end more. absurd (false≢true (sym n));
 }
 
-reads_as : (q : Tree) → Proper q → ReadsAs q
+reads_as : (q : Tree) → IsWellFormed q → ReadsAs q
 reads_as (clause head term) p = reads_clause head term p.0
 reads_as (joined b ms l r) p = reads_joined b ms l r p.0 p.1 (reads_as l p.2) (reads_as r p.3)
 reads_as (assigned name uri q) p = reads_assigned name uri q (reads_as q p.2)
 reads_as (sorted q keys) p = reads_sorted q keys p.0 p.1 (reads_as q p.2)
 
 -- the lexemes of a proper tree are a query of it
-pub tree_query : (q : Tree) → Proper q → Reads (operand None) (tree_lexemes q []) q []
+pub tree_query : (q : Tree) → IsWellFormed q → Reads (operand None) (tree_lexemes q []) q []
 tree_query q p = (reads_as q p).whole [] refl

@@ -5,17 +5,17 @@ use Rattle.cql_parse.specs.Lexemes.{Lexeme}
 use Rattle.cql_parse.specs.Grammar.{Repeats}
 
 -- there is one item at most at the front of tokens, and then the same tokens are left
-abbrev pub IsSure : {X : Type 0} → (List Lexeme → X → List Lexeme → Type 0) → Type 0
-IsSure {X} IsItem = (ts : List Lexeme) (x y : X) (r s : List Lexeme) → IsItem ts x r → IsItem ts y s → (x ≡ y) × (r ≡ s)
+abbrev pub IsUnique : {X : Type 0} → (List Lexeme → X → List Lexeme → Type 0) → Type 0
+IsUnique {X} IsItem = (ts : List Lexeme) (x y : X) (r s : List Lexeme) → IsItem ts x r → IsItem ts y s → (x ≡ y) × (r ≡ s)
 
-pub Repeats_sure : {X : Type 0} (is_due : List Lexeme → Bool) (IsItem : List Lexeme → X → List Lexeme → Type 0) → IsSure IsItem → IsSure (Repeats is_due IsItem)
-Repeats_sure is_due IsItem sure ts [] [] r s h k = (refl, h.1 ∙ sym k.1)
-Repeats_sure is_due IsItem sure ts [] (y ∷ ys) r s h k = absurd (false≢true (sym h.0 ∙ k.0))
-Repeats_sure is_due IsItem sure ts (x ∷ xs) [] r s h k = absurd (false≢true (sym k.0 ∙ h.0))
-Repeats_sure is_due IsItem sure ts (x ∷ xs) (y ∷ ys) r s h k =
+pub Repeats_unique : {X : Type 0} (is_due : List Lexeme → Bool) (IsItem : List Lexeme → X → List Lexeme → Type 0) → IsUnique IsItem → IsUnique (Repeats is_due IsItem)
+Repeats_unique is_due IsItem sure ts [] [] r s h k = (refl, h.1 ∙ sym k.1)
+Repeats_unique is_due IsItem sure ts [] (y ∷ ys) r s h k = absurd (false≢true (sym h.0 ∙ k.0))
+Repeats_unique is_due IsItem sure ts (x ∷ xs) [] r s h k = absurd (false≢true (sym k.0 ∙ h.0))
+Repeats_unique is_due IsItem sure ts (x ∷ xs) (y ∷ ys) r s h k =
     let here = sure ts x y h.1 k.1 h.2 k.2 in
     let k' = subst (λ (t : List Lexeme). Repeats is_due IsItem t ys s) (sym here.1) k.3 in
-    let rest = Repeats_sure is_due IsItem sure h.1 xs ys r s h.3 k' in
+    let rest = Repeats_unique is_due IsItem sure h.1 xs ys r s h.3 k' in
     let first : x ≡ y = here.0 in
     let others : xs ≡ ys = rest.0 in
     (cc, rest.1)
@@ -26,10 +26,7 @@ pub record Reading {X : Type 0} (is_due : List Lexeme → Bool) (IsItem : List L
   pub sound : (more : List X) (rest : List Lexeme) → Repeats is_due IsItem left more rest → Repeats is_due IsItem ts (found ++ more) rest
   pub full : (all : List X) (rest : List Lexeme) → Repeats is_due IsItem ts all rest → (more : List X) × (all ≡ found ++ more) × Repeats is_due IsItem left more rest
 
-pub Reading_start : {X : Type 0} (is_due : List Lexeme → Bool) (IsItem : List Lexeme → X → List Lexeme → Type 0) (ts : List Lexeme) → Reading is_due IsItem ts [] ts
-Reading_start is_due IsItem ts = record { sound = λ more rest h. h; full = λ all rest h. (all, refl, h) }
-
-pub Reading_more : {X : Type 0} (is_due : List Lexeme → Bool) (IsItem : List Lexeme → X → List Lexeme → Type 0) → IsSure IsItem → (ts : List Lexeme) (found : List X) (left : List Lexeme) (x : X) (behind : List Lexeme) → Reading is_due IsItem ts found left → is_due left ≡ true → IsItem left x behind → Reading is_due IsItem ts (found ++ x ∷ []) behind
+pub Reading_more : {X : Type 0} (is_due : List Lexeme → Bool) (IsItem : List Lexeme → X → List Lexeme → Type 0) → IsUnique IsItem → (ts : List Lexeme) (found : List X) (left : List Lexeme) (x : X) (behind : List Lexeme) → Reading is_due IsItem ts found left → is_due left ≡ true → IsItem left x behind → Reading is_due IsItem ts (found ++ x ∷ []) behind
 Reading_more {X} is_due IsItem sure ts found left x behind h due item = record {
   sound = λ more rest k. rw append_assoc (h.sound (x ∷ more) rest (due, behind, item, k));
   full = λ all rest k. let w = h.full all rest k in split all rest w.0 w.1 w.2;

@@ -9,10 +9,10 @@ use Rattle.cql_parse.specs.Written.{reaches_on, groups}
 use Rattle.cql_parse.specs.Nesting.{nesting}
 use Rattle.cql_parse.specs.Classes.{is_word, is_term, is_symbol, is_relation, is_slash}
 use Rattle.cql_parse.proofs.Nested.{nesting_skip}
-use Rattle.cql_parse.proofs.Signs.{IsSign, greater, equal, sign_lexeme, word_lexeme, quoted_lexeme, close_lexeme, slash_lexeme}
-use Rattle.cql_parse.proofs.Proper.{ProperValue, ProperModifiers, ProperKeys, ProperHead, Proper}
-use Rattle.cql_parse.proofs.Laid.{index_lexeme, relation_lexeme, value_lexemes, modifiers_lexemes, keys_lexemes, head_lexemes, prefix_lexemes, part_lexemes, tree_lexemes}
+use Rattle.cql_parse.proofs.Signs.{sign_lexeme, word_lexeme, quoted_lexeme, close_lexeme, slash_lexeme}
+use Rattle.cql_parse.proofs.WrittenLexemes.{index_lexeme, relation_lexeme, value_lexemes, modifiers_lexemes, keys_lexemes, head_lexemes, prefix_lexemes, part_lexemes, tree_lexemes}
 use Rattle.cql_parse.proofs.Parts.{word_is_word, sign_is_symbol, index_is_term, relation_is}
+use Rattle.cql_parse.specs.WellFormed.{IsSymbolText, greater, equal, IsWellFormedValue, AreWellFormedModifiers, AreWellFormedKeys, IsWellFormedHead, IsWellFormed}
 
 -- what is no bracket leaves the nesting as it is
 skip_word : (n : ℕ) (text : List ℕ) (ls : List Lexeme) → nesting n (word_lexeme text ∷ ls) ≡ nesting n ls
@@ -21,14 +21,14 @@ skip_word n text ls = nesting_skip is_word refl refl n (word_lexeme text) ls (wo
 skip_quoted : (n : ℕ) (text : List ℕ) (ls : List Lexeme) → nesting n (quoted_lexeme text ∷ ls) ≡ nesting n ls
 skip_quoted n text ls = nesting_skip is_term refl refl n (quoted_lexeme text) ls refl
 
-skip_sign : (n : ℕ) (sign : List ℕ) (ls : List Lexeme) → IsSign sign → nesting n (sign_lexeme sign ∷ ls) ≡ nesting n ls
+skip_sign : (n : ℕ) (sign : List ℕ) (ls : List Lexeme) → IsSymbolText sign → nesting n (sign_lexeme sign ∷ ls) ≡ nesting n ls
 skip_sign n sign ls s = nesting_skip is_symbol refl refl n (sign_lexeme sign) ls (sign_is_symbol sign s)
 
-skip_value : (n : ℕ) (value : Option (List ℕ × List ℕ)) (ls : List Lexeme) → ProperValue value → nesting n (value_lexemes value ls) ≡ nesting n ls
+skip_value : (n : ℕ) (value : Option (List ℕ × List ℕ)) (ls : List Lexeme) → IsWellFormedValue value → nesting n (value_lexemes value ls) ≡ nesting n ls
 skip_value n None ls p = refl
 skip_value n (Some value) ls p = skip_sign n value.0 (quoted_lexeme value.1 ∷ ls) p.0 ∙ skip_quoted n value.1 ls
 
-skip_modifiers : (n : ℕ) (ms : List Modifier) (ls : List Lexeme) → ProperModifiers ms → nesting n (modifiers_lexemes ms ls) ≡ nesting n ls
+skip_modifiers : (n : ℕ) (ms : List Modifier) (ls : List Lexeme) → AreWellFormedModifiers ms → nesting n (modifiers_lexemes ms ls) ≡ nesting n ls
 skip_modifiers n [] ls p = refl
 skip_modifiers n (m ∷ ms) ls p =
     let value = value_lexemes m.value (modifiers_lexemes ms ls) in
@@ -40,12 +40,12 @@ skip_modifiers n (m ∷ ms) ls p =
 skip_index : (n : ℕ) (name : List ℕ) (ls : List Lexeme) → nesting n (index_lexeme name ∷ ls) ≡ nesting n ls
 skip_index n name ls = nesting_skip is_term refl refl n (index_lexeme name) ls (index_is_term name)
 
-skip_keys : (n : ℕ) (ks : List SortKey) (ls : List Lexeme) → ProperKeys ks → nesting n (keys_lexemes ks ls) ≡ nesting n ls
+skip_keys : (n : ℕ) (ks : List SortKey) (ls : List Lexeme) → AreWellFormedKeys ks → nesting n (keys_lexemes ks ls) ≡ nesting n ls
 skip_keys n [] ls p = refl
 skip_keys n (k ∷ ks) ls p =
     skip_index n k.index (modifiers_lexemes k.modifiers (keys_lexemes ks ls)) ∙ skip_modifiers n k.modifiers (keys_lexemes ks ls) p.1 ∙ skip_keys n ks ls p.2
 
-skip_head : (n : ℕ) (head : Option Head) (ls : List Lexeme) → ProperHead head → nesting n (head_lexemes head ls) ≡ nesting n ls
+skip_head : (n : ℕ) (head : Option Head) (ls : List Lexeme) → IsWellFormedHead head → nesting n (head_lexemes head ls) ≡ nesting n ls
 skip_head n None ls p = refl
 skip_head n (Some head) ls p =
     let ms = modifiers_lexemes head.modifiers ls in
@@ -66,7 +66,7 @@ part_nests true q h n ls =
     let closed : nesting (suc n) (close_lexeme ∷ ls) ≡ max (suc n) (nesting n ls) = rw one refl in
     omega (arith, h (suc n) (close_lexeme ∷ ls), closed)
 
-nests : (q : Tree) → Proper q → (n : ℕ) (ls : List Lexeme) → nesting n (tree_lexemes q ls) ≤ max (n + depth q) (nesting n ls)
+nests : (q : Tree) → IsWellFormed q → (n : ℕ) (ls : List Lexeme) → nesting n (tree_lexemes q ls) ≤ max (n + depth q) (nesting n ls)
 nests (clause head term) p n ls =
     omega (arith, skip_head n head (quoted_lexeme term ∷ ls) p.0, skip_quoted n term ls)
 nests (joined b ms l r) p n ls =
@@ -83,5 +83,5 @@ nests (sorted q keys) p n ls =
     omega (arith, part_nests (reaches_on q) q (nests q p.2) n (word_lexeme (codes "sortby") ∷ behind), skip_word n (codes "sortby") behind, skip_keys n keys ls p.1)
 
 -- the lexemes of a proper tree are nested no deeper than it has levels
-pub tree_shallow : (q : Tree) → Proper q → nesting 0 (tree_lexemes q []) ≤ depth q
+pub tree_shallow : (q : Tree) → IsWellFormed q → nesting 0 (tree_lexemes q []) ≤ depth q
 tree_shallow q p = omega (arith, nests q p 0 [])

@@ -11,18 +11,9 @@ use Rattle.cql_parse.specs.declared.lexeme.Class.TheVariants as class
 use Rattle.cql_parse.specs.Classes.{class_of, word_class}
 use Rattle.cql_parse.specs.Lexemes.{Lexeme, between, text_of}
 use Rattle.cql_parse.proofs.Fronts.{Lexed, Fronts, lexed_front, drop_behind, octet_at, first_at, between_front}
-use Rattle.cql_parse.proofs.Cuts.{IsQuotable, ends_before, word_before, no_end, no_space, whole_word, word_first}
+use Rattle.cql_parse.proofs.Cuts.{ends_before, word_before, no_end, no_space, whole_word, word_first}
 use Rattle.cql_parse.specs.Written.{quoted}
-
--- the symbols of comparison (comparitorSymbol)
-pub data IsSign : List ℕ → Type 0 where
-  equal : IsSign (61 ∷ [])
-  exact : IsSign (61 ∷ 61 ∷ [])
-  less : IsSign (60 ∷ [])
-  greater : IsSign (62 ∷ [])
-  less_or_equal : IsSign (60 ∷ 61 ∷ [])
-  greater_or_equal : IsSign (62 ∷ 61 ∷ [])
-  less_or_greater : IsSign (60 ∷ 62 ∷ [])
+use Rattle.cql_parse.specs.WellFormed.{IsQuotable, IsSymbolText, equal, exact, less, greater, less_or_equal, greater_or_equal, less_or_greater}
 
 -- a symbol by its octets
 abbrev pub sign_class : List ℕ → Class
@@ -85,7 +76,7 @@ sign_two kind a b rest plain full is_token =
     plain_fronts kind (a ∷ b ∷ []) rest plain (omega arith) (rw full refl) (λ text at e. is_token text at (first_at text at a (b ∷ rest) e) (octet_at text at 1 (a ∷ b ∷ rest) e))
 
 -- a symbol that no octet of a symbol follows
-pub lexed_sign : (sign : List ℕ) → IsSign sign → (b : ℕ) (rest : List ℕ) (ls : List Lexeme) → (b == 61) ≡ false → (b == 62) ≡ false → Lexed (b ∷ rest) ls → Lexed (sign ++ b ∷ rest) (sign_lexeme sign ∷ ls)
+pub lexed_sign : (sign : List ℕ) → IsSymbolText sign → (b : ℕ) (rest : List ℕ) (ls : List Lexeme) → (b == 61) ≡ false → (b == 62) ≡ false → Lexed (b ∷ rest) ls → Lexed (sign ++ b ∷ rest) (sign_lexeme sign ∷ ls)
 unfolding token_at
 lexed_sign sign equal b rest ls n m h = lexed_front kind.Equal (61 ∷ []) (b ∷ rest) (sign_lexeme (61 ∷ [])) ls (sign_one kind.Equal 61 b rest (λ t s e. refl) refl (λ text at first next. rw (first, next, n) refl)) h
 lexed_sign sign less b rest ls n m h = lexed_front kind.Less (60 ∷ []) (b ∷ rest) (sign_lexeme (60 ∷ [])) ls (sign_one kind.Less 60 b rest (λ t s e. refl) refl (λ text at first next. rw (first, next, n, m) refl)) h

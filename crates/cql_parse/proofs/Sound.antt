@@ -2,8 +2,8 @@
 use Rattle.std.proofs.Common.{◌≡◌, ℕ, zero, suc, ◌+◌, ◌-◌, ◌<◌, ◌≤◌, ◌==◌, Bool, true, false, if◌then◌else◌, List, [], ◌∷◌, length, slice_index, get_or, take, drop, Option, Some, None, option_map, IsUtf8, IsCharBoundary, bytes_eq, codes, eq-eqb, ◌⊎◌, inl, inr, ⊎_elim, refl, sym, ◌∙◌, subst, ap, arith, length-drop, length-take, get_or-drop}
 use Rattle.std.proofs.lemmas.Bool.{false≢true, eqb-true, cases_lt}
 use Rattle.std.proofs.lemmas.Bool.Decides.{nat_tests}
-use Rattle.std.proofs.lemmas.List.{get_or_past}
 use Rattle.std.proofs.lemmas.Str.{IsUtf8-between, IsCharBoundary-start, IsCharBoundary-end, IsCharBoundary-before_ascii, IsCharBoundary-after_ascii}
+use Rattle.cql_lex.proofs.SpanLemmas.{either, some_one, is_there, is_full, next_full}
 use Rattle.cql_lex.proofs.LengthLemmas.{drop_next, word_length_some}
 use Rattle.cql_lex.specs.declared.token.Token.{Token}
 use Rattle.cql_lex.specs.declared.token.Kind.{Kind}
@@ -14,26 +14,17 @@ use Rattle.cql_parse.specs.declared.lexeme.Class.{Class}
 use Rattle.cql_parse.specs.declared.lexeme.Class.TheVariants as class
 use Rattle.cql_parse.specs.Classes.{lower, word_class}
 use Rattle.cql_parse.specs.Lexemes.{Lexeme, between, lexeme_of, lexemes}
-use Rattle.cql_parse.proofs.Cuts.{IsQuotable, QuotedCut, quoted_cut, WordCut, word_cut, by_test}
-use Rattle.cql_parse.proofs.Signs.{IsSign, equal, exact, less, greater, less_or_equal, greater_or_equal, less_or_greater}
-
--- what may stand between quotes, and a bare word, in UTF-8
-pub record IsTermText (text : List ℕ) : Type 0 where
-  pub utf8 : IsUtf8 text
-  pub quotable : IsQuotable text
-
-pub record IsWordText (text : List ℕ) : Type 0 where
-  pub utf8 : IsUtf8 text
-  pub word : is_word text ≡ true
+use Rattle.cql_parse.proofs.Cuts.{QuotedCut, quoted_cut, WordCut, word_cut, by_test}
+use Rattle.cql_parse.specs.WellFormed.{IsSymbolText, equal, exact, less, greater, less_or_equal, greater_or_equal, less_or_greater, IsTermText, IsWordText}
 
 -- the text of a lexeme of this class
 abbrev pub Sound : Class → List ℕ → Type 0
 Sound class.Open text = Unit {0}
 Sound class.Close text = Unit {0}
 Sound class.Slash text = Unit {0}
-Sound class.Equal text = IsSign text
-Sound class.Greater text = IsSign text
-Sound class.Symbol text = IsSign text
+Sound class.Equal text = IsSymbolText text
+Sound class.Greater text = IsSymbolText text
+Sound class.Symbol text = IsSymbolText text
 Sound class.Quoted text = IsTermText text
 Sound class.Word text = IsWordText text × (word_class text ≡ class.Word)
 Sound class.Boolean text = IsWordText text × (word_class text ≡ class.Boolean)
@@ -55,14 +46,6 @@ ends_ascii b h = ⊎_elim (λ (low : b < 128). low) (λ (high : 128 ≤ b). absu
     none : 128 ≤ b → ends_word b ≡ false
     none high = grind (arith, nat_tests)
 
--- one test of two tokens
-either : {A : Type 0} (b : Bool) (o p : Option Token) (t : Token) → (b ≡ true → o ≡ Some t → A) → (b ≡ false → p ≡ Some t → A) → (if b then o else p) ≡ Some t → A
-either true o p t holds fails e = holds refl e
-either false o p t holds fails e = fails refl e
-
-some_one : (t u : Token) → Some t ≡ Some u → t ≡ u
-some_one t u e = cc
-
 -- the octets of a symbol
 between_one : (text : List ℕ) (at a : ℕ) → at < length text → slice_index text at ≡ a → between text at (at + 1) ≡ a ∷ []
 between_one text at a below e =
@@ -75,19 +58,15 @@ between_two text at a b below e f =
     let here : at < length text = omega (arith, below) in
     rw (len, drop_next text at here, e, drop_next text (at + 1) below, f) refl
 
--- an octet that is there
-is_there : (text : List ℕ) (at b : ℕ) → 0 < b → slice_index text at ≡ b → at < length text
-is_there text at b some e = ⊎_elim (λ (below : at < length text). below) (λ (past : length text ≤ at). absurd (omega (arith, get_or_past text at 0 past, e, some))) (cases_lt at (length text))
-
 -- a sign of one octet, and a symbol of two
 sound_one : (text : List ℕ) (k : Kind) (at a : ℕ) → IsUtf8 text → at < length text → a < 128 → slice_index text at ≡ a → Sound (lexeme_of text (token k at 1)).class (lexeme_of text (token k at 1)).text → IsSoundToken text (token k at 1)
 sound_one text k at a u below low e sound =
     record { sound = sound; cut = IsCharBoundary-after_ascii text at u below (omega (arith, low, e)) }
 
-sign_one : (text : List ℕ) (at a : ℕ) → at < length text → slice_index text at ≡ a → IsSign (a ∷ []) → IsSign (between text at (at + 1))
+sign_one : (text : List ℕ) (at a : ℕ) → at < length text → slice_index text at ≡ a → IsSymbolText (a ∷ []) → IsSymbolText (between text at (at + 1))
 sign_one text at a below e s = rw (between_one text at a below e) s
 
-sound_two : (text : List ℕ) (k : Kind) (at a b : ℕ) → IsUtf8 text → 0 < b → b < 128 → slice_index text at ≡ a → slice_index text (at + 1) ≡ b → (IsSign (between text at (at + 2)) → Sound (lexeme_of text (token k at 2)).class (lexeme_of text (token k at 2)).text) → IsSign (a ∷ b ∷ []) → IsSoundToken text (token k at 2)
+sound_two : (text : List ℕ) (k : Kind) (at a b : ℕ) → IsUtf8 text → 0 < b → b < 128 → slice_index text at ≡ a → slice_index text (at + 1) ≡ b → (IsSymbolText (between text at (at + 2)) → Sound (lexeme_of text (token k at 2)).class (lexeme_of text (token k at 2)).text) → IsSymbolText (a ∷ b ∷ []) → IsSoundToken text (token k at 2)
 sound_two text k at a b u some low e f sound s =
     let below = is_there text (at + 1) b some f in
     let two : at + 1 + 1 ≡ at + 2 = omega arith in
@@ -193,10 +172,6 @@ sound_word text at t u below start full e = go (word_length false (drop at text)
     go None f g = cc
     go (Some n) f g = subst (IsSoundToken text) (some_one (token kind.Word at n) t g) (here n f)
 
--- what is no sign, no quote and no white space ends no word
-is_full : (b : ℕ) → is_space b ≡ false → (b == 40) ≡ false → (b == 41) ≡ false → (b == 47) ≡ false → (b == 61) ≡ false → (b == 60) ≡ false → (b == 62) ≡ false → (b == 34) ≡ false → ends_word b ≡ false
-is_full b s o c l e m g q = rw (s, o, c, e, m, g, q, l) refl
-
 -- one token
 sound_token : (text : List ℕ) (at : ℕ) (t : Token) → IsUtf8 text → at < length text → IsCharBoundary text at → is_space (slice_index text at) ≡ false → token_at text at ≡ Some t → IsSoundToken text t
 unfolding token_at
@@ -212,15 +187,7 @@ sound_token text at t u below start full e =
     either (b == 62) _ _ t (λ h f. subst (IsSoundToken text) (some_one _ t f) (sound_greater text at u below (is 62 h))) (λ g.
     either (b == 34) _ _ t (λ h f. sound_quoted text at t u below (is 34 h) f) (λ q. at_word o c l m s g q))))))) e
 
--- behind white space comes none, and it ends with some
-spaces_stop : (xs : List ℕ) → spaces xs < length xs → is_space (get_or xs (spaces xs) 0) ≡ false
-spaces_stop [] below = absurd (omega (arith, below))
-spaces_stop (b ∷ xs) below = go (is_space b) refl below (λ (h : spaces xs < length xs). spaces_stop xs h)
-  where
-    go : (space : Bool) → is_space b ≡ space → spaces (b ∷ xs) < length (b ∷ xs) → (spaces xs < length xs → is_space (get_or xs (spaces xs) 0) ≡ false) → is_space (get_or (b ∷ xs) (spaces (b ∷ xs)) 0) ≡ false
-    go true e h more = let g : suc (spaces xs) < suc (length xs) = rw e at h in rw e (more (omega (arith, g)))
-    go false e h more = rw e e
-
+-- white space ends with some
 spaces_last : (xs : List ℕ) (k : ℕ) → spaces xs ≡ suc k → (k < length xs) × (is_space (get_or xs k 0) ≡ true)
 spaces_last [] k h = absurd (omega (arith, h))
 spaces_last (b ∷ xs) k h = go (is_space b) refl h (λ (j : ℕ) (e : spaces xs ≡ suc j). spaces_last xs j e) k h
@@ -251,12 +218,6 @@ cut_next text at u cut = go (spaces (drop at text)) refl
         let low = ends_ascii (get_or (drop at text) k 0) (space_ends (get_or (drop at text) k 0) w.1) in
         let same : at + k + 1 ≡ at + spaces (drop at text) = omega (arith, e) in
         subst (IsCharBoundary text) same (IsCharBoundary-after_ascii text (at + k) u left (omega (arith, low, get_or-drop at text k 0)))
-
-next_full : (text : List ℕ) (at : ℕ) → next_start text at < length text → is_space (slice_index text (next_start text at)) ≡ false
-unfolding next_start
-next_full text at below =
-    let left : spaces (drop at text) < length (drop at text) = omega (arith, below, length-drop at text) in
-    ap is_space (sym (get_or-drop at text (spaces (drop at text)) 0)) ∙ spaces_stop (drop at text) left
 
 -- the lexemes of a text are sound
 all_sound : (text : List ℕ) (at : ℕ) (ts : List Token) (end : ℕ) → IsUtf8 text → IsCharBoundary text at → LeadsTo text at ts end → AllSound (lexemes text ts)

@@ -11,9 +11,9 @@ use Rattle.cql_parse.specs.Tree.{Tree, clause, assigned, sorted}
 use Rattle.cql_parse.specs.Classes.{lower, is_term, is_close, is_open, is_greater, is_boolean, is_sortby}
 use Rattle.cql_parse.specs.Lexemes.{Lexeme, starts}
 use Rattle.cql_parse.specs.Grammar.{Left, operand, after, join, IsClause, IsPrefix, AreModifiers, AreKeys, Repeats, IsKey, Reads, plain, bracket, prefix, boolean, sort, done, ends_query}
-use Rattle.cql_parse.specs.Unfinished.{left_of, Ends, Completes}
+use Rattle.cql_parse.specs.ParserState.{left_of, Ends, Completes}
 use Rattle.cql_parse.proofs.Inverting.{FromOperand, by_clause, by_bracket, by_prefix, FromAfter, by_boolean, by_sort, by_end, from_operand, from_after, open_no_term, open_no_greater, boolean_term, sortby_term, sortby_no_boolean, close_no_term, clause_first, prefix_first, clash, term_or_greater}
-use Rattle.cql_parse.proofs.Sure.{IsClause_sure, IsPrefix_sure, AreModifiers_sure, AreKeys_sure}
+use Rattle.cql_parse.proofs.UniqueParts.{IsClause_unique, IsPrefix_unique, AreModifiers_unique, AreKeys_unique}
 
 -- a bracket opens a query of its own
 pub bracket_step : (left : Option LeftOperand) (frames : List Frame) (x : Lexeme) (ts : List Lexeme) (t : Tree) → is_open x.class ≡ true → Completes (operand (option_map left_of left)) frames (x ∷ ts) t ↔ Completes (operand None) (Bracket left ∷ frames) ts t
@@ -38,7 +38,7 @@ clause_step left frames ts head text rest t c =
   where
     go : (q : Tree) (end : List Lexeme) → FromOperand (option_map left_of left) ts q end → Ends frames q end t → Completes (after (join (option_map left_of left) (clause head text))) frames rest t
     go q end (by_clause h u r d s) e =
-        let w = IsClause_sure ts h head u text r rest d c in
+        let w = IsClause_unique ts h head u text r rest d c in
         let tree : clause h u ≡ clause head text = λ i. clause (w.0 i) (w.1 i) in
         let s' = subst (λ (x : Tree). Reads (after (join (option_map left_of left) x)) r q end) tree s in
         (q, end, subst (λ (l : List Lexeme). Reads (after (join (option_map left_of left) (clause head text))) l q end) w.2 s', e)
@@ -67,7 +67,7 @@ prefix_step left frames ts name uri rest t c =
         let first = subst (λ (l : List Lexeme). starts is_greater l ≡ true) e1 (prefix_first ts name uri rest c) in
         clash (is_greater x.class) (is_greater x.class) first (open_no_greater x.class o) refl
     go q end (by_prefix n u r inner d s eq) e =
-        let w = IsPrefix_sure ts n name u uri r rest d c in
+        let w = IsPrefix_unique ts n name u uri r rest d c in
         let made : q ≡ join (option_map left_of left) (assigned name uri inner) = eq ∙ (λ i. join (option_map left_of left) (assigned (w.0 i) (w.1 i) inner)) in
         (inner, end, subst (λ (l : List Lexeme). Reads (operand None) l inner end) w.2 s, subst (λ (x : Tree). Ends frames x end t) made e)
 
@@ -93,7 +93,7 @@ boolean_step tree frames x ts ms rest t b m =
         let word : z ≡ x = cc in
         let same : more ≡ ts = cc in
         let n' = subst (λ (l : List Lexeme). AreModifiers l others r) same n in
-        let w = AreModifiers_sure ts others ms r rest n' m in
+        let w = AreModifiers_unique ts others ms r rest n' m in
         let lefts : record { tree = tree; boolean = lower z.text; modifiers = others } ≡ record { tree = tree; boolean = lower x.text; modifiers = ms } = λ i. record { tree = tree; boolean = lower (word i).text; modifiers = w.0 i } in
         (q, end, subst (λ (l : List Lexeme). Reads (operand (Some (record { tree = tree; boolean = lower x.text; modifiers = ms }))) l q end) w.1 (subst (λ (l : Left). Reads (operand (Some l)) r q end) lefts s), e)
     go q end (by_sort z more keys e1 s k f eq) e =
@@ -134,7 +134,7 @@ sort_step tree frames x ts keys rest t s k =
         clash (is_boolean z.class) (is_boolean x.class) b (sortby_no_boolean x.class s) (ap (λ (l : Lexeme). is_boolean l.class) word)
     go q end (by_sort z more others e1 s' l f eq) e =
         let same : more ≡ ts = cc in
-        let w = AreKeys_sure ts others keys end rest (subst (λ (m : List Lexeme). AreKeys m others end) same l) k in
+        let w = AreKeys_unique ts others keys end rest (subst (λ (m : List Lexeme). AreKeys m others end) same l) k in
         let made : q ≡ sorted tree keys = eq ∙ ap (λ (ks : List SortKey). sorted tree ks) w.0 in
         let f' = subst (λ (m : List Lexeme). ends_query m ≡ true) w.1 f in
         (sorted tree keys, rest, done f', subst (λ (m : List Lexeme). Ends frames (sorted tree keys) m t) w.1 (subst (λ (g : Tree). Ends frames g end t) made e))
@@ -166,17 +166,6 @@ end_step tree frames ts t f =
     go q end (by_sort z more keys e1 s k g eq) e =
         clash (is_term z.class) (is_term z.class) (sortby_term z.class s) (close_no_term z.class (subst (λ (l : List Lexeme). ends_query l ≡ true) e1 f)) refl
     go q end (by_end g eq at) e = subst (λ (l : List Lexeme). Ends frames tree l t) at (subst (λ (x : Tree). Ends frames x end t) eq e)
-
--- a token that neither goes on nor ends a query
-pub no_other : (tree : Tree) (frames : List Frame) (x : Lexeme) (ts : List Lexeme) (t : Tree) → is_boolean x.class ≡ false → is_sortby x.class ≡ false → is_close x.class ≡ false → Completes (after tree) frames (x ∷ ts) t → ⊥
-no_other tree frames x ts t nb ns nc h = go h.0 h.1 (from_after h.2)
-  where
-    go : (q : Tree) (end : List Lexeme) → FromAfter tree (x ∷ ts) q end → ⊥
-    go q end (by_boolean z more r others e b n m) =
-        let word : z ≡ x = cc in clash (is_boolean z.class) (is_boolean x.class) b nb (ap (λ (l : Lexeme). is_boolean l.class) word)
-    go q end (by_sort z more others e s l f eq) =
-        let word : z ≡ x = cc in clash (is_sortby z.class) (is_sortby x.class) s ns (ap (λ (l : Lexeme). is_sortby l.class) word)
-    go q end (by_end f eq at) = false≢true (sym nc ∙ f)
 
 -- the closing bracket of a query in brackets
 pub close_step : (left : Option LeftOperand) (frames : List Frame) (q : Tree) (x : Lexeme) (ts : List Lexeme) (t : Tree) → is_close x.class ≡ true → Ends (Bracket left ∷ frames) q (x ∷ ts) t ↔ Completes (after (join (option_map left_of left) q)) frames ts t

@@ -1,16 +1,17 @@
 -- The place where tokens stop to be the beginning of a query.
-use Rattle.std.proofs.Common.{◌≡◌, ℕ, zero, suc, ◌<◌, ◌≤◌, true, List, [], ◌∷◌, ◌++◌, length, take, drop, get_or, Some, None, codes, ⊎_elim, refl, sym, ◌∙◌, subst, ap, arith, append_assoc}
+use Rattle.std.proofs.Common.{◌≡◌, ℕ, zero, suc, ◌<◌, ◌≤◌, true, List, [], ◌∷◌, ◌++◌, length, take, drop, get_or, Option, Some, None, codes, inl, inr, ⊎_elim, refl, sym, ◌∙◌, subst, ap, arith, append_assoc}
 use Rattle.std.proofs.lemmas.Bool.{false≢true, cases_lt}
 use Rattle.std.proofs.lemmas.Grind.{common_steps}
 use Rattle.cql_lex.specs.declared.token.Token.{Token}
 use Rattle.cql_parse.specs.declared.lexeme.Class.TheVariants as class
-use Rattle.cql_parse.specs.declared.scan.Owner.TheVariants.{Relation, Boolean, Key}
-use Rattle.cql_parse.specs.declared.scan.Phase.{Phase}
-use Rattle.cql_parse.specs.declared.scan.Phase.TheVariants.{Clause, Term, After, SortBy, Sign, PrefixWord, Uri, Modified, Slash, Named, Value}
+use Rattle.cql_parse.specs.declared.first_fault.Owner.TheVariants.{Relation, Boolean, Key}
+use Rattle.cql_parse.specs.declared.first_fault.Phase.{Phase}
+use Rattle.cql_parse.specs.declared.first_fault.Phase.TheVariants.{Clause, Term, After, SortBy, Sign, PrefixWord, Uri, Modified, Slash, Named, Value}
 use Rattle.cql_parse.specs.Tree.{Tree}
 use Rattle.cql_parse.specs.Lexemes.{Lexeme}
 use Rattle.cql_parse.specs.Grammar.{IsQuery}
-use Rattle.cql_parse.specs.Phases.{accepts, fault_at}
+use Rattle.cql_parse.specs.ParserPhases.{accepts, fault_at}
+use Rattle.cql_parse.specs.Laws.{HasTreeOrFault}
 use Rattle.cql_parse.specs.Refusals.{Begins, IsSyntax, place_of}
 use Rattle.cql_parse.proofs.Faults.{fault_some, fault_none}
 use Rattle.cql_parse.proofs.Accepting.{on_close, query_accepted}
@@ -85,6 +86,14 @@ is_syntax ts at e =
 
 pub is_query : (ts : List Lexeme) → fault_at Clause 0 ts ≡ None → (t : Tree) × IsQuery ts t
 is_query ts e = accepted_query ts (fault_none ts Clause 0 e)
+
+-- tokens are a query, or have a place where they stop to be the beginning of one
+pub tree_or_fault : (ts : List Lexeme) → HasTreeOrFault ts
+tree_or_fault ts = go (fault_at Clause 0 ts) refl
+  where
+    go : (o : Option ℕ) → fault_at Clause 0 ts ≡ o → HasTreeOrFault ts
+    go None e = inl (is_query ts e)
+    go (Some at) e = inr (at, is_syntax ts at e)
 
 -- what a longer list begins a shorter one does
 begins_take : (ts : List Lexeme) (a b : ℕ) → a ≤ b → Begins (take b ts) → Begins (take a ts)

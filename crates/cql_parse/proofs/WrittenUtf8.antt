@@ -9,8 +9,7 @@ use Rattle.cql_parse.specs.declared.tree.SortKey.{SortKey}
 use Rattle.cql_parse.specs.Tree.{Tree, clause, joined, assigned, sorted}
 use Rattle.cql_parse.specs.Written.{quoted, bracketed, index_text, value_text, modifiers_text, keys_text, head_text, prefix_text, reaches_on, groups, written}
 use Rattle.cql_parse.proofs.Cuts.{by_test}
-use Rattle.cql_parse.proofs.Signs.{IsSign, equal, exact, less, greater, less_or_equal, greater_or_equal, less_or_greater}
-use Rattle.cql_parse.proofs.Proper.{IsBoolean, and_text, or_text, not_text, prox_text, IsRelationText, symbol, word, ProperValue, ProperModifiers, ProperKeys, ProperHead, ProperName, Proper}
+use Rattle.cql_parse.specs.WellFormed.{IsSymbolText, equal, exact, less, greater, less_or_equal, greater_or_equal, less_or_greater, IsBooleanText, and_text, or_text, not_text, prox_text, IsRelationText, symbol, word, IsWellFormedValue, AreWellFormedModifiers, AreWellFormedKeys, IsWellFormedHead, IsWellFormedName, IsWellFormed}
 
 -- an octet below 128 before a text
 before : (b : ℕ) (text : List ℕ) → b < 128 → IsUtf8 text → IsUtf8 (b ∷ text)
@@ -30,7 +29,7 @@ low_utf8 (b ∷ rest) h = go (nat_lt b 128) refl h (λ (e : all_low rest ≡ tru
     go true e f more = before b rest (ltb-true b 128 e) (more f)
     go false e f more = cc
 
-sign_utf8 : (sign : List ℕ) → IsSign sign → IsUtf8 sign
+sign_utf8 : (sign : List ℕ) → IsSymbolText sign → IsUtf8 sign
 unfolding all_low
 sign_utf8 sign equal = low_utf8 sign refl
 sign_utf8 sign exact = low_utf8 sign refl
@@ -40,7 +39,7 @@ sign_utf8 sign less_or_equal = low_utf8 sign refl
 sign_utf8 sign greater_or_equal = low_utf8 sign refl
 sign_utf8 sign less_or_greater = low_utf8 sign refl
 
-boolean_utf8 : (b : List ℕ) → IsBoolean b → IsUtf8 b
+boolean_utf8 : (b : List ℕ) → IsBooleanText b → IsUtf8 b
 unfolding all_low
 boolean_utf8 b and_text = low_utf8 b refl
 boolean_utf8 b or_text = low_utf8 b refl
@@ -67,7 +66,7 @@ relation_utf8 : (text : List ℕ) → IsRelationText text → IsUtf8 text
 relation_utf8 text (symbol s) = sign_utf8 text s
 relation_utf8 text (word w c) = w.utf8
 
-value_utf8 : (value : Option (List ℕ × List ℕ)) → ProperValue value → IsUtf8 (value_text value)
+value_utf8 : (value : Option (List ℕ × List ℕ)) → IsWellFormedValue value → IsUtf8 (value_text value)
 value_utf8 None p = IsUtf8-nil
 value_utf8 (Some value) p = IsUtf8-append value.0 (quoted value.1) (sign_utf8 value.0 p.0) (quoted_utf8 value.1 p.1.utf8)
 
@@ -75,12 +74,12 @@ value_utf8 (Some value) p = IsUtf8-append value.0 (quoted value.1) (sign_utf8 va
 three_utf8 : (a b c : List ℕ) → IsUtf8 a → IsUtf8 b → IsUtf8 c → IsUtf8 (a ++ b ++ c)
 three_utf8 a b c u v w = IsUtf8-append (a ++ b) c (IsUtf8-append a b u v) w
 
-modifiers_utf8 : (ms : List Modifier) → ProperModifiers ms → IsUtf8 (modifiers_text ms)
+modifiers_utf8 : (ms : List Modifier) → AreWellFormedModifiers ms → IsUtf8 (modifiers_text ms)
 modifiers_utf8 [] p = IsUtf8-nil
 modifiers_utf8 (m ∷ ms) p =
     before 47 (m.name ++ value_text m.value ++ modifiers_text ms) (omega arith) (three_utf8 m.name (value_text m.value) (modifiers_text ms) p.0.utf8 (value_utf8 m.value p.1) (modifiers_utf8 ms p.2))
 
-keys_utf8 : (ks : List SortKey) → ProperKeys ks → IsUtf8 (keys_text ks)
+keys_utf8 : (ks : List SortKey) → AreWellFormedKeys ks → IsUtf8 (keys_text ks)
 keys_utf8 [] p = IsUtf8-nil
 keys_utf8 (k ∷ ks) p =
     before 32 (index_text k.index ++ modifiers_text k.modifiers ++ keys_text ks) (omega arith) (three_utf8 (index_text k.index) (modifiers_text k.modifiers) (keys_text ks) (index_utf8 k.index p.0.utf8) (modifiers_utf8 k.modifiers p.1) (keys_utf8 ks p.2))
@@ -89,19 +88,19 @@ keys_utf8 (k ∷ ks) p =
 spaced_utf8 : (a b c d : List ℕ) → IsUtf8 a → IsUtf8 b → IsUtf8 c → IsUtf8 d → IsUtf8 (a ++ 32 ∷ b ++ c ++ 32 ∷ d)
 spaced_utf8 a b c d s t u w = IsUtf8-append (a ++ 32 ∷ b ++ c) (32 ∷ d) (three_utf8 a (32 ∷ b) c s (before 32 b (omega arith) t) u) (before 32 d (omega arith) w)
 
-head_utf8 : (head : Option Head) → ProperHead head → IsUtf8 (head_text head)
+head_utf8 : (head : Option Head) → IsWellFormedHead head → IsUtf8 (head_text head)
 head_utf8 None p = IsUtf8-nil
 head_utf8 (Some head) p =
     spaced_utf8 (index_text head.index) head.relation (modifiers_text head.modifiers) [] (index_utf8 head.index p.0.utf8) (relation_utf8 head.relation p.1) (modifiers_utf8 head.modifiers p.2) IsUtf8-nil
 
-prefix_utf8 : (name : Option (List ℕ)) → ProperName name → IsUtf8 (prefix_text name)
+prefix_utf8 : (name : Option (List ℕ)) → IsWellFormedName name → IsUtf8 (prefix_text name)
 unfolding all_low
 prefix_utf8 None p = low_utf8 (62 ∷ 32 ∷ []) refl
 prefix_utf8 (Some name) p =
     before 62 (32 ∷ name ++ 32 ∷ 61 ∷ 32 ∷ []) (omega arith) (before 32 (name ++ 32 ∷ 61 ∷ 32 ∷ []) (omega arith) (IsUtf8-append name (32 ∷ 61 ∷ 32 ∷ []) p.utf8 (low_utf8 (32 ∷ 61 ∷ 32 ∷ []) refl)))
 
 -- a proper tree is written in UTF-8
-pub written_utf8 : (q : Tree) → Proper q → IsUtf8 (written q)
+pub written_utf8 : (q : Tree) → IsWellFormed q → IsUtf8 (written q)
 written_utf8 (clause head term) p = IsUtf8-append (head_text head) (quoted term) (head_utf8 head p.0) (quoted_utf8 term p.1.utf8)
 written_utf8 (joined b ms l r) p =
     spaced_utf8 (bracketed (reaches_on l) (written l)) b (modifiers_text ms) (bracketed (groups r) (written r)) (bracketed_utf8 (reaches_on l) (written l) (written_utf8 l p.2)) (boolean_utf8 b p.0) (modifiers_utf8 ms p.1) (bracketed_utf8 (groups r) (written r) (written_utf8 r p.3))

@@ -9,7 +9,8 @@ use Rattle.cql_parse.specs.Classes.{lower, is_word, is_term, is_symbol, is_relat
 use Rattle.cql_parse.specs.Lexemes.{Lexeme, starts}
 
 -- { item }: items one behind another, as long as one is due
-abbrev pub Repeats : {X : Type 0} → (List Lexeme → Bool) → (List Lexeme → X → List Lexeme → Type 0) → List Lexeme → List X → List Lexeme → Type 0
+abbrev pub Repeats : {X : Type 0} → (List Lexeme → Bool) → (List Lexeme → X → List Lexeme → Type 0)
+    → List Lexeme → List X → List Lexeme → Type 0
 Repeats is_due IsItem ts [] rest = (is_due ts ≡ false) × (rest ≡ ts)
 Repeats is_due IsItem ts (x ∷ xs) rest =
     (is_due ts ≡ true) × (more : List Lexeme) × IsItem ts x more × Repeats is_due IsItem more xs rest
@@ -53,9 +54,13 @@ pub record IsKey (ts : List Lexeme) (key : SortKey) (rest : List Lexeme) : Type 
   pub index : term.text ≡ key.index
   pub modifiers : AreModifiers more key.modifiers rest
 
+-- { key }, as long as a term comes
+abbrev pub AreDueKeys : List Lexeme → List SortKey → List Lexeme → Type 0
+AreDueKeys = Repeats (starts is_term) IsKey
+
 -- key { key }: at least one
 abbrev pub AreKeys : List Lexeme → List SortKey → List Lexeme → Type 0
-AreKeys ts keys rest = (starts is_term ts ≡ true) × Repeats (starts is_term) IsKey ts keys rest
+AreKeys ts keys rest = (starts is_term ts ≡ true) × AreDueKeys ts keys rest
 
 -- term, which no relation follows
 pub record IsTerm (ts : List Lexeme) (text : List ℕ) (rest : List Lexeme) : Type 0 where
@@ -139,11 +144,21 @@ pub data Due : Type 0 where
 -- query in brackets, which leave nothing in the tree, or a prefix assignment, whose query goes on as far as it
 -- can. What is due at the front of the tokens makes the query this tree, and these tokens are left behind it.
 pub data Reads : Due → List Lexeme → Tree → List Lexeme → Type 0 where
-  plain : {left : Option Left} {ts rest end : List Lexeme} {q : Tree} (head : Option Head) (text : List ℕ) → IsClause ts head text rest → Reads (after (join left (clause head text))) rest q end → Reads (operand left) ts q end
-  bracket : {left : Option Left} {ts rest end : List Lexeme} {inner q : Tree} (x y : Lexeme) → is_open x.class ≡ true → Reads (operand None) ts inner (y ∷ rest) → is_close y.class ≡ true → Reads (after (join left inner)) rest q end → Reads (operand left) (x ∷ ts) q end
-  prefix : {left : Option Left} {ts rest end : List Lexeme} {q : Tree} (name : Option (List ℕ)) (uri : List ℕ) → IsPrefix ts name uri rest → Reads (operand None) rest q end → Reads (operand left) ts (join left (assigned name uri q)) end
-  boolean : {tree q : Tree} {ts rest end : List Lexeme} (x : Lexeme) (ms : List Modifier) → is_boolean x.class ≡ true → AreModifiers ts ms rest → Reads (operand (Some (record { tree = tree; boolean = lower x.text; modifiers = ms }))) rest q end → Reads (after tree) (x ∷ ts) q end
-  sort : {tree : Tree} {ts end : List Lexeme} (x : Lexeme) (keys : List SortKey) → is_sortby x.class ≡ true → AreKeys ts keys end → ends_query end ≡ true → Reads (after tree) (x ∷ ts) (sorted tree keys) end
+  plain : {left : Option Left} {ts rest end : List Lexeme} {q : Tree} (head : Option Head) (text : List ℕ)
+      → IsClause ts head text rest → Reads (after (join left (clause head text))) rest q end
+      → Reads (operand left) ts q end
+  bracket : {left : Option Left} {ts rest end : List Lexeme} {inner q : Tree} (x y : Lexeme)
+      → is_open x.class ≡ true → Reads (operand None) ts inner (y ∷ rest) → is_close y.class ≡ true
+      → Reads (after (join left inner)) rest q end → Reads (operand left) (x ∷ ts) q end
+  prefix : {left : Option Left} {ts rest end : List Lexeme} {q : Tree} (name : Option (List ℕ)) (uri : List ℕ)
+      → IsPrefix ts name uri rest → Reads (operand None) rest q end
+      → Reads (operand left) ts (join left (assigned name uri q)) end
+  boolean : {tree q : Tree} {ts rest end : List Lexeme} (x : Lexeme) (ms : List Modifier)
+      → is_boolean x.class ≡ true → AreModifiers ts ms rest
+      → Reads (operand (Some (record { tree = tree; boolean = lower x.text; modifiers = ms }))) rest q end
+      → Reads (after tree) (x ∷ ts) q end
+  sort : {tree : Tree} {ts end : List Lexeme} (x : Lexeme) (keys : List SortKey) → is_sortby x.class ≡ true
+      → AreKeys ts keys end → ends_query end ≡ true → Reads (after tree) (x ∷ ts) (sorted tree keys) end
   done : {tree : Tree} {ts : List Lexeme} → ends_query ts ≡ true → Reads (after tree) ts tree ts
 
 -- these tokens are a query of this tree

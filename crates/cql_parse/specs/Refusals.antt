@@ -7,6 +7,7 @@ use Rattle.cql_parse.specs.Tree.{Tree, depth}
 use Rattle.cql_parse.specs.Lexemes.{Lexeme, lexemes}
 use Rattle.cql_parse.specs.Grammar.{IsQuery}
 use Rattle.cql_parse.specs.Nesting.{nesting}
+use Rattle.z_types.specs.Bounds.{most_query_depth}
 
 -- some query begins with these tokens, however deep it is
 abbrev pub Begins : List Lexeme → Type 0
@@ -28,7 +29,11 @@ place_of text (t ∷ rest) (suc at) = place_of text rest at
 
 -- brackets are nested deeper than 48, or the tree has more than 48 levels
 abbrev pub IsTooDeep : List Lexeme → Tree → Type 0
-IsTooDeep ts t = (48 < depth t) ⊎ (48 < nesting 0 ts)
+IsTooDeep ts t = (most_query_depth < depth t) ⊎ (most_query_depth < nesting 0 ts)
+
+-- each tree of the tokens is too deep
+abbrev pub IsNeverShallow : List Lexeme → Type 0
+IsNeverShallow ts = (t : Tree) → IsQuery ts t → IsTooDeep ts t
 
 -- this is why the tokens of the text give no tree
 abbrev pub IsRefusal : List ℕ → List Token → ParseFault → Type 0

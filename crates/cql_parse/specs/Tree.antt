@@ -34,13 +34,22 @@ abbrev text_code : Coded (List ℕ)
 text_code = coded_list coded_ℕ
 
 abbrev modifier_code : Coded Modifier
-modifier_code = code_by (List ℕ × Option (List ℕ × List ℕ)) (coded× text_code (coded_option (coded× text_code text_code))) (λ m. (m.name, m.value)) (λ p. record { name = p.0; value = p.1 }) (λ _. refl)
+modifier_code =
+    code_by (List ℕ × Option (List ℕ × List ℕ)) (coded× text_code (coded_option (coded× text_code text_code)))
+    (λ m. (m.name, m.value))
+    (λ p. record { name = p.0; value = p.1 }) (λ _. refl)
 
 abbrev head_code : Coded Head
-head_code = code_by (List ℕ × (List ℕ × List Modifier)) (coded× text_code (coded× text_code (coded_list modifier_code))) (λ h. (h.index, (h.relation, h.modifiers))) (λ p. record { index = p.0; relation = p.1.0; modifiers = p.1.1 }) (λ _. refl)
+head_code =
+    code_by (List ℕ × (List ℕ × List Modifier)) (coded× text_code (coded× text_code (coded_list modifier_code)))
+    (λ h. (h.index, (h.relation, h.modifiers)))
+    (λ p. record { index = p.0; relation = p.1.0; modifiers = p.1.1 }) (λ _. refl)
 
 abbrev key_code : Coded SortKey
-key_code = code_by (List ℕ × List Modifier) (coded× text_code (coded_list modifier_code)) (λ k. (k.index, k.modifiers)) (λ p. record { index = p.0; modifiers = p.1 }) (λ _. refl)
+key_code =
+    code_by (List ℕ × List Modifier) (coded× text_code (coded_list modifier_code))
+    (λ k. (k.index, k.modifiers))
+    (λ p. record { index = p.0; modifiers = p.1 }) (λ _. refl)
 
 abbrev clause_code : Coded (Option Head × List ℕ)
 clause_code = coded× (coded_option head_code) text_code

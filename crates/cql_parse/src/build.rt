@@ -1,12 +1,12 @@
 //! The tree of tokens, in one pass over them, with a stack of what the query is within.
 
-ghost use Rattle.std.specs.Prelude.{◌≡◌, ◌↔◌, ◌+◌, ◌<◌, ◌≤◌, ◌∷◌, [], length, reverse, option_map, None, true, false, IfOk};
+ghost use Rattle.std.specs.Prelude.{◌≡◌, ◌+◌, ◌<◌, ◌≤◌, length, true, false, IfOk};
 ghost use Rattle.cql_parse.specs.Classes.{is_open, is_boolean, is_sortby, is_close, is_greater, lower};
 ghost use Rattle.cql_parse.specs.Lexemes.{lexemes, starts};
-ghost use Rattle.cql_parse.specs.Grammar.{operand, after};
-ghost use Rattle.cql_parse.specs.Answers.{lexeme_in};
-ghost use Rattle.cql_parse.specs.Nesting.{nesting};
-ghost use Rattle.cql_parse.specs.Unfinished.{left_of, due_of, Goes, Unwinds, Finishes, Builds, Shallow, closed_in};
+ghost use Rattle.cql_parse.specs.Grammar.{after};
+ghost use Rattle.cql_parse.specs.ParserState.{due_of, Unwinds, Finishes, Builds, Shallow, closed_in};
+ghost use Rattle.cql_parse.specs.ParserSteps.{frames_of, operand_of, GoesOnFront, GoesOnTokens};
+ghost use Rattle.cql_parse.specs.ParserSteps.{NestsOnFront, NestsOnTokens, KeepsNestingFront, KeepsNestingTokens};
 
 use crate::clauses::{clause, keys, modifiers, prefix};
 use crate::fault::Stop;
@@ -38,8 +38,8 @@ fn open_bracket<'a>(
     front: Front<'a>,
 ) -> Result<(State, &'a [Token]), Stop>
     requires { is_open front.class ≡ true }
-    ensures goes { Goes text.now stack.old.brackets (operand (option_map left_of left)) (reverse stack.old.frames.items) (lexeme_in front.entry ∷ lexemes text.now front.entry.rest.now) (reverse stack.new.frames.items) result }
-    ensures nested { IfOk result (λ next. (48 < nesting stack.old.brackets (lexeme_in front.entry ∷ lexemes text.now front.entry.rest.now)) ↔ (48 < nesting stack.new.brackets (lexemes text.now next.1.now))) }
+    ensures goes { GoesOnFront text.now (operand_of left) stack.old front.entry stack.new result }
+    ensures nested { NestsOnFront text.now stack.old front.entry stack.new result }
     ensures shorter { IfOk result (λ next. length next.1.now ≤ length front.entry.rest.now) }
 {
     stack.push_bracket(left)?;
@@ -55,8 +55,8 @@ fn assign_prefix<'a>(
     tokens: &'a [Token],
 ) -> Result<(State, &'a [Token]), Stop>
     requires { starts is_greater (lexemes text.now tokens.now) ≡ true }
-    ensures goes { Goes text.now stack.old.brackets (operand (option_map left_of left)) (reverse stack.old.frames.items) (lexemes text.now tokens.now) (reverse stack.new.frames.items) result }
-    ensures nested { IfOk result (λ next. (48 < nesting stack.old.brackets (lexemes text.now tokens.now)) ↔ (48 < nesting stack.new.brackets (lexemes text.now next.1.now))) }
+    ensures goes { GoesOnTokens text.now (operand_of left) stack.old tokens.now stack.new result }
+    ensures nested { NestsOnTokens text.now stack.old tokens.now stack.new result }
     ensures shorter { IfOk result (λ next. length next.1.now < length tokens.now) }
 {
     let ((name, uri), rest) = prefix(alloc, text, tokens)?;
@@ -74,8 +74,8 @@ fn read_clause<'a>(
 ) -> Result<(State, &'a [Token]), Stop>
     requires open { starts is_open (lexemes text.now tokens.now) ≡ false }
     requires sign { starts is_greater (lexemes text.now tokens.now) ≡ false }
-    ensures goes { Goes text.now stack.now.brackets (operand (option_map left_of left)) (reverse stack.now.frames.items) (lexemes text.now tokens.now) (reverse stack.now.frames.items) result }
-    ensures nested { IfOk result (λ next. nesting stack.now.brackets (lexemes text.now tokens.now) ≡ nesting stack.now.brackets (lexemes text.now next.1.now)) }
+    ensures goes { GoesOnTokens text.now (operand_of left) stack.now tokens.now stack.now result }
+    ensures nested { KeepsNestingTokens text.now stack.now tokens.now result }
     ensures shorter { IfOk result (λ next. length next.1.now < length tokens.now) }
 {
     let ((head, term), rest) = clause(alloc, text, tokens)?;
@@ -92,8 +92,8 @@ fn read_boolean<'a>(
     front: Front<'a>,
 ) -> Result<(State, &'a [Token]), Stop>
     requires { is_boolean front.class ≡ true }
-    ensures goes { Goes text.now stack.now.brackets (after query.tree) (reverse stack.now.frames.items) (lexeme_in front.entry ∷ lexemes text.now front.entry.rest.now) (reverse stack.now.frames.items) result }
-    ensures nested { IfOk result (λ next. nesting stack.now.brackets (lexeme_in front.entry ∷ lexemes text.now front.entry.rest.now) ≡ nesting stack.now.brackets (lexemes text.now next.1.now)) }
+    ensures goes { GoesOnFront text.now (after query.tree) stack.now front.entry stack.now result }
+    ensures nested { KeepsNestingFront text.now stack.now front.entry result }
     ensures shorter { IfOk result (λ next. length next.1.now ≤ length front.entry.rest.now) }
 {
     let (modifiers, rest) = modifiers(alloc, text, front.rest)?;
@@ -115,8 +115,8 @@ fn read_sort<'a>(
     front: Front<'a>,
 ) -> Result<(State, &'a [Token]), Stop>
     requires { is_sortby front.class ≡ true }
-    ensures goes { Goes text.now stack.now.brackets (after query.tree) (reverse stack.now.frames.items) (lexeme_in front.entry ∷ lexemes text.now front.entry.rest.now) (reverse stack.now.frames.items) result }
-    ensures nested { IfOk result (λ next. nesting stack.now.brackets (lexeme_in front.entry ∷ lexemes text.now front.entry.rest.now) ≡ nesting stack.now.brackets (lexemes text.now next.1.now)) }
+    ensures goes { GoesOnFront text.now (after query.tree) stack.now front.entry stack.now result }
+    ensures nested { KeepsNestingFront text.now stack.now front.entry result }
     ensures shorter { IfOk result (λ next. length next.1.now ≤ length front.entry.rest.now) }
 {
     let (keys, rest) = keys(alloc, text, front.rest)?;
@@ -126,8 +126,8 @@ fn read_sort<'a>(
 
 /// Puts the prefix assignments that end with a query around it, up to the brackets that it is in.
 fn unwind(alloc: Global, stack: &mut Stack, query: Grown) -> Result<Ended, Stop>
-    ensures unwinds { Unwinds query.tree (reverse stack.old.frames.items) (reverse stack.new.frames.items) result }
-    ensures brackets { IfOk result (λ ended. stack.old.brackets ≡ stack.new.brackets + closed_in ended) }
+    ensures unwinds { Unwinds query.tree (frames_of stack.old) (frames_of stack.new) result }
+    ensures brackets { IfOk result (λ e. stack.old.brackets ≡ stack.new.brackets + closed_in e) }
 {
     let mut query = query;
     'frames: while let Some(frame) = stack.pop() {
@@ -151,8 +151,8 @@ fn close_bracket<'a>(
     front: Front<'a>,
 ) -> Result<(State, &'a [Token]), Stop>
     requires { is_close front.class ≡ true }
-    ensures goes { Goes text.now stack.old.brackets (after query.tree) (reverse stack.old.frames.items) (lexeme_in front.entry ∷ lexemes text.now front.entry.rest.now) (reverse stack.new.frames.items) result }
-    ensures nested { IfOk result (λ next. (48 < nesting stack.old.brackets (lexeme_in front.entry ∷ lexemes text.now front.entry.rest.now)) ↔ (48 < nesting stack.new.brackets (lexemes text.now next.1.now))) }
+    ensures goes { GoesOnFront text.now (after query.tree) stack.old front.entry stack.new result }
+    ensures nested { NestsOnFront text.now stack.old front.entry stack.new result }
     ensures shorter { IfOk result (λ next. length next.1.now ≤ length front.entry.rest.now) }
 {
     match unwind(alloc, stack, query)? {
@@ -172,8 +172,8 @@ fn operand<'a>(
     stack: &mut Stack,
     tokens: &'a [Token],
 ) -> Result<(State, &'a [Token]), Stop>
-    ensures goes { Goes text.now stack.old.brackets (operand (option_map left_of left)) (reverse stack.old.frames.items) (lexemes text.now tokens.now) (reverse stack.new.frames.items) result }
-    ensures nested { IfOk result (λ next. (48 < nesting stack.old.brackets (lexemes text.now tokens.now)) ↔ (48 < nesting stack.new.brackets (lexemes text.now next.1.now))) }
+    ensures goes { GoesOnTokens text.now (operand_of left) stack.old tokens.now stack.new result }
+    ensures nested { NestsOnTokens text.now stack.old tokens.now stack.new result }
     ensures shorter { IfOk result (λ next. length next.1.now < length tokens.now) }
 {
     let Some(front) = first(text, tokens) else {
@@ -195,8 +195,8 @@ fn behind<'a>(
     tokens: &'a [Token],
 ) -> Result<(State, &'a [Token]), Stop>
     requires { 0 < length tokens.now }
-    ensures goes { Goes text.now stack.old.brackets (after query.tree) (reverse stack.old.frames.items) (lexemes text.now tokens.now) (reverse stack.new.frames.items) result }
-    ensures nested { IfOk result (λ next. (48 < nesting stack.old.brackets (lexemes text.now tokens.now)) ↔ (48 < nesting stack.new.brackets (lexemes text.now next.1.now))) }
+    ensures goes { GoesOnTokens text.now (after query.tree) stack.old tokens.now stack.new result }
+    ensures nested { NestsOnTokens text.now stack.old tokens.now stack.new result }
     ensures shorter { IfOk result (λ next. length next.1.now < length tokens.now) }
 {
     let Some(front) = first(text, tokens) else {
@@ -219,8 +219,8 @@ fn step<'a>(
     tokens: &'a [Token],
 ) -> Result<(State, &'a [Token]), Stop>
     requires { 0 < length tokens.now }
-    ensures goes { Goes text.now stack.old.brackets (due_of state) (reverse stack.old.frames.items) (lexemes text.now tokens.now) (reverse stack.new.frames.items) result }
-    ensures nested { IfOk result (λ next. (48 < nesting stack.old.brackets (lexemes text.now tokens.now)) ↔ (48 < nesting stack.new.brackets (lexemes text.now next.1.now))) }
+    ensures goes { GoesOnTokens text.now (due_of state) stack.old tokens.now stack.new result }
+    ensures nested { NestsOnTokens text.now stack.old tokens.now stack.new result }
     ensures shorter { IfOk result (λ next. length next.1.now < length tokens.now) }
 {
     match state {
@@ -231,7 +231,7 @@ fn step<'a>(
 
 /// Ends a query where the tokens end.
 fn finish(alloc: Global, state: State, stack: &mut Stack) -> Result<Grown, Stop>
-    ensures finishes { Finishes (due_of state) (reverse stack.old.frames.items) result }
+    ensures finishes { Finishes (due_of state) (frames_of stack.old) result }
     ensures shallow { Shallow result }
 {
     let State::After(query) = state else {

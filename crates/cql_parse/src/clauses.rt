@@ -1,10 +1,9 @@
 //! The parts of a query that hold no query: modifiers, sort keys, clauses and prefixes (CQL 1.2, BNF).
 
-ghost use Rattle.std.specs.Prelude.{◌≡◌, ◌<◌, ◌≤◌, IfOk, length, Some, None};
-ghost use Rattle.cql_parse.specs.Lexemes.{lexemes, starts};
-ghost use Rattle.cql_parse.specs.Grammar.{IsName, MayHaveValue, IsModifier, AreModifiers, IsKey, AreKeys, Repeats, IsComparison, IsClause, IsPrefix, IsNamedPrefix};
-ghost use Rattle.cql_parse.specs.Classes.{is_term};
-ghost use Rattle.cql_parse.specs.Answers.{Finds};
+ghost use Rattle.std.specs.Prelude.{◌<◌, ◌≤◌, IfOk, length, Some, None};
+ghost use Rattle.cql_parse.specs.Lexemes.{lexemes};
+ghost use Rattle.cql_parse.specs.Grammar.{IsName, MayHaveValue, IsModifier, AreModifiers, IsKey, AreKeys, AreDueKeys, IsClause, IsPrefix};
+ghost use Rattle.cql_parse.specs.ParserAnswers.{Finds, IsComparisonOf, IsNamedPrefixOf};
 
 use crate::fault::Stop;
 use crate::lexeme::{equal, greater, relation, slash, symbol, term, word};
@@ -102,7 +101,7 @@ fn due_keys<'a>(
     text: &'a [u8],
     tokens: &'a [Token],
 ) -> Result<(List<SortKey>, &'a [Token]), Stop>
-    ensures found { Finds text.now (Repeats (starts is_term) IsKey (lexemes text.now tokens.now)) result }
+    ensures found { Finds text.now (AreDueKeys (lexemes text.now tokens.now)) result }
     ensures shorter { IfOk result (λ r. length r.1.now ≤ length tokens.now) }
 {
     let mut found = List::new(alloc);
@@ -137,7 +136,7 @@ fn comparison<'a>(
     text: &'a [u8],
     tokens: &'a [Token],
 ) -> Result<((Head, Text), &'a [Token]), Stop>
-    ensures found { Finds text.now (λ c. IsComparison (lexemes text.now tokens.now) c.0 c.1) result }
+    ensures found { Finds text.now (IsComparisonOf (lexemes text.now tokens.now)) result }
     ensures shorter { IfOk result (λ r. length r.1.now < length tokens.now) }
 {
     let Some(index) = term(text, tokens) else {
@@ -186,7 +185,7 @@ fn named_prefix<'a>(
     text: &'a [u8],
     tokens: &'a [Token],
 ) -> Result<((Text, Text), &'a [Token]), Stop>
-    ensures found { Finds text.now (λ p. IsNamedPrefix (lexemes text.now tokens.now) p.0 p.1) result }
+    ensures found { Finds text.now (IsNamedPrefixOf (lexemes text.now tokens.now)) result }
     ensures shorter { IfOk result (λ r. length r.1.now < length tokens.now) }
 {
     let Some(sign) = greater(text, tokens) else {

@@ -4,6 +4,7 @@ ghost use Rattle.std.specs.Prelude.{◌≡◌};
 ghost use Rattle.cql_parse.specs.declared.fault.Stop.TheVariants.{Memory as no_memory};
 ghost use Rattle.cql_parse.specs.Numbers.{number_of};
 
+use std::fmt;
 use z_types::Memory;
 
 /// Why tokens are no query that is taken. Nothing was changed.
@@ -27,6 +28,16 @@ impl ParseFault {
             ParseFault::Memory => 0,
             ParseFault::Syntax(_) => 1,
             ParseFault::TooDeep => 2,
+        }
+    }
+}
+
+impl fmt::Display for ParseFault {
+    fn fmt<W: fmt::Write>(&self, f: &mut fmt::Formatter<W>) -> fmt::Result {
+        match self {
+            ParseFault::Syntax(place) => write!(f, "no query goes on so at octet {place}"),
+            ParseFault::TooDeep => f.write_str("nested too deep"),
+            ParseFault::Memory => f.write_str("out of memory"),
         }
     }
 }

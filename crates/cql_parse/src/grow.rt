@@ -1,16 +1,16 @@
 //! How queries are put together, at most 48 levels high.
 
-ghost use Rattle.std.specs.Prelude.{◌≡◌, ◌≤◌, suc, option_map, max};
+ghost use Rattle.std.specs.Prelude.{◌≡◌, option_map, max};
 ghost use Rattle.cql_parse.specs.Tree.{clause, joined, assigned, sorted};
 ghost use Rattle.cql_parse.specs.Grammar.{join};
-ghost use Rattle.cql_parse.specs.Unfinished.{left_of, Makes};
+ghost use Rattle.cql_parse.specs.ParserState.{left_of, Makes};
 
 use crate::fault::Stop;
 use crate::frame::LeftOperand;
-use crate::grown::{Grown, MOST_LEVELS};
+use crate::grown::Grown;
 use crate::{Cql, Head, SortKey};
 use std::alloc::Global;
-use z_types::{List, Text};
+use z_types::{List, MOST_QUERY_DEPTH, Text};
 
 /// A clause.
 pub fn clause(head: Option<Head>, term: Text) -> Grown
@@ -37,7 +37,7 @@ fn join_to(alloc: Global, left: LeftOperand, right: Grown) -> Result<Grown, Stop
     ensures { Makes result (joined left.boolean left.modifiers left.query.tree right.tree) }
 {
     let levels = left.query.levels.max(right.levels);
-    if levels >= MOST_LEVELS {
+    if levels >= MOST_QUERY_DEPTH {
         return Err(Stop::Deep);
     }
     let LeftOperand {
@@ -56,7 +56,7 @@ pub fn assign(alloc: Global, name: Option<Text>, uri: Text, query: Grown) -> Res
     ensures { Makes result (assigned name uri query.tree) }
 {
     let levels = query.levels;
-    if levels >= MOST_LEVELS {
+    if levels >= MOST_QUERY_DEPTH {
         return Err(Stop::Deep);
     }
     Ok(Grown {
@@ -70,7 +70,7 @@ pub fn sort(alloc: Global, query: Grown, keys: List<SortKey>) -> Result<Grown, S
     ensures { Makes result (sorted query.tree keys) }
 {
     let levels = query.levels;
-    if levels >= MOST_LEVELS {
+    if levels >= MOST_QUERY_DEPTH {
         return Err(Stop::Deep);
     }
     Ok(Grown {

@@ -2,11 +2,9 @@
 
 ghost use Rattle.std.specs.Prelude.{◌≡◌, ◌≤◌};
 ghost use Rattle.cql_parse.specs.Tree.{depth};
+ghost use Rattle.z_types.specs.Bounds.{most_query_depth};
 
 use crate::Cql;
-
-/// The most levels of a tree, and the most brackets within one another.
-pub const MOST_LEVELS: u32 = 48;
 
 /// A query and how many levels it has, at most 48.
 #[derive(Drop)]
@@ -16,5 +14,5 @@ pub struct Grown {
     /// How many levels its tree has.
     pub levels: u32,
     ghost counted: { levels ≡ depth tree },
-    ghost shallow: { levels ≤ 48 },
+    ghost shallow: { levels ≤ most_query_depth },
 }

@@ -1,10 +1,10 @@
 //! A token as the grammar sees it: its class and its text.
 
-ghost use Rattle.std.specs.Prelude.{◌≡◌, ◌+◌, ◌-◌, ◌<◌, map, codes, true, IfSome, length};
+ghost use Rattle.std.specs.Prelude.{◌≡◌, ◌-◌, ◌<◌, true, IfSome, length};
 ghost use Rattle.std.specs.Str.{bytes_eq};
-ghost use Rattle.cql_parse.specs.Classes.{lower, word_class, class_of, is_word, is_term, is_symbol, is_relation, is_slash, is_close, is_equal, is_greater};
+ghost use Rattle.cql_parse.specs.Classes.{lower, word_class, class_of, is_word, is_term, is_symbol, is_relation, is_slash, is_equal, is_greater};
 ghost use Rattle.cql_parse.specs.Lexemes.{between, text_of};
-ghost use Rattle.cql_parse.specs.Answers.{IsFront};
+ghost use Rattle.cql_parse.specs.ParserAnswers.{IsFront};
 
 use cql_lex::{Kind, Token};
 

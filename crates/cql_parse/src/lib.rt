@@ -5,13 +5,13 @@
 mod build;
 mod clauses;
 mod fault;
+mod first_fault;
 mod frame;
 mod grow;
 mod grown;
 mod laws;
 mod lexeme;
 mod parser;
-mod scan;
 mod stack;
 #[cfg(test)]
 mod tests;
@@ -19,7 +19,7 @@ mod tree;
 mod writer;
 
 pub use fault::ParseFault;
-pub use laws::{one_fault, one_tree};
+pub use laws::{one_fault, one_tree, texts_of_trees};
 pub use parser::parse;
 pub use tree::{Cql, Head, Modifier, Node, SortKey};
 pub use writer::write;

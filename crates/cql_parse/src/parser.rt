@@ -1,15 +1,18 @@
 //! The tree of a query's tokens, or why they have none.
 
 ghost use Rattle.std.specs.Prelude.{◌≡◌, ◌≤◌, IfOk, IfErr};
-ghost use Rattle.cql_parse.specs.Tree.{Tree, depth};
+ghost use Rattle.cql_parse.specs.Tree.{depth};
 ghost use Rattle.cql_parse.specs.Lexemes.{lexemes};
 ghost use Rattle.cql_parse.specs.Grammar.{IsQuery};
-ghost use Rattle.cql_parse.specs.Nesting.{nesting};
-ghost use Rattle.cql_parse.specs.Refusals.{place_of, IsTooDeep, IsRefusal};
+ghost use Rattle.cql_parse.specs.Nesting.{HasShallowBrackets};
+ghost use Rattle.cql_parse.specs.WellFormed.{IsWellFormed};
+ghost use Rattle.cql_parse.specs.Again.{AreTokensOf};
+ghost use Rattle.cql_parse.specs.Refusals.{place_of, IsNeverShallow, IsRefusal};
+ghost use Rattle.z_types.specs.Bounds.{most_query_depth};
 
 use crate::build::build;
 use crate::fault::Stop;
-use crate::scan::fault_at;
+use crate::first_fault::fault_at;
 use crate::{Cql, ParseFault};
 use cql_lex::Token;
 use std::alloc::Global;
@@ -19,8 +22,9 @@ use z_types::List;
 /// which at most 48 are within one another. Takes time linear in the tokens, and no recursion.
 pub fn parse(alloc: Global, text: &[u8], tokens: &List<Token>) -> Result<Cql, ParseFault>
     ensures tree { IfOk result (IsQuery (lexemes text.now tokens.now)) }
-    ensures levels { IfOk result (λ q. depth q ≤ 48) }
-    ensures brackets { IfOk result (λ q. nesting 0 (lexemes text.now tokens.now) ≤ 48) }
+    ensures well_formed { IfOk result (λ q. AreTokensOf text.now tokens.now → IsWellFormed q) }
+    ensures levels { IfOk result (λ q. depth q ≤ most_query_depth) }
+    ensures brackets { IfOk result (λ q. HasShallowBrackets (lexemes text.now tokens.now)) }
     ensures refused { IfErr result (IsRefusal text.now tokens.now) }
 {
     match build(alloc, text, tokens.as_slice()) {
@@ -32,7 +36,7 @@ pub fn parse(alloc: Global, text: &[u8], tokens: &List<Token>) -> Result<Cql, Pa
 
 /// Why tokens give no tree, where each tree of theirs is too deep.
 fn refusal(text: &[u8], tokens: &[Token]) -> ParseFault
-    requires { (t : Tree) → IsQuery (lexemes text.now tokens.now) t → IsTooDeep (lexemes text.now tokens.now) t }
+    requires { IsNeverShallow (lexemes text.now tokens.now) }
     ensures { IsRefusal text.now tokens.now result }
 {
     match fault_at(text, tokens) {

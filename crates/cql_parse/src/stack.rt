@@ -1,13 +1,13 @@
 //! The brackets and prefix assignments that an unfinished query is within, the innermost last.
 
-ghost use Rattle.std.specs.Prelude.{◌≡◌, ◌≤◌, ◌+◌, ◌++◌, ◌∷◌, [], count_by, MatchOption, OnOk, IfErr, IfSome, if◌then◌else◌};
-ghost use Rattle.cql_parse.specs.Brackets.{is_bracket, IsFull};
+ghost use Rattle.std.specs.Prelude.{◌≡◌, ◌≤◌, ◌+◌, [], count_by, OnOk, IfErr};
+ghost use Rattle.cql_parse.specs.ParserBrackets.{is_bracket, IsFull};
+ghost use Rattle.z_types.specs.Bounds.{most_query_depth};
 
 use crate::fault::Stop;
 use crate::frame::{Frame, LeftOperand};
-use crate::grown::MOST_LEVELS;
 use std::alloc::Global;
-use z_types::{Memory, Text};
+use z_types::{MOST_QUERY_DEPTH, Memory, Text};
 
 /// The frames, and how many of them are brackets, at most 48.
 #[derive(Drop)]
@@ -17,10 +17,12 @@ pub struct Stack {
     /// How many of them are brackets.
     pub brackets: u32,
     ghost counted: { brackets ≡ count_by is_bracket frames.items },
-    ghost shallow: { brackets ≤ 48 },
+    ghost shallow: { brackets ≤ most_query_depth },
 }
 
 impl Stack {
+    ghost use Rattle.cql_parse.specs.ParserSteps.{IsPushed, IsPopped, LosesBracket};
+
     /// No frames.
     pub fn new(alloc: Global) -> Stack
         ensures frames { result.frames.items ≡ [] }
@@ -34,11 +36,11 @@ impl Stack {
 
     /// Opens brackets; without memory, or where 48 are open, nothing is changed.
     pub fn push_bracket(&mut self, left: Option<LeftOperand>) -> Result<(), Stop>
-        ensures frames { OnOk result (self.new.frames.items ≡ self.old.frames.items ++ Frame.Bracket left ∷ []) }
+        ensures frames { OnOk result (IsPushed self.old (Frame.Bracket left) self.new) }
         ensures brackets { OnOk result (self.new.brackets ≡ self.old.brackets + 1) }
         ensures refused { IfErr result (λ e. IsFull self.old.brackets e) }
     {
-        if self.brackets >= MOST_LEVELS {
+        if self.brackets >= MOST_QUERY_DEPTH {
             return Err(Stop::Deep);
         }
         let pushed = self.frames.push(Frame::Bracket(left));
@@ -56,7 +58,7 @@ impl Stack {
         name: Option<Text>,
         uri: Text,
     ) -> Result<(), Memory>
-        ensures frames { OnOk result (self.new.frames.items ≡ self.old.frames.items ++ Frame.Prefix left name uri ∷ []) }
+        ensures frames { OnOk result (IsPushed self.old (Frame.Prefix left name uri) self.new) }
         ensures brackets { self.new.brackets ≡ self.old.brackets }
     {
         self.frames.push(Frame::Prefix(left, name, uri))?;
@@ -65,8 +67,8 @@ impl Stack {
 
     /// Takes the innermost frame out.
     pub fn pop(&mut self) -> Option<Frame>
-        ensures frames { MatchOption result ((self.old.frames.items ≡ []) × (self.new.frames.items ≡ [])) (λ frame. self.old.frames.items ≡ self.new.frames.items ++ frame ∷ []) }
-        ensures brackets { IfSome result (λ frame. self.old.brackets ≡ self.new.brackets + (if is_bracket frame then 1 else 0)) }
+        ensures frames { IsPopped self.old result self.new }
+        ensures brackets { LosesBracket self.old result self.new }
     {
         let frame = self.frames.pop()?;
         if matches!(frame, Frame::Bracket(_)) {

@@ -1,6 +1,10 @@
 //! Queries and their trees. The expected trees follow from CQL 1.2's BNF: booleans of one precedence
 //! that group to the left, brackets that leave nothing, words in any case of letters.
 
+ghost use Rattle.std.specs.Prelude.{◌≤◌, IfOk};
+ghost use Rattle.cql_parse.specs.Tree.{depth};
+ghost use Rattle.z_types.specs.Bounds.{most_query_depth};
+
 use crate::{Cql, Node, ParseFault, parse, write};
 use cql_lex::tokens;
 use std::alloc::Global;
@@ -8,7 +12,9 @@ use std::process::Abort;
 use std::test::Fail;
 
 /// The tree of a text.
-fn read(alloc: Global, text: &[u8]) -> Result<Cql, Fail> {
+fn read(alloc: Global, text: &[u8]) -> Result<Cql, Fail>
+    ensures { IfOk result (λ q. depth q ≤ most_query_depth) }
+{
     let found = tokens(alloc, text)?;
     Ok(parse(alloc, text, &found)?)
 }
@@ -165,10 +171,17 @@ fn the_limits_are_48(rt: HostRuntime) -> Result<(), Fail> {
 }
 
 #[test]
+fn a_fault_is_printed_with_its_place(rt: HostRuntime) -> Result<(), Fail> {
+    let printed = format!(in rt.alloc(); "{}", ParseFault::Syntax(7))?;
+    assert_eq!(rt; printed.as_str(), "no query goes on so at octet 7");
+    Ok(())
+}
+
+#[test]
 fn a_long_query_is_read(rt: HostRuntime) -> Result<(), Fail> {
-    let mut text = vec![in rt.alloc(); b'x'; 15_990]?;
+    let mut text = vec![in rt.alloc(); b'x'; 1_048_566]?;
     text.extend_from_slice(b" = \"a b c\"")?;
-    assert_eq!(rt; text.len(), 16_000);
+    assert_eq!(rt; text.len(), 1_048_576);
     assert_eq!(rt; fault(rt.alloc(), text.as_slice())?, None);
     let deep = joined(rt.alloc(), 3_200)?;
     assert_eq!(rt;

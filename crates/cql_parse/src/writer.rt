@@ -1,9 +1,11 @@
 //! The text of a query.
 
-ghost use Rattle.std.specs.Prelude.{◌≡◌, ℕ, List, ◌++◌, ◌∷◌, [], IfOk, OnOk};
+ghost use Rattle.std.specs.Prelude.{◌≡◌, ◌≤◌, ◌++◌, IfOk, OnOk};
 ghost use Rattle.cql_parse.specs.Tree.{depth};
-ghost use Rattle.cql_parse.specs.Again.{IsTextOf, IsNestedWithin};
+ghost use Rattle.cql_parse.specs.WellFormed.{IsWellFormed};
+ghost use Rattle.cql_parse.specs.Again.{IsTextOf, IsNoDeeper};
 ghost use Rattle.cql_parse.specs.Written.{quoted, bracketed, index_text, value_text, modifiers_text, keys_text, head_text, prefix_text, reaches_on, groups, written};
+ghost use Rattle.z_types.specs.Bounds.{most_query_depth};
 
 use crate::{Cql, Head, Modifier, Node, SortKey};
 use cql_lex::is_word;
@@ -11,12 +13,14 @@ use std::alloc::Global;
 use z_types::{List, Memory, Text};
 
 /// The text of a query: one space round relations, booleans and `sortby` and between sort keys,
-/// every term quoted, and brackets where the tree needs them. Where some text is a query of this
-/// tree, what is written is one too, with brackets nested no deeper than the tree has levels.
+/// every term quoted, and brackets where the tree needs them. What is written of a well-formed tree,
+/// as each is that `parse` gives, is a text of that tree, with brackets nested no deeper than the tree
+/// has levels. It is for trees of at most 48 levels, since it goes down the tree by recursion.
 pub fn write(alloc: Global, query: &Cql) -> Result<Text, Memory>
+    requires { depth query.now ≤ most_query_depth }
     ensures layout { IfOk result (λ text. text ≡ written query.now) }
-    ensures again { IfOk result (λ text. (source : List ℕ) → IsTextOf source query.now → IsTextOf text query.now) }
-    ensures shallow { IfOk result (λ text. (source : List ℕ) → IsTextOf source query.now → IsNestedWithin text (depth query.now)) }
+    ensures again { IfOk result (λ text. IsWellFormed query.now → IsTextOf text query.now) }
+    ensures shallow { IfOk result (λ text. IsWellFormed query.now → IsNoDeeper text query.now) }
 {
     let mut out = Text::new(alloc);
     query_to(&mut out, query)?;

@@ -1,4 +1,4 @@
-use Rattle.std.proofs.Common.{◌≤◌, ⊎_elim, arith}
+use Rattle.std.proofs.Common.{⊎_elim, arith}
 use Rattle.std.proofs.lemmas.Bool.{cases_lt}
 use Rattle.cql_lex.proofs.lexer.tokens.Goals as goal
 

@@ -2,7 +2,7 @@ use Rattle.std.proofs.Common.{ℕ, List, Option, sym, ◌∙◌}
 use Rattle.std.proofs.lemmas.Result.{err_from_is_err_and}
 use Rattle.cql_parse.specs.Lexemes.{lexemes}
 use Rattle.cql_parse.specs.Grammar.{operand, IsPrefix}
-use Rattle.cql_parse.specs.Unfinished.{left_of}
+use Rattle.cql_parse.specs.ParserState.{left_of}
 use Rattle.std.proofs.Common.{option_map, reverse}
 use Rattle.cql_parse.proofs.Steps.{no_prefix}
 use Rattle.cql_parse.proofs.Going.{Goes_none, prefix_goes}

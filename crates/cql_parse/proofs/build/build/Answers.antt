@@ -7,9 +7,10 @@ use Rattle.cql_parse.specs.Tree.{Tree}
 use Rattle.cql_parse.specs.Lexemes.{lexemes}
 use Rattle.cql_parse.specs.Grammar.{IsQuery}
 use Rattle.cql_parse.specs.Nesting.{nesting}
-use Rattle.cql_parse.specs.Unfinished.{due_of, Completes}
+use Rattle.cql_parse.specs.ParserState.{due_of, Completes}
 use Rattle.cql_parse.proofs.Going.{query_more, query_err, query_done}
 use Rattle.cql_parse.proofs.build.build.Goals as goal
+use Rattle.z_types.specs.Bounds.{most_query_depth}
 
 pub returns-in_err-next : goal.returns-in_err-next
 returns-in_err-next c =
@@ -33,5 +34,5 @@ returns c =
     let n = c.parts.stack.brackets in
     let none : c.parts.rest.now ≡ [] = nil_from_length c.parts.rest.now (eqb-true (length c.parts.rest.now) 0 (sym c.is_empty.ensures ∙ c.parts-test.false)) in
     let same = subst (λ (r : List Token). (t : Tree) → IsQuery all t ↔ Completes due frames (lexemes text r) t) none c.parts.invariant.0 in
-    let nest = subst (λ (r : List Token). (48 < nesting 0 all) ↔ (48 < nesting n (lexemes text r))) none c.parts.invariant.1 in
+    let nest = subst (λ (r : List Token). (most_query_depth < nesting 0 all) ↔ (most_query_depth < nesting n (lexemes text r))) none c.parts.invariant.1 in
     query_done all due frames n c.finish.result same nest c.parts.stack.shallow c.finish.ensures.shallow c.finish.ensures.finishes

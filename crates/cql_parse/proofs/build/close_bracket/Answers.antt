@@ -4,14 +4,15 @@ use Rattle.cql_parse.specs.declared.frame.Ended.{Ended}
 use Rattle.cql_parse.specs.declared.frame.Ended.TheVariants.{Inner}
 use Rattle.cql_parse.specs.Lexemes.{lexemes}
 use Rattle.cql_parse.specs.Grammar.{after, join}
-use Rattle.cql_parse.specs.Answers.{lexeme_in}
-use Rattle.cql_parse.specs.Unfinished.{left_of, Unwinds}
+use Rattle.cql_parse.specs.ParserAnswers.{lexeme_in}
+use Rattle.cql_parse.specs.ParserState.{left_of, Unwinds}
 use Rattle.cql_parse.proofs.Going.{Goes_deep, close_goes, close_deep}
 use Rattle.std.proofs.Common.{◌+◌, ◌-◌, ◌<◌, ℕ, arith}
 use Rattle.cql_parse.specs.Nesting.{nesting}
-use Rattle.cql_parse.specs.Unfinished.{closed_in}
+use Rattle.cql_parse.specs.ParserState.{closed_in}
 use Rattle.cql_parse.proofs.Nested.{nesting_close}
 use Rattle.cql_parse.proofs.build.close_bracket.Goals as goal
+use Rattle.z_types.specs.Bounds.{most_query_depth}
 
 pub returns-in_err-query-in-Inner-clause-goes : goal.returns-in_err-query-in-Inner-clause-goes
 returns-in_err-query-in-Inner-clause-goes c =
@@ -43,4 +44,4 @@ returns-in-Inner-clause-nested c =
     let ts = lexemes c.args.text.now c.args.front.rest.now in
     let one : n ≡ m + 1 = subst (λ (z : Ended). n ≡ m + closed_in z) c.in-Inner.is c.in_ok-left.ensures.brackets in
     let less : n - 1 ≡ m = omega (arith, one) in
-    subst (λ (k : ℕ). (48 < nesting n (x ∷ ts)) ↔ (48 < nesting k ts)) less (nesting_close n x ts c.args.stack.now.shallow c.requires)
+    subst (λ (k : ℕ). (most_query_depth < nesting n (x ∷ ts)) ↔ (most_query_depth < nesting k ts)) less (nesting_close n x ts c.args.stack.now.shallow c.requires)

@@ -1,7 +1,7 @@
 use Rattle.std.proofs.Common.{Ok, reverse, subst}
 use Rattle.cql_parse.specs.declared.frame.Ended.{Ended}
 use Rattle.cql_parse.specs.declared.frame.Ended.TheVariants.{Inner, Whole}
-use Rattle.cql_parse.specs.Unfinished.{Unwinds}
+use Rattle.cql_parse.specs.ParserState.{Unwinds}
 use Rattle.cql_parse.proofs.Going.{finish_whole, finish_inner}
 use Rattle.cql_parse.proofs.build.finish.Goals as goal
 

@@ -1,4 +1,4 @@
-use Rattle.cql_parse.specs.Answers.{lexeme_in}
+use Rattle.cql_parse.specs.ParserAnswers.{lexeme_in}
 use Rattle.cql_parse.proofs.Going.{open_goes}
 use Rattle.std.proofs.Common.{◌≡◌, ◌∷◌, ℕ, suc, ap, ◌∙◌, arith}
 use Rattle.cql_parse.specs.Lexemes.{lexemes}

@@ -2,7 +2,7 @@ use Rattle.std.proofs.Common.{◌∙◌}
 use Rattle.std.proofs.lemmas.Result.{err_from_is_err_and}
 use Rattle.cql_parse.specs.Lexemes.{lexemes}
 use Rattle.cql_parse.specs.Grammar.{after, AreModifiers}
-use Rattle.cql_parse.specs.Answers.{lexeme_in}
+use Rattle.cql_parse.specs.ParserAnswers.{lexeme_in}
 use Rattle.std.proofs.Common.{reverse, ◌∷◌}
 use Rattle.cql_parse.proofs.Steps.{no_boolean}
 use Rattle.cql_parse.proofs.Going.{Goes_none, boolean_goes}

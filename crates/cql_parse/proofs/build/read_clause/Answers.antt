@@ -3,7 +3,7 @@ use Rattle.std.proofs.lemmas.Result.{err_from_is_err_and}
 use Rattle.cql_parse.specs.declared.tree.Head.{Head}
 use Rattle.cql_parse.specs.Lexemes.{lexemes}
 use Rattle.cql_parse.specs.Grammar.{operand, join, IsClause}
-use Rattle.cql_parse.specs.Unfinished.{left_of}
+use Rattle.cql_parse.specs.ParserState.{left_of}
 use Rattle.std.proofs.Common.{option_map, reverse}
 use Rattle.cql_parse.proofs.Steps.{no_clause}
 use Rattle.cql_parse.proofs.Going.{Goes_none, Goes_deep, clause_goes, clause_deep}

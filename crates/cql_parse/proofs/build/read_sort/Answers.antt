@@ -3,7 +3,7 @@ use Rattle.std.proofs.lemmas.Result.{err_from_is_err_and}
 use Rattle.cql_parse.specs.Tree.{sorted}
 use Rattle.cql_parse.specs.Lexemes.{lexemes}
 use Rattle.cql_parse.specs.Grammar.{after, AreKeys}
-use Rattle.cql_parse.specs.Answers.{lexeme_in}
+use Rattle.cql_parse.specs.ParserAnswers.{lexeme_in}
 use Rattle.std.proofs.Common.{reverse, ◌∷◌}
 use Rattle.cql_parse.proofs.Steps.{no_keys}
 use Rattle.cql_parse.proofs.Going.{Goes_none, Goes_deep, sort_goes, sort_deep}

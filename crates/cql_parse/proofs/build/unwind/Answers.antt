@@ -4,7 +4,7 @@ use Rattle.cql_parse.specs.declared.frame.Frame.{Frame}
 use Rattle.cql_parse.specs.declared.frame.Frame.TheVariants.{Prefix}
 use Rattle.cql_parse.specs.Tree.{Tree, assigned, depth}
 use Rattle.cql_parse.specs.Grammar.{join}
-use Rattle.cql_parse.specs.Unfinished.{left_of}
+use Rattle.cql_parse.specs.ParserState.{left_of}
 use Rattle.cql_parse.proofs.Deeper.{join_right}
 use Rattle.cql_parse.proofs.Going.{unwind_deep}
 use Rattle.cql_parse.proofs.build.unwind.Goals as goal

@@ -1,7 +1,7 @@
 use Rattle.std.proofs.Common.{◌≡◌, ◌↔◌, List, reverse, length}
 use Rattle.cql_parse.specs.Tree.{Tree}
 use Rattle.cql_parse.specs.Lexemes.{Lexeme}
-use Rattle.cql_parse.specs.Unfinished.{Ends}
+use Rattle.cql_parse.specs.ParserState.{Ends}
 use Rattle.cql_parse.proofs.build.unwind.Given as goal
 
 -- the query so far ends where the query did

@@ -4,7 +4,7 @@ use Rattle.cql_parse.specs.declared.tree.Head.{Head}
 use Rattle.cql_parse.specs.Classes.{is_relation}
 use Rattle.cql_parse.specs.Lexemes.{lexemes}
 use Rattle.cql_parse.specs.Grammar.{IsClause, IsComparison}
-use Rattle.cql_parse.specs.Answers.{lexeme_in}
+use Rattle.cql_parse.specs.ParserAnswers.{lexeme_in}
 use Rattle.cql_parse.proofs.Finding.{Finds_err, front_some, clause_compared}
 use Rattle.cql_parse.proofs.clauses.clause.Goals as goal
 

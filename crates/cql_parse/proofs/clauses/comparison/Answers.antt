@@ -3,7 +3,7 @@ use Rattle.std.proofs.lemmas.Result.{err_from_is_err_and}
 use Rattle.cql_parse.specs.declared.tree.Head.{Head}
 use Rattle.cql_parse.specs.Lexemes.{Lexeme, lexemes}
 use Rattle.cql_parse.specs.Grammar.{IsComparison, AreModifiers}
-use Rattle.cql_parse.specs.Answers.{lexeme_in}
+use Rattle.cql_parse.specs.ParserAnswers.{lexeme_in}
 use Rattle.cql_parse.proofs.Finding.{Finds_err, comparison_modifiers, comparison_stuck}
 use Rattle.cql_parse.proofs.clauses.comparison.Goals as goal
 

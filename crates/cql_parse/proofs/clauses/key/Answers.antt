@@ -1,7 +1,7 @@
 use Rattle.std.proofs.lemmas.Result.{err_from_is_err_and}
 use Rattle.cql_parse.specs.Lexemes.{lexemes}
 use Rattle.cql_parse.specs.Grammar.{IsKey, AreModifiers}
-use Rattle.cql_parse.specs.Answers.{lexeme_in}
+use Rattle.cql_parse.specs.ParserAnswers.{lexeme_in}
 use Rattle.cql_parse.proofs.Finding.{Finds_err, key_modifiers}
 use Rattle.cql_parse.proofs.clauses.key.Goals as goal
 

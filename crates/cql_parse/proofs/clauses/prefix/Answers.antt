@@ -3,7 +3,7 @@ use Rattle.std.proofs.lemmas.Result.{err_from_is_err_and}
 use Rattle.cql_parse.specs.Classes.{is_equal}
 use Rattle.cql_parse.specs.Lexemes.{Lexeme, lexemes}
 use Rattle.cql_parse.specs.Grammar.{IsPrefix, IsNamedPrefix}
-use Rattle.cql_parse.specs.Answers.{lexeme_in}
+use Rattle.cql_parse.specs.ParserAnswers.{lexeme_in}
 use Rattle.cql_parse.proofs.Finding.{Finds_err, front_some, prefix_named}
 use Rattle.cql_parse.proofs.clauses.prefix.Goals as goal
 

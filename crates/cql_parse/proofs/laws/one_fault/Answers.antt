@@ -1,5 +1,5 @@
-use Rattle.cql_parse.proofs.Syntax.{apart, one_place}
+use Rattle.cql_parse.proofs.Syntax.{apart, one_place, tree_or_fault}
 use Rattle.cql_parse.proofs.laws.one_fault.Goals as goal
 
 pub returns : goal.returns
-returns c = record { place = one_place; apart = apart }
+returns c = record { either = tree_or_fault; place = one_place; apart = apart }
