@@ -1,0 +1,5 @@
+pub mod NameLemmas
+pub mod TermLemmas
+pub mod FaultLemmas
+pub mod KeepsMeaning
+mod WorkedQueries

@@ -1,0 +1,11 @@
+pub mod Names
+pub mod Bib1
+pub mod Indexes
+pub mod Relations
+pub mod Terms
+pub mod Leaves
+pub mod Operators
+pub mod Meaning
+pub mod Mapped
+pub mod Faults
+pub mod Numbers

@@ -1,0 +1,19 @@
+//! A CQL query as one of type 1 (CQL 1.2; ANSI/NISO Z39.50-2003, RPNQuery), by the indexes of a
+//! route. Which targets are asked, and what they find, is left to the crates above.
+#![tactic(auto)]
+
+mod bib1;
+mod fault;
+mod head;
+mod index;
+mod leaf;
+mod map;
+mod operator;
+mod relation;
+mod term;
+#[cfg(test)]
+mod tests;
+mod words;
+
+pub use fault::MapFault;
+pub use map::to_rpn;
