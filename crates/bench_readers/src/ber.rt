@@ -51,7 +51,7 @@ fn small(alloc: Global, size: usize) -> Result<Text, Memory> {
 }
 
 /// These elements in one.
-fn within(alloc: Global, open: bool, inner: &Text) -> Result<Text, Memory> {
+pub(crate) fn within(alloc: Global, open: bool, inner: &Text) -> Result<Text, Memory> {
     let mut out = Text::new(alloc);
     if open {
         out.append(&[0xb6, 0x80])?;
@@ -81,7 +81,7 @@ fn flat(alloc: Global, size: usize) -> Result<Text, Memory> {
 }
 
 /// The octets of a shape.
-fn sample(alloc: Global, shape: Shape, size: usize) -> Result<Text, Memory> {
+pub(crate) fn sample(alloc: Global, shape: Shape, size: usize) -> Result<Text, Memory> {
     match shape {
         Shape::Flat | Shape::Pieces => flat(alloc, size),
         Shape::Small => nested(alloc, 1, false, small(alloc, size)?),

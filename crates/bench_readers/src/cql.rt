@@ -4,9 +4,11 @@ ghost use Rattle.std.specs.Prelude.{◌≡◌, IfOk};
 ghost use Rattle.bench_readers.specs.Counted.{AreTokensCounted};
 
 use cql_lex::tokens;
+use cql_map::to_rpn;
 use cql_parse::parse;
+use route_config::Index;
 use std::alloc::Global;
-use z_types::{Memory, Text};
+use z_types::{List, Memory, Text};
 
 /// A clause of a title, as long as titles of old books are.
 const PHRASE: &[u8] =
@@ -21,6 +23,8 @@ pub enum Shape {
     Phrases,
     /// Two quoted strings.
     Strings,
+    /// Clauses of an index, a relation and a word, which are mapped to a query of type 1 too.
+    Mapped,
 }
 
 /// A clause again and again, in brackets that halve the query, for about so many octets.
@@ -64,6 +68,32 @@ fn read_once(alloc: Global, text: &[u8]) -> u64
     }
 }
 
+/// The tokens of a query that is mapped to one of type 1, counted; 0 where it is not.
+fn map_once(alloc: Global, text: &[u8], indexes: &List<Index>) -> u64
+    ensures { AreTokensCounted text.now result }
+{
+    let Ok(tokens) = tokens(alloc, text) else {
+        return 0;
+    };
+    let Ok(query) = parse(alloc, text, &tokens) else {
+        return 0;
+    };
+    match to_rpn(alloc, &query, indexes) {
+        Ok(_) => tokens.len() as u64,
+        Err(_) => 0,
+    }
+}
+
+/// An index of titles.
+fn titles(alloc: Global) -> Result<List<Index>, Memory> {
+    let mut indexes = List::new(alloc);
+    indexes.push(Index {
+        name: Text::copy_of(alloc, b"dc.title")?,
+        value: 4,
+    })?;
+    Ok(indexes)
+}
+
 /// Reads a query of about so many octets so many times, and answers its octets and the tokens that
 /// were read in all.
 pub(crate) fn read(
@@ -75,13 +105,18 @@ pub(crate) fn read(
     ensures { times ≡ 0 → IfOk result (λ read. read.1 ≡ 0) }
 {
     let text = match shape {
-        Shape::Words => clauses(alloc, b"dc.title = librarians", size)?,
+        Shape::Words | Shape::Mapped => clauses(alloc, b"dc.title = librarians", size)?,
         Shape::Phrases => clauses(alloc, PHRASE, size)?,
         Shape::Strings => strings(alloc, size)?,
     };
+    let indexes = titles(alloc)?;
     let mut parts = 0u64;
     for _ in 0..times {
-        parts = parts.saturating_add(read_once(alloc, text.as_slice()));
+        let read = match shape {
+            Shape::Mapped => map_once(alloc, text.as_slice(), &indexes),
+            _ => read_once(alloc, text.as_slice()),
+        };
+        parts = parts.saturating_add(read);
     }
     Ok((text.len(), parts))
 }

@@ -1,10 +1,12 @@
-//! Reads octets that it has made, many times, for the scripts of `bench/` to time. Its words are what
-//! is read, in how many octets about, and how many times; it prints the octets and the parts that
-//! were read.
+//! Reads octets that it has made, or writes replies, many times, for the scripts of `bench/` to time.
+//! Its words are what is read or written, in how many octets about, and how many times; it prints the
+//! octets, and the parts that were read or the replies that were written.
 #![tactic(auto)]
 
 mod ber;
 mod cql;
+mod elements;
+mod writes;
 
 use anyhow::{Context, Result, bail};
 use std::alloc::Global;
@@ -12,11 +14,13 @@ use std::env;
 use std::rt::Env;
 use z_types::Memory;
 
-/// What is read.
+/// What is read or written.
 #[derive(Clone, Copy)]
 enum Sample {
     Ber(ber::Shape),
+    Elements(elements::Shape),
     Cql(cql::Shape),
+    Written(writes::Shape),
 }
 
 /// What a word names.
@@ -28,15 +32,26 @@ fn named(word: &str) -> Option<Sample> {
         "ber-open" => Some(Sample::Ber(ber::Shape::Open)),
         "ber-pieces" => Some(Sample::Ber(ber::Shape::Pieces)),
         "ber-open-pieces" => Some(Sample::Ber(ber::Shape::OpenPieces)),
+        "elements-flat" => Some(Sample::Elements(elements::Shape::Flat)),
+        "elements-small" => Some(Sample::Elements(elements::Shape::Small)),
+        "elements-deep" => Some(Sample::Elements(elements::Shape::Deep)),
+        "elements-open" => Some(Sample::Elements(elements::Shape::Open)),
+        "elements-empty" => Some(Sample::Elements(elements::Shape::Empty)),
+        "elements-chains" => Some(Sample::Elements(elements::Shape::Chains)),
+        "elements-open-chains" => Some(Sample::Elements(elements::Shape::OpenChains)),
         "cql-words" => Some(Sample::Cql(cql::Shape::Words)),
         "cql-phrases" => Some(Sample::Cql(cql::Shape::Phrases)),
         "cql-strings" => Some(Sample::Cql(cql::Shape::Strings)),
+        "cql-mapped" => Some(Sample::Cql(cql::Shape::Mapped)),
+        "write-search" => Some(Sample::Written(writes::Shape::Search)),
+        "write-records" => Some(Sample::Written(writes::Shape::Records)),
+        "write-record" => Some(Sample::Written(writes::Shape::Record)),
         _ => None,
     }
 }
 
-/// Reads a sample of about so many octets so many times, and answers how many octets it has and how
-/// many parts were read in all.
+/// Reads or writes a sample of about so many octets so many times, and answers how many octets it has
+/// and how many parts were read, or replies written, in all.
 fn read(
     alloc: Global,
     sample: Sample,
@@ -45,7 +60,9 @@ fn read(
 ) -> std::result::Result<(usize, u64), Memory> {
     match sample {
         Sample::Ber(shape) => ber::read(alloc, shape, size, times),
+        Sample::Elements(shape) => elements::read(alloc, shape, size, times),
         Sample::Cql(shape) => cql::read(alloc, shape, size, times),
+        Sample::Written(shape) => writes::write(alloc, shape, size, times),
     }
 }
 
