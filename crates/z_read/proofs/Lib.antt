@@ -1,4 +1,0 @@
-pub mod ReadLemmas
-pub mod EachLemmas
-pub mod StructureLemmas
-pub mod RowLemmas

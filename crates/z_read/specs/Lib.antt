@@ -1,5 +1,0 @@
-pub mod Fault
-pub mod Read
-pub mod Parts
-pub mod Structures
-pub mod ScanAsks
