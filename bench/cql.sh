@@ -23,7 +23,7 @@ echo "Clauses of 133 octets at $phrases MB/s; 50 are promised"
 
 large=$(speed cql-mapped 16000 2000 | cut -d ' ' -f 2)
 small=$(speed cql-mapped 200 160000 | cut -d ' ' -f 2)
-ratio=$(awk -v a="$large" -v b="$small" 'BEGIN { printf "%.2f", a > b ? a / b : b / a }')
+ratio=$(awk -v a="$large" -v b="$small" 'BEGIN { printf "%.2f", (a > b ? a / b : b / a) }')
 awk -v seen="$ratio" 'BEGIN { exit !(seen <= 12) }' || status=1
 echo "From text to type 1: a query of 16000 octets at $large MB/s, one of 200 at $small; $ratio times apart, 12 are promised"
 exit $status

@@ -3,16 +3,6 @@
 # where a shape that readers meet is checked at less than 300 MB/s.
 . "$(dirname "$0")/readers.sh"
 
-status=0
-
-# Compares, and demands so many MB/s of the larger sample.
-demand() {
-    local line
-    line=$(compare "$1" "$2" "$3")
-    echo "$line"
-    awk -v least="$4" '{ exit $6 < least }' <<<"$line" || status=1
-}
-
 echo "Children of 5 octets in one element, then on level 64 in elements of definite and of indefinite length"
 demand elements-small 1000000 100 300
 demand elements-deep 1000000 100 300

@@ -33,3 +33,12 @@ compare() {
     echo "$large $small" | awk -v what="$1" '{
         printf "%s: %d octets at %s MB/s, %d at %s; ten times the octets take %.1f times as long\n", what, $1, $2, $3, $4, 10 * $4 / $2 }'
 }
+
+# Compares, and demands so many MB/s of the larger sample: where they are not seen, `status` is 1 from then on.
+status=0
+demand() {
+    local line
+    line=$(compare "$1" "$2" "$3")
+    echo "$line"
+    awk -v least="$4" '{ exit ($5 + 0 < least) }' <<<"$line" || status=1
+}
