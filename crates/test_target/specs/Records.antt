@@ -72,15 +72,15 @@ shown_at place item =
     if same_name place.name (codes "Default") && (place.number == 13) then Surrogate (bib1 TemporarySystemError (codes "13")) else item
 
 -- the record in its form, or the diagnostic of its syntax, or else of its element set
-abbrev pub item_in_form : Place → Result (List ℕ → Item) Diag → Result (List ℕ) Diag → Result Item Diag
-item_in_form place (Err diag) text = Err diag
-item_in_form place (Ok form) (Err diag) = Err diag
-item_in_form place (Ok form) (Ok text) = Ok (shown_at place (form text))
+abbrev pub written : Place → Result (List ℕ → Item) Diag → Result (List ℕ) Diag → Result Item Diag
+written place (Err diag) text = Err diag
+written place (Ok form) (Err diag) = Err diag
+written place (Ok form) (Ok text) = Ok (shown_at place (form text))
 
 -- what is answered for a place; there is none past the hits
 abbrev pub record_in : ℕ → Option Place → Option (List ℕ) → Option (List ℕ) → Result Item Diag
 record_in n None syntax element = Err (bib1 PresentRequestOutOfRange [])
-record_in n (Some place) syntax element = item_in_form place (form_in syntax) (text_in n place element)
+record_in n (Some place) syntax element = written place (form_in syntax) (text_in n place element)
 
 -- the record at a position, counted from 1, in a syntax and an element set
 abbrev pub record_at : ℕ → SetKey → ℕ → Option (List ℕ) → Option (List ℕ) → Result Item Diag

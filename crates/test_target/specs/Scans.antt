@@ -24,12 +24,12 @@ abbrev pub terms_below : Term → ℕ
 terms_below term = count_by (λ letter. is_lt (slice_cmp nat_cmp (letter ∷ []) (octets_of term))) letters
 
 -- the position that is preferred for the asked term, 1 where absent, brought into 1 to the number asked for
-abbrev pub preferred_position : ScanAsk → ℕ
-preferred_position ask = min (max (unwrap_or ask.position 1) 1) (max ask.number 1)
+abbrev pub preferred : ScanAsk → ℕ
+preferred ask = min (max (unwrap_or ask.position 1) 1) (max ask.number 1)
 
 -- the number of the first entry's term, counted from 0
 abbrev pub first_term : ScanAsk → ℕ
-first_term ask = (terms_below ask.term + 1) - preferred_position ask
+first_term ask = (terms_below ask.term + 1) - preferred ask
 
 -- a term, and how many records it finds
 abbrev pub entry_of : ℕ → List (List ℕ) → List Attr → ℕ → ScanEntry

@@ -48,36 +48,36 @@ fn use_fault(alloc: Global, value: u32) -> Result<Option<Diag>, Memory>
 }
 
 /// Which of the records 1 to `MOST_RECORDS` a query finds.
-fn find_records(alloc: Global, target: u32, query: &Rpn) -> Result<Vec<bool>, Memory>
+fn found(alloc: Global, target: u32, query: &Rpn) -> Result<Vec<bool>, Memory>
     ensures { IfOk result
         (λ found. found.items ≡ map (finds target query.now) (range_with_len 1 MOST_RECORDS)) }
 {
     match &query.node {
         Node::Leaf(attrs, term) => {
             let every = modulus(alloc, term)?;
-            find_by_operand(alloc, target, use_of(attrs), every)
+            found_by_operand(alloc, target, use_of(attrs), every)
         }
-        Node::Set(_) => find_none(alloc),
+        Node::Set(_) => none_found(alloc),
         Node::And(left, right) => {
-            let left = find_records(alloc, target, left)?;
-            let right = find_records(alloc, target, right)?;
+            let left = found(alloc, target, left)?;
+            let right = found(alloc, target, right)?;
             both(alloc, left.as_slice(), right.as_slice())
         }
         Node::Or(left, right) => {
-            let left = find_records(alloc, target, left)?;
-            let right = find_records(alloc, target, right)?;
+            let left = found(alloc, target, left)?;
+            let right = found(alloc, target, right)?;
             either(alloc, left.as_slice(), right.as_slice())
         }
         Node::AndNot(left, right) => {
-            let left = find_records(alloc, target, left)?;
-            let right = find_records(alloc, target, right)?;
+            let left = found(alloc, target, left)?;
+            let right = found(alloc, target, right)?;
             first_alone(alloc, left.as_slice(), right.as_slice())
         }
     }
 }
 
 /// Which records an operand finds, whose Use and modulus are these.
-fn find_by_operand(alloc: Global, target: u32, value: u32, every: u32) -> Result<Vec<bool>, Memory>
+fn found_by_operand(alloc: Global, target: u32, value: u32, every: u32) -> Result<Vec<bool>, Memory>
     requires { 0 < every }
     ensures { IfOk result
         (λ found. found.items
@@ -92,7 +92,7 @@ fn find_by_operand(alloc: Global, target: u32, value: u32, every: u32) -> Result
 }
 
 /// No record is found.
-fn find_none(alloc: Global) -> Result<Vec<bool>, Memory>
+fn none_found(alloc: Global) -> Result<Vec<bool>, Memory>
     ensures { IfOk result
         (λ found. found.items ≡ map (λ i. false) (range_with_len 1 MOST_RECORDS)) }
 {
@@ -145,7 +145,7 @@ pub(crate) fn hits(
 ) -> Result<u32, Memory>
     ensures { IfOk result (λ count. count ≡ hits target query.now names.now) }
 {
-    let found = find_records(alloc, target, query)?;
+    let found = found(alloc, target, query)?;
     Ok(count_hits(target, found.as_slice(), names))
 }
 
