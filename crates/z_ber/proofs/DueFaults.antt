@@ -1,5 +1,5 @@
 -- Where reading an element meets a fault, a header is due there and that is wrong with it.
-use Rattle.std.proofs.Common.{◌≡◌, ◌∙◌, ◌≢◌, ℕ, ◌-◌, zero, suc, inl, inr, List, ◌++◌, length, take, drop, Option, Some, None, Result, Ok, Err, sym, ap, subst, arith, refl}
+use Rattle.std.proofs.Common.{◌≡◌, ◌∙◌, ◌≢◌, ℕ, ◌-◌, zero, suc, inl, inr, List, ◌++◌, length, take, drop, Some, None, Result, Ok, Err, sym, ap, subst, arith, refl}
 use Rattle.std.proofs.lemmas.Bool.{cases_lt, lt-ltb, le-ltb}
 use Rattle.z_ber.specs.declared.fault.BerFault.{BerFault}
 use Rattle.z_ber.specs.declared.fault.BerFault.TheVariants.{Short, BadTag, BadLength, TooLarge, TooDeep}

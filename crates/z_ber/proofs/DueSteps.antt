@@ -1,16 +1,16 @@
 -- How the place where a header is due moves on, and what stands there of an element that the octets begin with.
-use Rattle.std.proofs.Common.{◌≡◌, ◌∙◌, ◌≢◌, ℕ, ◌+◌, ◌-◌, ◌<◌, ◌≤◌, zero, suc, inl, inr, List, [], ◌∷◌, ◌++◌, length, Some, None, sym, ap, subst, append_assoc, arith, refl}
-use Rattle.std.specs.List.{flat_map, AllByRecursion}
-use Rattle.std.proofs.lemmas.List.{length-append, append-nil}
+use Rattle.std.proofs.Common.{◌≡◌, ◌∙◌, ℕ, ◌+◌, ◌-◌, ◌<◌, zero, suc, inl, inr, List, [], ◌∷◌, ◌++◌, length, Some, None, sym, ap, subst, append_assoc, arith, refl}
+use Rattle.std.specs.List.{AllByRecursion}
+use Rattle.std.proofs.lemmas.List.{append-nil}
 use Rattle.z_ber.specs.declared.tag.Tag.{Tag}
 use Rattle.z_ber.specs.Header.{IsHeader, Begins}
 use Rattle.z_ber.specs.Element.{end_of_contents}
-use Rattle.z_ber.specs.Frames.{IsDefinite, IsExtent, IsFrameAt}
+use Rattle.z_ber.specs.Frames.{IsFrameAt}
 use Rattle.z_ber.specs.Due.{IsOpened, IsDue}
 use Rattle.z_ber.proofs.HeaderReading.{Whole}
 use Rattle.z_ber.proofs.TreeLaws.{heads_one, is_end, none_some}
 use Rattle.z_ber.proofs.StepReading.{head_apart}
-use Rattle.z_ber.proofs.CloseReading.{Indefinite, extent-definite, extent-indefinite, extent-cases, extent-none, Inner, joined, Closes, closes_frame, closes_open, indefinite_apart, Peeled, peel_end, peel_whole, peel_open, peel}
+use Rattle.z_ber.proofs.CloseReading.{Indefinite, extent-indefinite, extent-cases, extent-none, Inner, joined, Closes, closes_frame, closes_open, indefinite_apart, Peeled, peel_end, peel_whole, peel_open, peel}
 use Rattle.z_ber.proofs.ExtentReading.{same_header, closes_of}
 use Rattle.z_ber.proofs.LendLaws.{extent-one}
 

@@ -11,7 +11,7 @@ use Rattle.z_ber.specs.declared.tag.Tag.{Tag}
 use Rattle.z_ber.specs.Written.{IsTag, septets, tag_octets}
 use Rattle.z_ber.specs.Header.{IsLength, IsHeader, Begins, Opens, IsIdentifier, IsSomeHeader, IsDefiniteHeader}
 use Rattle.z_ber.specs.Frames.{IsDefiniteFrame}
-use Rattle.z_ber.specs.FrameAnswer.{BeginsDefinite, IsLargeNumber, IsDefiniteFault, IsDefiniteAnswer}
+use Rattle.z_ber.specs.FrameAnswer.{BeginsDefinite, IsDefiniteFault, IsDefiniteAnswer}
 use Rattle.z_ber.specs.Reading.{◌>>=◌, tag_at, length_at, padded, header_at, has_room_behind, body_at, frame_behind, frame_at}
 use Rattle.z_ber.proofs.ElementLaws.{heads, tag_octets-low, tag_octets-high}
 use Rattle.z_ber.proofs.TagReading.{IsBytes, IsBytes-tail, TagRead, tag_at-read, tag_at-again}

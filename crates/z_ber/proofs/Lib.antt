@@ -8,11 +8,11 @@ pub mod ElementLaws
 pub mod ElementReading
 pub mod ExtentReading
 pub mod FrameReading
+pub mod FrontStays
 pub mod HeaderLeast
 pub mod HeaderReading
 pub mod IntOctets
 pub mod IntReading
-pub mod Kept
 pub mod LendLaws
 pub mod LentTreeLemmas
 pub mod LargeReading

@@ -136,13 +136,6 @@ arcs-front before n bytes rest (m ∷ ms) some e a =
       behind = record { few = omega (arith, a.few); small = b.1; spelled = h.1 };
     }
 
-pub arcs-more : (before n : ℕ) (bytes rest more : List ℕ) → n < 2 ^ 32 → bytes ≡ septets n ++ rest → AreArcs (before + 1) rest more → AreArcs before bytes (n ∷ more)
-arcs-more before n bytes rest more lt e a = record {
-  few = omega (arith, a.few);
-  small = rw (lt-ltb n (2 ^ 32) lt) a.small;
-  spelled = e ∙ ap (λ l. septets n ++ l) a.spelled;
-}
-
 pub arcs-none-more : (before after n : ℕ) (bytes rest : List ℕ) → 0 < length bytes → bytes ≡ septets n ++ rest → after ≡ before + 1 → ((more : List ℕ) → AreArcs after rest more → ⊥) → (more : List ℕ) → AreArcs before bytes more → ⊥
 arcs-none-more before after n bytes rest some e is h more a =
     let f = arcs-front before n bytes rest more some e a in

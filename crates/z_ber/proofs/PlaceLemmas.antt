@@ -1,6 +1,6 @@
 -- The element at the front of octets, or the place where they begin with none, by the header that was read.
 use Rattle.std.proofs.Common.{◌≡◌, ◌∙◌, ◌≢◌, ℕ, ◌+◌, ◌-◌, ◌<◌, ◌≤◌, zero, suc, Bool, true, false, not, inl, inr, List, [], ◌++◌, length, take, drop, Option, Some, None, Ok, Err, sym, ap, subst, append_assoc, arith, refl}
-use Rattle.std.proofs.lemmas.List.{length-append, append-nil, take_at, drop_at, take-append-drop, length-take-le, take_all}
+use Rattle.std.proofs.lemmas.List.{length-append, append-nil, take_at, take-append-drop, length-take-le, take_all}
 use Rattle.z_ber.specs.declared.fault.BerFault.{BerFault}
 use Rattle.z_ber.specs.declared.fault.BerFault.TheVariants.{Short, BadTag, BadLength, TooLarge, TooDeep}
 use Rattle.z_ber.specs.declared.tag.Tag.{Tag}
@@ -59,9 +59,6 @@ pub record Passed (w : Bool) (k : ℕ) (octets rest : List ℕ) : Type 0 where
   pub elements : Elements w k front
   pub spelled : octets ≡ front ++ rest
 
-pub passed_none : (w : Bool) (k : ℕ) (octets : List ℕ) → Passed w k octets octets
-passed_none w k octets = record { front = []; elements = record { forest = none; are = refl }; spelled = refl }
-
 not_end : (w : Bool) (rest first more : List ℕ) → ¬ HaveEnded w rest → rest ≡ first ++ more → w ≡ true → first ≢ end_of_contents
 not_end true rest first more due s e f = due (more, s ∙ ap (λ o. o ++ more) f)
 not_end false rest first more due s e f = absurd cc
@@ -74,29 +71,6 @@ passed_one w k size octets rest after due one d p =
       elements = joined w k p.front (take size rest) p.elements.forest p.elements.are (single w k (take size rest) one.tree one.element (not_end w rest (take size rest) after due parts));
       spelled = p.spelled ∙ ap (λ o. p.front ++ o) parts ∙ sym (append_assoc p.front (take size rest) after);
     }
-
-pub passed_all : (w : Bool) (k size : ℕ) (octets rest : List ℕ) → HaveEnded w rest → size ≡ length octets - length rest → Passed w k octets rest → AreElementsOf w k octets size
-passed_all w k size octets rest ended n p =
-    let m : size ≡ length p.front = omega (arith, n, ap length p.spelled, length-append p.front rest) in
-    record {
-      fits = omega (arith, n);
-      forest = p.elements.forest;
-      elements = subst (λ (o : List ℕ). AreElements w k o p.elements.forest) (sym (ap (take size) p.spelled ∙ take_at p.front rest size (sym m))) p.elements.are;
-      ended = subst (λ (o : List ℕ). HaveEnded w o) (sym (ap (drop size) p.spelled ∙ drop_at p.front rest size (sym m))) ended;
-    }
-
-pub passed_place : (w : Bool) (k at j : ℕ) (octets rest : List ℕ) → ¬ HaveEnded w rest → IsPlace k rest j → at ≡ length octets - length rest + j → Passed w k octets rest → IsPlaceAmong w k octets at
-passed_place w k at j octets rest due place n p = record {
-  forest = p.elements.forest;
-  front = p.front;
-  rest = rest;
-  are = p.elements.are;
-  spelled = p.spelled;
-  due = due;
-  in_rest = j;
-  place = place;
-  at-is = omega (arith, n, ap length p.spelled, length-append p.front rest);
-}
 
 -- ---- octets whose header was read
 
@@ -228,9 +202,6 @@ no_header octets TooDeep h b = h
 
 place_on_level : (k at : ℕ) (octets : List ℕ) → 0 < k → IsPlace (suc (k - 1)) octets at → IsPlace k octets at
 place_on_level k at octets some h = let e : suc (k - 1) ≡ k = omega arith in subst (λ (j : ℕ). IsPlace j octets at) e h
-
-pub place_too_deep : (k : ℕ) (octets : List ℕ) → k ≡ 0 → IsPlace k octets 0
-place_too_deep k octets e = subst (λ (j : ℕ). IsPlace j octets 0) (sym e) refl
 
 pub place_unheaded : (k : ℕ) (octets : List ℕ) (fault : BerFault) → 0 < k → IsHeaderAnswer octets (Err fault) → IsPlace k octets 0
 place_unheaded k octets fault some h = place_on_level k 0 octets some (inl (refl, inl (no_header octets fault h)))

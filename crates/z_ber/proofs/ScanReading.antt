@@ -1,5 +1,5 @@
 -- What a scan meets where it stands: a place further on, the end of the frame, or why none can come.
-use Rattle.std.proofs.Common.{◌≡◌, ◌∙◌, ◌≢◌, ◌⊎◌, ℕ, ◌+◌, ◌-◌, ◌*◌, ◌<◌, ◌≤◌, zero, suc, inl, inr, List, [], ◌∷◌, ◌++◌, length, take, drop, Option, Some, None, Result, Ok, Err, sym, ap, subst, append_assoc, arith, refl}
+use Rattle.std.proofs.Common.{◌≡◌, ◌∙◌, ℕ, ◌+◌, ◌-◌, ◌*◌, ◌<◌, ◌≤◌, zero, suc, inl, inr, List, [], ◌∷◌, ◌++◌, length, take, drop, Option, Some, None, Result, Ok, Err, sym, ap, subst, append_assoc, arith, refl}
 use Rattle.std.proofs.lemmas.Bool.{ne_eqb}
 use Rattle.std.proofs.lemmas.Bool.Decides.{leb_tells}
 use Rattle.std.proofs.lemmas.List.{length-append, append-nil, length-drop, drop-drop, drop_at, drop-append-le, get_or-drop, take_at}
@@ -12,8 +12,8 @@ use Rattle.z_ber.specs.declared.tag.Tag.{Tag}
 use Rattle.z_ber.specs.Header.{IsHeader, Begins, Opens, IsSomeHeader}
 use Rattle.z_ber.specs.Element.{end_of_contents}
 use Rattle.z_ber.specs.Frames.{IsExtent, IsFrameAt, IsFrame}
-use Rattle.z_ber.specs.Due.{IsDue, MayEnd, IsFaultAt, Stands, StandsOn}
-use Rattle.z_ber.specs.FrameAnswer.{BeginsDefinite, IsLargeNumber, IsOverAt, IsFrameFault, IsWholeAnswer, least_behind_header}
+use Rattle.z_ber.specs.Due.{IsDue, Stands, StandsOn}
+use Rattle.z_ber.specs.FrameAnswer.{BeginsDefinite, IsLargeNumber, IsOverAt, IsWholeAnswer, least_behind_header}
 use Rattle.z_ber.specs.Scanning.{moved, ended, stop, IsProgress, at}
 use Rattle.z_ber.specs.Reading.{header_at, child_behind, child_at, step_at, close_on, close_at, wanting_in_element, least_to_come, least_on, least_at}
 use Rattle.z_ber.proofs.TagReading.{IsBytes}

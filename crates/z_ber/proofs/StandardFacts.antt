@@ -1,5 +1,5 @@
 -- The examples that X.690:2021 prints, as equations about the definitions.
-use Rattle.std.proofs.Common.{◌≡◌, ℕ, pos, negsuc, true, false, List, [], ◌∷◌, ◌++◌, refl}
+use Rattle.std.proofs.Common.{◌≡◌, ℕ, pos, negsuc, true, false, [], ◌∷◌, ◌++◌, refl}
 use Rattle.z_ber.specs.declared.tag.Tag.{Tag}
 use Rattle.z_ber.specs.Written.{septets, tag_octets, length_octets, element, bool_octets, int_octets, natural_octets, mirror, unused_bits, bits_octets, oid_octets}
 

@@ -1,15 +1,13 @@
 -- What is written is lent again, and read as what it was written from.
-use Rattle.std.proofs.Common.{◌≡◌, ◌∙◌, ℕ, ℤ, ◌^◌, ◌<◌, lit≤, zero, suc, Bool, IsTrue, inl, inr, List, [], ◌++◌, length, Option, Some, None, Result, Ok, Err, IfSome, IfNone, FitsSigned, sym, ap, subst, arith, refl}
-use Rattle.std.specs.Int.{w64}
+use Rattle.std.proofs.Common.{◌≡◌, ◌∙◌, ℕ, ◌^◌, ◌<◌, lit≤, zero, suc, Bool, inl, inr, List, [], ◌++◌, length, Option, Some, None, Result, Ok, Err, sym, ap, subst, arith, refl}
 use Rattle.std.specs.Int.Digits.{digits_of}
 use Rattle.std.proofs.lemmas.Int.Digits.{length-digits_of-le, all_below_base_digits_of, number_digits_of}
 use Rattle.std.proofs.lemmas.Bool.{cases_lt}
 use Rattle.std.proofs.lemmas.List.{length-append, append-nil}
-use Rattle.z_types.specs.Oid.{is_oid}
 use Rattle.z_ber.specs.declared.fault.BerFault.{BerFault}
 use Rattle.z_ber.specs.declared.fault.BerFault.TheVariants.{Short, BadTag, BadLength, TooLarge, TooDeep}
 use Rattle.z_ber.specs.declared.tag.Tag.{Tag}
-use Rattle.z_ber.specs.Written.{IsTag, tag_octets, length_octets, element, bool_octets, int_octets, bits_octets, oid_octets}
+use Rattle.z_ber.specs.Written.{IsTag, tag_octets, length_octets, element}
 use Rattle.z_ber.specs.Header.{IsLength, Begins}
 use Rattle.z_ber.specs.Frames.{IsDefinite, IsExtent, IsFrameAt, BeginsWith}
 use Rattle.z_ber.specs.Due.{IsRefused}
@@ -21,7 +19,6 @@ use Rattle.z_ber.proofs.ElementLaws.{length_octets-short, length_octets-long}
 use Rattle.z_ber.proofs.StepReading.{length-header}
 use Rattle.z_ber.proofs.CloseReading.{extent-definite}
 use Rattle.z_ber.proofs.LendLaws.{extent-one}
-use Rattle.z_ber.proofs.ValueLaws.{bool_octets-one, int_octets-one, bits_octets-one, oid_octets-one}
 
 -- ---- an element that is written is a frame
 

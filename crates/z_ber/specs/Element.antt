@@ -43,7 +43,7 @@ pub record IsInFront (within : Bool) (First Others : List ℕ → Type 0) (octet
   pub behind : Others others
   pub spelled : octets ≡ first ++ others
 
--- octets are these elements, with nothing left over, on so many levels at most
+-- octets are these elements, with nothing left over, on `levels` levels at most
 abbrev pub AreElements : Bool → ℕ → List ℕ → Forest → Type 0
 AreElements within levels octets none = octets ≡ []
 AreElements within zero octets (leaf tag contents others) = ⊥
@@ -57,7 +57,7 @@ AreElements within (suc levels) octets (branch tag contents children others) =
     (λ rest. AreElements within (suc levels) rest others)
     octets
 
--- octets are one element with its tree, on so many levels at most
+-- octets are one element with its tree, on `levels` levels at most
 abbrev pub IsElement : ℕ → List ℕ → Forest → Type 0
 IsElement levels octets none = ⊥
 IsElement levels octets (leaf tag contents others) =

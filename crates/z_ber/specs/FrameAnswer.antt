@@ -46,7 +46,9 @@ pub record IsOverAt (passed opened left : ℕ) (rest : List ℕ) : Type 0 where
 -- why no frame can come: what is wrong at the first place where something is, each place before it having room
 abbrev pub IsFrameFault : List ℕ → BerFault → Type 0
 IsFrameFault bytes (TooLarge n) =
-    IsLargeNumber bytes n × ((passed opened : ℕ) × Stands bytes passed opened × IsOverAt passed opened (most_levels - opened) (drop passed bytes))
+    IsLargeNumber bytes n
+    × ((passed opened : ℕ) × Stands bytes passed opened
+    × IsOverAt passed opened (most_levels - opened) (drop passed bytes))
 IsFrameFault bytes fault =
     (passed opened : ℕ) × Stands bytes passed opened × IsFaultAt opened (most_levels - opened) (drop passed bytes) fault
 

@@ -1,9 +1,9 @@
 -- Frames: elements as a stream is cut into them, without a look into definite contents (X.690:2021, 8.1.1, 8.1.3). The bound of 1048576 octets is this project's own.
-use Rattle.std.specs.Prelude.{◌≡◌, ◌≢◌, ◌⊎◌, ℕ, zero, suc, ◌+◌, ◌-◌, ◌^◌, ◌<◌, ◌≤◌, List, ◌++◌, length, take, None, Some, min, Result, Ok, Err}
+use Rattle.std.specs.Prelude.{◌≡◌, ◌≢◌, ◌⊎◌, ℕ, zero, suc, ◌≤◌, List, ◌++◌, length, None, Some, Result, Ok, Err}
 use Rattle.std.specs.List.{flat_map, AllByRecursion}
 use Rattle.z_types.specs.Bounds.{most_levels, most_unit_octets}
 use Rattle.z_ber.specs.declared.fault.BerFault.{BerFault}
-use Rattle.z_ber.specs.declared.fault.BerFault.TheVariants.{Short, BadTag, BadLength, TooLarge, TooDeep}
+use Rattle.z_ber.specs.declared.fault.BerFault.TheVariants.{Short}
 use Rattle.z_ber.specs.declared.tag.Tag.{Tag}
 use Rattle.z_ber.specs.Element.{end_of_contents}
 use Rattle.z_ber.specs.Header.{IsHeader, Begins, IsOpenFor, IsBadFor}
@@ -54,7 +54,9 @@ pub record Splits (P : List ℕ → Type 0) (stream : List ℕ) (frames : List (
 
 -- a stream is one list of such octets, with one rest
 abbrev pub HasOneSplit : (List ℕ → Type 0) → Type 0
-HasOneSplit P = (stream rest tail : List ℕ) (frames others : List (List ℕ)) → Splits P stream frames rest → Splits P stream others tail → (frames ≡ others) × (rest ≡ tail)
+HasOneSplit P =
+    (stream rest tail : List ℕ) (frames others : List (List ℕ))
+    → Splits P stream frames rest → Splits P stream others tail → (frames ≡ others) × (rest ≡ tail)
 
 -- octets begin with a frame of this tag and this inside, and go on with these
 pub record BeginsWith (levels : ℕ) (bytes : List ℕ) (tag : Tag) (body rest : List ℕ) : Type 0 where
@@ -67,7 +69,3 @@ abbrev pub IsExtentRead : ℕ → List ℕ → Result (Tag × List ℕ × List �
 IsExtentRead levels bytes (Ok found) = BeginsWith levels bytes found.0 found.1 found.2
 IsExtentRead levels bytes (Err Short) = IsOpenFor (IsFrameAt levels) bytes
 IsExtentRead levels bytes (Err _) = IsBadFor (IsFrameAt levels) bytes
-
--- octets are a header of the indefinite form, and go on with these
-abbrev pub BeginsIndefinite : List ℕ → List ℕ → Type 0
-BeginsIndefinite bytes body = (tag : Tag) × (head : List ℕ) × IsHeader head tag None × (bytes ≡ head ++ body)

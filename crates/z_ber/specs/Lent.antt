@@ -16,7 +16,7 @@ pub record Lent : Type 0 where
 abbrev pub children_of : Tag → List ℕ → List ℕ
 children_of tag body = if tag.constructed then body else []
 
--- the element stands at the front of octets where so many levels are left, with nothing of it lent yet
+-- the element stands at the front of octets where `levels` levels are left, with nothing of it lent yet
 pub record IsLentFrom (levels : ℕ) (bytes rest : List ℕ) (element : Lent) : Type 0 where
   pub begins : BeginsWith levels bytes element.tag element.body rest
   pub children : element.left ≡ children_of element.tag element.body

@@ -1,5 +1,5 @@
 -- What lending answers where octets have trees (X.690:2021, 8.1.1). The bound of 64 levels is this project's own.
-use Rattle.std.specs.Prelude.{◌≡◌, ℕ, ◌-◌, suc, List, [], ◌++◌, Bool, Option, Some, None, Result, Ok}
+use Rattle.std.specs.Prelude.{◌≡◌, ℕ, ◌-◌, ◌<◌, suc, List, [], ◌++◌, length, Bool, Option, Some, None, Result, Ok, Err}
 use Rattle.z_ber.specs.declared.fault.BerFault.{BerFault}
 use Rattle.z_ber.specs.declared.tag.Tag.{Tag}
 use Rattle.z_ber.specs.Element.{Forest, none, leaf, branch, AreElements, IsElement}
@@ -11,7 +11,7 @@ abbrev pub with_all_children : Lent → Lent
 with_all_children lent =
     record { tag = lent.tag; body = lent.body; left = children_of lent.tag lent.body; levels = lent.levels }
 
--- what is lent stands for a primitive element, where so many levels are left outside it
+-- what is lent stands for a primitive element, in an element that has `levels` levels left
 pub record IsLeafLent (levels : ℕ) (lent : Lent) (tag : Tag) (contents : List ℕ) : Type 0 where
   pub tagged : lent.tag ≡ tag
   pub filled : lent.body ≡ contents
@@ -47,6 +47,12 @@ IsNextOf within old new (leaf tag contents others) answer =
     IsChildOf within old new (leaf tag contents others) others answer
 IsNextOf within old new (branch tag contents children others) answer =
     IsChildOf within old new (branch tag contents children others) others answer
+
+-- fewer octets are left behind a child
+abbrev pub LeavesLess : Lent → Lent → Result (Option Lent) BerFault → Type 0
+LeavesLess old new (Ok (Some child)) = length new.left < length old.left
+LeavesLess old new (Ok None) = Unit {0}
+LeavesLess old new (Err fault) = Unit {0}
 
 -- whatever elements are left, the first of them is lent
 abbrev pub LendsNext : Lent → Lent → Result (Option Lent) BerFault → Type 0

@@ -47,7 +47,7 @@ pub record IsInside (Place : List ℕ → ℕ → Type 0) (levels : ℕ) (octets
   pub inner : IsBehind Place (is_none len) levels (held len body) in_body
   pub at-is : at ≡ length head + in_body
 
--- the place where octets that are to begin with an element do not: their own, or one inside the element, with so many levels at most
+-- the place where octets that are to begin with an element do not: their own, or one inside the element, on `levels` levels at most
 abbrev pub IsPlace : ℕ → List ℕ → ℕ → Type 0
 IsPlace zero octets at = at ≡ 0
 IsPlace (suc levels) octets at =
@@ -62,13 +62,13 @@ abbrev pub IsElementsAnswer : List ℕ → Result Unit ℕ → Type 0
 IsElementsAnswer octets (Ok nothing) = (forest : Forest) × AreElements false 64 octets forest
 IsElementsAnswer octets (Err at) = IsPlaceAmong false 64 octets at
 
--- octets begin with one element of so many octets
+-- octets begin with one element, of `size` octets
 pub record IsElementOf (levels : ℕ) (octets : List ℕ) (size : ℕ) : Type 0 where
   pub fits : size ≤ length octets
   pub tree : Forest
   pub element : IsElement levels (take size octets) tree
 
--- octets begin with elements of so many octets in all, which have ended there
+-- octets begin with elements of `size` octets in all, which have ended there
 pub record AreElementsOf (within : Bool) (levels : ℕ) (octets : List ℕ) (size : ℕ) : Type 0 where
   pub fits : size ≤ length octets
   pub forest : Forest

@@ -1,5 +1,6 @@
 -- Headers from left to right, with the first fault that is met. The readers in src/ go this way; public contracts do not cite it (X.690:2021, 8.1.2, 8.1.3).
 use Rattle.std.specs.Prelude.{◌≡◌, ℕ, zero, suc, ◌+◌, ◌-◌, ◌*◌, ◌/◌, ◌%◌, ◌^◌, List, [], ◌∷◌, length, take, drop, Bool, Option, Some, None, Result, Ok, Err, nat_lt, nat_le, min, true, false, ◌==◌, ◌||◌, ◌&&◌, ℤ, pos, negsuc, map, slice_index_or, if◌then◌else◌}
+use Rattle.std.specs.Borrow.{Bor}
 use Rattle.std.specs.Int.Digits.{digits_of, number_from_digits}
 use Rattle.z_ber.specs.declared.fault.BerFault.{BerFault}
 use Rattle.z_ber.specs.declared.fault.BerFault.TheVariants.{Short, BadTag, BadLength, TooLarge, TooDeep}
@@ -27,7 +28,8 @@ abbrev pub septets_at : ℕ → List ℕ → Result (ℕ × List ℕ) BerFault
 septets_at high [] = Err Short
 septets_at high (octet ∷ rest) =
     if nat_lt octet 128 then number_end (high * 128 + octet) rest
-    else (if (high * 128 + (octet - 128) == 0) || nat_lt 16777215 (high * 128 + (octet - 128)) then Err BadTag else septets_at (high * 128 + (octet - 128)) rest)
+    else (if (high * 128 + (octet - 128) == 0) || nat_lt 16777215 (high * 128 + (octet - 128)) then Err BadTag
+    else septets_at (high * 128 + (octet - 128)) rest)
 
 -- the tag that a lead octet and a number make
 abbrev pub tag_of : ℕ → ℕ → Tag
@@ -196,6 +198,11 @@ abbrev pub close_at : ℕ → ℕ → ℕ → List ℕ → Result (List ℕ) Ber
 close_at steps zero room bytes = Ok bytes
 close_at zero (suc opened) room bytes = Err Short
 close_at (suc steps) (suc opened) room bytes = close_on (close_at steps) opened room (step_at room bytes)
+
+-- one step on: the search goes on from what is open, the room and the octets that it gives, or ends with the fault
+abbrev pub IsAdvance : ℕ → ℕ → List ℕ → Result (ℕ × ℕ × Bor (List ℕ)) BerFault → Type 0
+IsAdvance opened room bytes (Ok x) = (steps : ℕ) → close_at (suc steps) opened room bytes ≡ close_at steps x.0 x.1 x.2.now
+IsAdvance opened room bytes (Err e) = (steps : ℕ) → close_at (suc steps) opened room bytes ≡ Err e
 
 -- tag and contents octets of an element of indefinite length, behind its header
 abbrev pub inside_at : Tag → List ℕ → Result (List ℕ) BerFault → Result (Tag × List ℕ × List ℕ) BerFault

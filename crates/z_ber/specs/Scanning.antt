@@ -1,5 +1,5 @@
--- The steps of a scan for the end of a frame, as src/scan.rt goes: our machine, which public contracts do not cite.
-use Rattle.std.specs.Prelude.{◌≡◌, ℕ, ◌+◌, ◌-◌, ◌*◌, ◌<◌, ◌≤◌, List, Result, Ok, Err, nat_le, ◌==◌, if◌then◌else◌}
+-- The steps of a scan for the end of a frame (X.690:2021, 8.1), as src/scan.rt goes: our machine, which public contracts do not cite.
+use Rattle.std.specs.Prelude.{ℕ, ◌+◌, ◌-◌, ◌*◌, ◌<◌, ◌≤◌, List, Result, Ok, Err, nat_le, ◌==◌, if◌then◌else◌}
 use Rattle.z_types.specs.Bounds.{most_unit_octets}
 use Rattle.z_ber.specs.declared.fault.BerFault.{BerFault}
 use Rattle.z_ber.specs.declared.fault.BerFault.TheVariants.{Short, TooLarge}
@@ -15,7 +15,9 @@ at passed opened = record { passed = passed; opened = opened }
 
 -- behind an element, or within one that is entered, if there is room for the ends of what is open
 abbrev pub moved : ℕ → ℕ → Result Progress BerFault
-moved passed opened = if nat_le (passed + 2 * opened) most_unit_octets then Ok (On (at passed opened)) else Err (TooLarge (most_unit_octets + 1))
+moved passed opened =
+    if nat_le (passed + 2 * opened) most_unit_octets then Ok (On (at passed opened))
+    else Err (TooLarge (most_unit_octets + 1))
 
 -- behind an end of contents
 abbrev pub ended : ℕ → ℕ → Progress

@@ -47,14 +47,20 @@ abbrev pub magnitude : ℤ → ℕ
 magnitude (pos n) = n
 magnitude (negsuc n) = n
 
+-- octets with each bit turned
+abbrev pub turned : List ℕ → List ℕ
+turned octets = map (λ octet. 255 - octet) octets
+
 -- 8.3.3: two's complement, in which all bits of -1 - n are those of n turned
 unfoldable pub int_octets : ℤ → List ℕ
 int_octets (pos n) = natural_octets n
-int_octets (negsuc n) = map (λ octet. 255 - octet) (natural_octets n)
+int_octets (negsuc n) = turned (natural_octets n)
 
 -- 8.6.2.1: the first bit of eight is bit 8 of its octet, and the eighth is bit 1
 unfoldable pub mirror : ℕ → ℕ
-mirror n = 128 * (n % 2) + 64 * (n / 2 % 2) + 32 * (n / 4 % 2) + 16 * (n / 8 % 2) + 8 * (n / 16 % 2) + 4 * (n / 32 % 2) + 2 * (n / 64 % 2) + n / 128 % 2
+mirror n =
+    128 * (n % 2) + 64 * (n / 2 % 2) + 32 * (n / 4 % 2) + 16 * (n / 8 % 2)
+    + 8 * (n / 16 % 2) + 4 * (n / 32 % 2) + 2 * (n / 64 % 2) + n / 128 % 2
 
 -- 8.6.2.2 and 11.2: how many bits of the last octet stand behind the last bit that is set
 unfoldable pub unused_bits : ℕ → ℕ

@@ -1,8 +1,9 @@
 //! The digits of numbers, counted and put at the end of a text.
 
-ghost use Rattle.std.specs.Prelude.{◌≡◌, ℕ, ◌+◌, ◌-◌, ◌≤◌, List, [], ◌∷◌, ◌++◌, length, map, reverse, take, slice_index_or, OnOk, OnErr};
+ghost use Rattle.std.specs.Prelude.{◌≡◌, ◌+◌, ◌-◌, ◌≤◌, ◌++◌, length, map, reverse, take, slice_index_or, OnOk, OnErr};
 ghost use Rattle.std.specs.Int.Digits.{digits_of};
-ghost use Rattle.z_ber.specs.Written.{mirror};
+ghost use Rattle.z_ber.specs.Arcs.{marked_digits};
+ghost use Rattle.z_ber.specs.Written.{mirror, turned};
 
 use z_types::{Memory, Text};
 
@@ -45,7 +46,7 @@ pub fn put_digits(out: &mut Text, number: u64) -> Result<(), Memory>
 
 /// Puts the digits of a number in base 256, with each bit turned.
 pub fn put_turned_digits(out: &mut Text, number: u64) -> Result<(), Memory>
-    ensures ok { OnOk result (out.new ≡ out.old ++ map (λ octet. 255 - octet) (digits_of 256 number)) }
+    ensures ok { OnOk result (out.new ≡ out.old ++ turned (digits_of 256 number)) }
     ensures err { OnErr result (take (length out.old) out.new ≡ out.old) }
 {
     if number == 0 {
@@ -57,7 +58,7 @@ pub fn put_turned_digits(out: &mut Text, number: u64) -> Result<(), Memory>
 
 /// Puts the digits of a number in base 128, with bit 8 set.
 pub fn put_marked_digits(out: &mut Text, number: u64) -> Result<(), Memory>
-    ensures ok { OnOk result (out.new ≡ out.old ++ map (λ digit. 128 + digit) (digits_of 128 number)) }
+    ensures ok { OnOk result (out.new ≡ out.old ++ marked_digits number) }
     ensures err { OnErr result (take (length out.old) out.new ≡ out.old) }
 {
     if number == 0 {

@@ -1,10 +1,9 @@
 //! An element and its children, lent (X.690:2021, 8.1.1).
 
-ghost use Rattle.std.specs.Prelude.{◌≡◌, ◌≢◌, ℕ, ◌<◌, ◌≤◌, [], length, MatchResult, IfOk, IfSome, Ok, Err};
-ghost use Rattle.z_ber.specs.Reading.{Gives, extent_at};
+ghost use Rattle.std.specs.Prelude.{◌≡◌, ◌≢◌, ◌<◌, ◌≤◌, [], IfOk, IfErr, Ok, Err};
 ghost use Rattle.z_ber.specs.Due.{IsRefused};
 ghost use Rattle.z_ber.specs.Lent.{children_of, IsLentFrom, IsFirst, IsNext};
-ghost use Rattle.z_ber.specs.LentTree.{LendsFirst, LendsNext, with_all_children};
+ghost use Rattle.z_ber.specs.LentTree.{LeavesLess, LendsFirst, LendsNext, with_all_children};
 ghost use Rattle.z_ber.specs.Place.{IsUnitAnswer};
 
 use crate::extent::read_extent;
@@ -42,12 +41,13 @@ fn children(tag: Tag, body: &[u8]) -> &[u8]
     if tag.constructed { body } else { &body[..0] }
 }
 
-/// The element at the front of octets, where so many levels are left, and what follows it.
+/// The element at the front of octets, where `levels` levels are left, and what follows it.
 #[inline(always)]
 fn lend(levels: u32, bytes: &[u8]) -> Result<(Element<'_>, &[u8]), BerFault>
     requires some { 0 < levels }
     requires few { levels ≤ 64 }
-    ensures { MatchResult result (λ x. IsLentFrom levels bytes.now x.1.now x.0) (λ fault. IsRefused levels bytes.now fault) }
+    ensures lent { IfOk result (λ x. IsLentFrom levels bytes.now x.1.now x.0) }
+    ensures refused { IfErr result (IsRefused levels bytes.now) }
 {
     match read_extent(levels - 1, bytes) {
         Ok((tag, body, rest)) => {
@@ -131,7 +131,7 @@ impl<'a> Element<'a> {
     pub fn next_child(&mut self) -> Result<Option<Element<'a>>, BerFault>
         ensures next { IsNext self.old self.new result }
         ensures tree { LendsNext self.old self.new result }
-        ensures shorter { IfOk result (λ found. IfSome found (λ child. length self.new.left < length self.old.left)) }
+        ensures shorter { LeavesLess self.old self.new result }
         ensures deep { self.old.levels ≡ 0 → self.old.left ≢ [] → result ≡ Err BerFault.TooDeep }
     {
         if self.left.is_empty() {

@@ -1,7 +1,7 @@
 //! How far elements of indefinite length go (X.690:2021, 8.1.3.6, 8.1.5).
 
-ghost use Rattle.std.specs.Prelude.{◌≡◌, ℕ, ◌+◌, ◌-◌, ◌<◌, ◌≤◌, List, length, take, suc, IfOk, IfErr, MatchResult, Ok, Err};
-ghost use Rattle.z_ber.specs.Reading.{Gives, header_at, child_behind, child_at, step_at, close_on, close_at, inside_at, extent_behind, extent_at};
+ghost use Rattle.std.specs.Prelude.{◌≡◌, ◌+◌, ◌-◌, ◌<◌, ◌≤◌, length, take, suc, IfOk, Ok, Err};
+ghost use Rattle.z_ber.specs.Reading.{Gives, child_at, step_at, close_at, inside_at, IsAdvance, extent_at};
 
 use crate::read::read_header;
 use crate::step::Step;
@@ -49,7 +49,7 @@ fn advance(opened: u32, room: u32, bytes: &[u8]) -> Result<(u32, u32, &[u8]), Be
     requires few { opened + room ≤ 64 }
     ensures few { IfOk result (λ x. x.0 + x.1 ≤ 64) }
     ensures shorter { IfOk result (λ x. length x.2.now < length bytes.now) }
-    ensures step { MatchResult result (λ x. (steps : ℕ) → close_at (suc steps) opened room bytes.now ≡ close_at steps x.0 x.1 x.2.now) (λ e. (steps : ℕ) → close_at (suc steps) opened room bytes.now ≡ Err e) }
+    ensures step { IsAdvance opened room bytes.now result }
 {
     match step(room, bytes) {
         Ok((Step::End, after)) => Ok((opened - 1, room + 1, after)),
@@ -81,7 +81,8 @@ fn close(mut opened: u32, mut room: u32, bytes: &[u8]) -> Result<&[u8], BerFault
 /// Tag, contents octets and what follows an element of indefinite length, behind its header.
 fn inside(tag: Tag, room: u32, body: &[u8]) -> Result<(Tag, &[u8], &[u8]), BerFault>
     requires { room < 64 }
-    ensures { Gives (λ x. (x.0, x.1.now, x.2.now)) result (inside_at tag body.now (close_at (suc (length body.now)) 1 room body.now)) }
+    ensures { Gives (λ x. (x.0, x.1.now, x.2.now)) result
+        (inside_at tag body.now (close_at (suc (length body.now)) 1 room body.now)) }
 {
     match close(1, room, body) {
         Ok(rest) => Ok((tag, inner(body, rest.len()), rest)),

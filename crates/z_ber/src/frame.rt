@@ -1,7 +1,7 @@
 //! Frames at the front of octets (X.690:2021, 8.1.3.4 to 8.1.3.6).
 
-ghost use Rattle.std.specs.Prelude.{◌≡◌, ◌↔◌, ℕ, ◌+◌, ◌-◌, ◌*◌, ◌^◌, ◌<◌, ◌≤◌, List, length, take, drop, nat_le, IfOk, IfErr, IfSome, None, Ok, Err};
-ghost use Rattle.z_ber.specs.Reading.{Gives, tag_at, header_at, has_room_after, has_room_behind, body_at, frame_behind, frame_at};
+ghost use Rattle.std.specs.Prelude.{◌≡◌, ℕ, ◌+◌, ◌-◌, ◌^◌, ◌<◌, nat_le, IfSome, None, Ok, Err};
+ghost use Rattle.z_ber.specs.Reading.{tag_at, has_room_after, has_room_behind, body_at, frame_at};
 ghost use Rattle.z_ber.specs.FrameAnswer.{IsDefiniteAnswer, IsTooLarge};
 
 use crate::BerFault;

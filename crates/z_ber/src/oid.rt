@@ -1,6 +1,6 @@
 //! The object identifier whose written form contents are (X.690:2021, 8.19).
 
-ghost use Rattle.std.specs.Prelude.{◌≡◌, ◌⊎◌, ◌+◌, ◌*◌, ◌^◌, ◌<◌, [], ◌∷◌, ◌++◌, length, IsTrue, IfOk, IfSome};
+ghost use Rattle.std.specs.Prelude.{◌+◌, ◌*◌, ◌^◌, ◌<◌, [], ◌∷◌, ◌++◌, length, IsTrue, IfOk, IfSome};
 ghost use Rattle.std.specs.Option.{option_map};
 ghost use Rattle.z_types.specs.Oid.{has_root};
 ghost use Rattle.z_types.specs.ReadAs.{IsReadAs, IsReadInFront};
@@ -35,7 +35,8 @@ fn number(high: u64, bytes: &[u8]) -> Option<(u64, &[u8])>
 
 /// The numbers so far and those that the octets are, with 32 numbers at most.
 fn read_arcs(mut arcs: Vec<u32>, bytes: &[u8]) -> Result<Option<Vec<u32>>, Memory>
-    ensures { IfOk result (λ found. AreArcsRead arcs.items bytes.now (option_map (λ all. all.items) found)) }
+    ensures { IfOk result
+        (λ all. AreArcsRead arcs.items bytes.now (option_map (λ v. v.items) all)) }
 {
     if arcs.len() > 32 {
         return Ok(None);

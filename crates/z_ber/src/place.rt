@@ -1,6 +1,6 @@
 //! Elements one after another, on 64 levels at most, checked in one pass (X.690:2021, 8.1.1, 8.1.5).
 
-ghost use Rattle.std.specs.Prelude.{◌≡◌, ◌<◌, ◌≤◌, length, IfOk, IfErr};
+ghost use Rattle.std.specs.Prelude.{◌<◌, ◌≤◌, length, IfOk, IfErr};
 ghost use Rattle.std.specs.Bool.{MatchBool};
 ghost use Rattle.z_ber.specs.Element.{HaveEnded};
 ghost use Rattle.z_ber.specs.Place.{AreElementsOf, IsElementOf, IsElementsAnswer, IsPlace, IsPlaceAmong};

@@ -1,6 +1,6 @@
 //! One whole element at the end of a text, in its written form (X.690:2021, 8.1, 10.1).
 
-ghost use Rattle.std.specs.Prelude.{◌≡◌, ℕ, ◌≤◌, List, ◌++◌, length, take, true, false, OnOk, OnErr};
+ghost use Rattle.std.specs.Prelude.{◌≡◌, ◌≤◌, ◌++◌, length, take, true, false, OnOk, OnErr};
 ghost use Rattle.z_ber.specs.Written.{IsTag, element, bool_octets, int_octets, bits_octets, oid_octets};
 
 use crate::Tag;
@@ -22,8 +22,8 @@ fn cut_on_error(out: &mut Text, start: usize, written: Result<(), Memory>) -> Re
 }
 
 /// An element of these contents, or a part of it.
-#[tactic(auto, using(crate::proofs::Kept::kept_on), unfolding(crate::specs::Written::element))]
-fn write_bytes(out: &mut Text, tag: Tag, value: &[u8]) -> Result<(), Memory>
+#[tactic(auto, using(crate::proofs::FrontStays::kept_on), unfolding(crate::specs::Written::element))]
+fn put_bytes_element(out: &mut Text, tag: Tag, value: &[u8]) -> Result<(), Memory>
     requires { IsTag tag }
     ensures ok { OnOk result (out.new ≡ out.old ++ element tag value.now) }
     ensures err { OnErr result (take (length out.old) out.new ≡ out.old) }
@@ -33,8 +33,8 @@ fn write_bytes(out: &mut Text, tag: Tag, value: &[u8]) -> Result<(), Memory>
 }
 
 /// An element of an INTEGER, or a part of it.
-#[tactic(auto, using(crate::proofs::Kept::kept_on), unfolding(crate::specs::Written::element))]
-fn write_int(out: &mut Text, tag: Tag, value: i64) -> Result<(), Memory>
+#[tactic(auto, using(crate::proofs::FrontStays::kept_on), unfolding(crate::specs::Written::element))]
+fn put_int_element(out: &mut Text, tag: Tag, value: i64) -> Result<(), Memory>
     requires { IsTag tag }
     ensures ok { OnOk result (out.new ≡ out.old ++ element tag (int_octets value)) }
     ensures err { OnErr result (take (length out.old) out.new ≡ out.old) }
@@ -44,8 +44,8 @@ fn write_int(out: &mut Text, tag: Tag, value: i64) -> Result<(), Memory>
 }
 
 /// An element of a BIT STRING, or a part of it.
-#[tactic(auto, using(crate::proofs::Kept::kept_on), unfolding(crate::specs::Written::element))]
-fn write_bits(out: &mut Text, tag: Tag, value: u32) -> Result<(), Memory>
+#[tactic(auto, using(crate::proofs::FrontStays::kept_on), unfolding(crate::specs::Written::element))]
+fn put_bits_element(out: &mut Text, tag: Tag, value: u32) -> Result<(), Memory>
     requires { IsTag tag }
     ensures ok { OnOk result (out.new ≡ out.old ++ element tag (bits_octets value)) }
     ensures err { OnErr result (take (length out.old) out.new ≡ out.old) }
@@ -55,8 +55,8 @@ fn write_bits(out: &mut Text, tag: Tag, value: u32) -> Result<(), Memory>
 }
 
 /// An element of an OBJECT IDENTIFIER, or a part of it.
-#[tactic(auto, using(crate::proofs::Kept::kept_on), unfolding(crate::specs::Written::element))]
-fn write_oid(out: &mut Text, tag: Tag, arcs: &[u32]) -> Result<(), Memory>
+#[tactic(auto, using(crate::proofs::FrontStays::kept_on), unfolding(crate::specs::Written::element))]
+fn put_oid_element(out: &mut Text, tag: Tag, arcs: &[u32]) -> Result<(), Memory>
     requires valid { IsTag tag }
     requires short { length arcs.now ≤ 32 }
     ensures ok { OnOk result (out.new ≡ out.old ++ element tag (oid_octets arcs.now)) }
@@ -74,7 +74,7 @@ pub fn put_int(out: &mut Text, tag: Tag, value: i64) -> Result<(), Memory>
     ensures err { OnErr result (out.new ≡ out.old) }
 {
     let start = out.len();
-    let written = write_int(out, tag, value);
+    let written = put_int_element(out, tag, value);
     cut_on_error(out, start, written)
 }
 
@@ -98,7 +98,7 @@ pub fn put_bytes(out: &mut Text, tag: Tag, value: &[u8]) -> Result<(), Memory>
     ensures err { OnErr result (out.new ≡ out.old) }
 {
     let start = out.len();
-    let written = write_bytes(out, tag, value);
+    let written = put_bytes_element(out, tag, value);
     cut_on_error(out, start, written)
 }
 
@@ -111,7 +111,7 @@ pub fn put_bits(out: &mut Text, tag: Tag, value: u32) -> Result<(), Memory>
     ensures err { OnErr result (out.new ≡ out.old) }
 {
     let start = out.len();
-    let written = write_bits(out, tag, value);
+    let written = put_bits_element(out, tag, value);
     cut_on_error(out, start, written)
 }
 
@@ -123,7 +123,7 @@ pub fn put_oid(out: &mut Text, tag: Tag, value: &Oid) -> Result<(), Memory>
     ensures err { OnErr result (out.new ≡ out.old) }
 {
     let start = out.len();
-    let written = write_oid(out, tag, value.arcs());
+    let written = put_oid_element(out, tag, value.arcs());
     cut_on_error(out, start, written)
 }
 
@@ -136,6 +136,6 @@ pub fn put_tree(out: &mut Text, tag: Tag, value: &[u8]) -> Result<(), Memory>
     ensures err { OnErr result (out.new ≡ out.old) }
 {
     let start = out.len();
-    let written = write_bytes(out, tag, value);
+    let written = put_bytes_element(out, tag, value);
     cut_on_error(out, start, written)
 }

@@ -1,7 +1,7 @@
 //! Identifier and length octets at the front of octets (X.690:2021, 8.1.2, 8.1.3).
 
-ghost use Rattle.std.specs.Prelude.{◌≡◌, ◌↔◌, ℕ, ◌+◌, ◌-◌, ◌*◌, ◌^◌, ◌<◌, ◌≤◌, List, length, take, drop, IfOk, IfErr, Ok, Err};
-ghost use Rattle.std.specs.Int.Digits.{number_from_digits, number_from_digits_after};
+ghost use Rattle.std.specs.Prelude.{◌≡◌, ◌+◌, ◌-◌, ◌*◌, ◌^◌, ◌<◌, ◌≤◌, length, IfOk, Ok, Err};
+ghost use Rattle.std.specs.Int.Digits.{number_from_digits_after};
 ghost use Rattle.z_ber.specs.Reading.{Gives, number_end, septets_at, tag_of, tag_at, padded, long_at, indefinite_at, length_at, header_at};
 ghost use Rattle.z_ber.specs.HeaderAnswer.{IsHeaderAnswer};
 

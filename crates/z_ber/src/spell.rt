@@ -1,8 +1,8 @@
 //! Identifier, length and contents octets (X.690:2021, 8.1.2, 8.1.3, 8.3, 8.6, 8.19).
 
-ghost use Rattle.std.specs.Prelude.{◌≡◌, ℕ, ℤ, ◌+◌, ◌-◌, ◌*◌, ◌≤◌, List, [], ◌∷◌, ◌++◌, length, map, take, OnOk, OnErr};
+ghost use Rattle.std.specs.Prelude.{◌≡◌, ◌+◌, ◌-◌, ◌*◌, ◌≤◌, ◌++◌, length, take, OnOk, OnErr};
 ghost use Rattle.std.specs.List.{flat_map};
-ghost use Rattle.z_ber.specs.Written.{IsTag, septets, tag_octets, length_octets, natural_octets, magnitude, int_octets, unused_bits, bits_octets, oid_octets};
+ghost use Rattle.z_ber.specs.Written.{IsTag, turned, septets, tag_octets, length_octets, natural_octets, magnitude, int_octets, unused_bits, bits_octets, oid_octets};
 
 use crate::Tag;
 use crate::digits::{
@@ -21,7 +21,7 @@ fn septets_len(number: u64) -> usize
 }
 
 /// A number at seven bits an octet (8.1.2.4.2, 8.19.2).
-#[tactic(auto, using(crate::proofs::Kept::kept_on), unfolding(crate::specs::Written::septets))]
+#[tactic(auto, using(crate::proofs::FrontStays::kept_on), unfolding(crate::specs::Written::septets))]
 fn put_septets(out: &mut Text, number: u64) -> Result<(), Memory>
     ensures ok { OnOk result (out.new ≡ out.old ++ septets number) }
     ensures err { OnErr result (take (length out.old) out.new ≡ out.old) }
@@ -31,7 +31,7 @@ fn put_septets(out: &mut Text, number: u64) -> Result<(), Memory>
 }
 
 /// Identifier octets (8.1.2).
-#[tactic(auto, using(crate::proofs::Kept::kept_on), unfolding(crate::specs::Written::tag_octets))]
+#[tactic(auto, using(crate::proofs::FrontStays::kept_on), unfolding(crate::specs::Written::tag_octets))]
 fn put_tag(out: &mut Text, tag: Tag) -> Result<(), Memory>
     requires { IsTag tag }
     ensures ok { OnOk result (out.new ≡ out.old ++ tag_octets tag) }
@@ -46,7 +46,7 @@ fn put_tag(out: &mut Text, tag: Tag) -> Result<(), Memory>
 }
 
 /// Length octets (8.1.3), the fewest (10.1).
-#[tactic(auto, using(crate::proofs::Kept::kept_on), unfolding(crate::specs::Written::length_octets))]
+#[tactic(auto, using(crate::proofs::FrontStays::kept_on), unfolding(crate::specs::Written::length_octets))]
 fn put_length(out: &mut Text, len: usize) -> Result<(), Memory>
     ensures ok { OnOk result (out.new ≡ out.old ++ length_octets len) }
     ensures err { OnErr result (take (length out.old) out.new ≡ out.old) }
@@ -59,7 +59,7 @@ fn put_length(out: &mut Text, len: usize) -> Result<(), Memory>
 }
 
 /// Identifier octets and the length octets of contents of this length (8.1.1).
-#[tactic(auto, using(crate::proofs::Kept::kept_on))]
+#[tactic(auto, using(crate::proofs::FrontStays::kept_on))]
 pub fn put_header(out: &mut Text, tag: Tag, len: usize) -> Result<(), Memory>
     requires { IsTag tag }
     ensures ok { OnOk result (out.new ≡ out.old ++ tag_octets tag ++ length_octets len) }
@@ -119,7 +119,7 @@ fn natural_len(number: u64) -> usize
 }
 
 /// A natural number with a sign bit of 0.
-#[tactic(auto, using(crate::proofs::Kept::kept_on), unfolding(crate::specs::Written::natural_octets))]
+#[tactic(auto, using(crate::proofs::FrontStays::kept_on), unfolding(crate::specs::Written::natural_octets))]
 fn put_natural(out: &mut Text, number: u64) -> Result<(), Memory>
     ensures ok { OnOk result (out.new ≡ out.old ++ natural_octets number) }
     ensures err { OnErr result (take (length out.old) out.new ≡ out.old) }
@@ -131,9 +131,9 @@ fn put_natural(out: &mut Text, number: u64) -> Result<(), Memory>
 }
 
 /// The same with each bit turned, which is -1 less that number.
-#[tactic(auto, using(crate::proofs::Kept::kept_on), unfolding(crate::specs::Written::natural_octets))]
+#[tactic(auto, using(crate::proofs::FrontStays::kept_on), unfolding(crate::specs::Written::natural_octets))]
 fn put_turned_natural(out: &mut Text, number: u64) -> Result<(), Memory>
-    ensures ok { OnOk result (out.new ≡ out.old ++ map (λ octet. 255 - octet) (natural_octets number)) }
+    ensures ok { OnOk result (out.new ≡ out.old ++ turned (natural_octets number)) }
     ensures err { OnErr result (take (length out.old) out.new ≡ out.old) }
 {
     if first_digit(number) >= 128 {
@@ -189,7 +189,7 @@ pub fn unused_bits(value: u32) -> u8
 }
 
 /// The contents of a BIT STRING (8.6.2).
-#[tactic(auto, using(crate::proofs::Kept::kept_on), unfolding(crate::specs::Written::bits_octets))]
+#[tactic(auto, using(crate::proofs::FrontStays::kept_on), unfolding(crate::specs::Written::bits_octets))]
 pub fn put_bits_octets(out: &mut Text, value: u32) -> Result<(), Memory>
     ensures ok { OnOk result (out.new ≡ out.old ++ bits_octets value) }
     ensures err { OnErr result (take (length out.old) out.new ≡ out.old) }
@@ -237,7 +237,7 @@ pub fn oid_len(arcs: &[u32]) -> usize
 }
 
 /// The contents of an OBJECT IDENTIFIER (8.19.4).
-#[tactic(auto, using(crate::proofs::Kept::kept_on), unfolding(crate::specs::Written::oid_octets))]
+#[tactic(auto, using(crate::proofs::FrontStays::kept_on), unfolding(crate::specs::Written::oid_octets))]
 pub fn put_oid_octets(out: &mut Text, arcs: &[u32]) -> Result<(), Memory>
     ensures ok { OnOk result (out.new ≡ out.old ++ oid_octets arcs.now) }
     ensures err { OnErr result (take (length out.old) out.new ≡ out.old) }

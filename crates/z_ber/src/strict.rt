@@ -1,6 +1,6 @@
 //! Elements that stand in their written form, and in no other (X.690:2021, 10.1).
 
-ghost use Rattle.std.specs.Prelude.{◌≡◌, ◌+◌, ◌<◌, ◌≤◌, length};
+ghost use Rattle.std.specs.Prelude.{◌≡◌, ◌+◌, ◌<◌};
 ghost use Rattle.std.specs.Option.{option_map};
 ghost use Rattle.z_ber.specs.Reading.{fewest_size, contents_at, fewest_at, written_at};
 ghost use Rattle.z_ber.specs.WrittenAnswer.{IsWrittenAnswer};
@@ -31,7 +31,7 @@ fn fewest_size(len: u64) -> usize
     }
 }
 
-/// The same behind length octets of which there are so many.
+/// The same behind `size` length octets, which have to be the fewest.
 fn fewest(tag: Tag, size: usize, len: Option<u64>, body: &[u8]) -> Option<(Tag, &[u8], &[u8])>
     ensures { option_map (λ x. (x.0, x.1.now, x.2.now)) result ≡ fewest_at tag size len body.now }
 {

@@ -1,11 +1,11 @@
 //! Values whose written form contents are (X.690:2021, 8.2, 8.3, 8.6, 8.19, 11.1, 11.2).
 
-ghost use Rattle.std.specs.Prelude.{◌≡◌, ◌+◌, ◌-◌, ◌*◌, ◌^◌, ◌<◌, ◌≤◌, length, map};
+ghost use Rattle.std.specs.Prelude.{◌≡◌, ◌+◌, ◌-◌, ◌*◌, ◌^◌, ◌<◌, ◌≤◌, length};
 ghost use Rattle.std.specs.Int.Digits.{number_from_digits_after};
 ghost use Rattle.z_types.specs.ReadAs.{IsAny, IsReadAs};
 ghost use Rattle.z_ber.specs.Reading.{padded, is_fewest, positive_at, negative_at, signed_at, int_at, mirrored_number, bits_behind, bits_at};
 ghost use Rattle.z_ber.specs.Values.{IsBits, IsInteger};
-ghost use Rattle.z_ber.specs.Written.{bool_octets, int_octets, bits_octets};
+ghost use Rattle.z_ber.specs.Written.{turned, bool_octets, int_octets, bits_octets};
 
 use crate::digits::{count_digits, mirrored};
 use crate::read::padded_number;
@@ -36,10 +36,11 @@ fn is_fewest(contents: &[u8]) -> bool
     }
 }
 
-/// The number of so many octets with their bits turned, where those that have not come are zeros.
+/// The number of `count` octets more with their bits turned, where those that have not come are
+/// zeros, behind octets of which the number is `high`.
 fn turned_number(high: u64, count: u8, bytes: &[u8]) -> u64
     requires { (high + 1) * 256 ^ count ≤ 2 ^ 64 }
-    ensures { result ≡ number_from_digits_after 256 high (padded count (map (λ octet. 255 - octet) bytes.now)) }
+    ensures { result ≡ number_from_digits_after 256 high (padded count (turned bytes.now)) }
 {
     if count == 0 {
         return high;

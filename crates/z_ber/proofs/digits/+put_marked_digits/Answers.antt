@@ -1,7 +1,7 @@
 use Rattle.std.proofs.Common.{◌+◌, lit≤, arith}
 use Rattle.std.proofs.lemmas.Result.{on_ok_weaker}
 use Rattle.z_ber.proofs.DigitSteps.{map-digits_step}
-use Rattle.z_ber.proofs.Kept.{put_then}
+use Rattle.z_ber.proofs.FrontStays.{put_then}
 use Rattle.z_ber.proofs.digits.+put_marked_digits.Goals as goal
 
 pub returns-clause-ok : goal.returns-clause-ok

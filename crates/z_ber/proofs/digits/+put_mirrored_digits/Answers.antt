@@ -2,7 +2,7 @@ use Rattle.std.proofs.Common.{lit≤, arith}
 use Rattle.std.proofs.lemmas.Result.{on_ok_weaker, on_err_weaker}
 use Rattle.z_ber.specs.Written.{mirror}
 use Rattle.z_ber.proofs.DigitSteps.{mirrored_step}
-use Rattle.z_ber.proofs.Kept.{put_then, kept_on}
+use Rattle.z_ber.proofs.FrontStays.{put_then, kept_on}
 use Rattle.z_ber.proofs.digits.+put_mirrored_digits.Goals as goal
 
 pub returns-clause-ok : goal.returns-clause-ok
