@@ -1,0 +1,9 @@
+pub mod ItemLemmas
+pub mod TextLemmas
+pub mod HeldLemmas
+pub mod RangeLemmas
+pub mod SizeLemmas
+pub mod TreeLemmas
+pub mod FirstLemmas
+mod OnLiterals
+mod Examples

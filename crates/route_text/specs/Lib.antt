@@ -1,0 +1,12 @@
+pub mod Path
+pub mod Texts
+pub mod Kinds
+pub mod Keys
+pub mod Refusal
+pub mod Values
+pub mod Whole
+pub mod RouteOf
+pub mod Configuration
+pub mod Reads
+pub mod Sizes
+pub mod Faults

@@ -1,0 +1,96 @@
+-- What each text of the configuration may be (this project's own).
+use Rattle.std.specs.Prelude.{◌≡◌, ◌<◌, ◌≤◌, MatchOption, ℕ, ◌-◌, ◌==◌, ◌&&◌, ◌||◌, Bool, true, false, not, nat_le, List, [], ◌∷◌, map, length, Option, Some, None, codes, if◌then◌else◌}
+use Rattle.std.specs.List.{list_any, list_all, slice_split, position}
+use lib.Pointwise.{pointwise}
+use Rattle.std.specs.Option.{option_map, option_map_or}
+use Rattle.std.specs.Int.Digits.{number_from_digits_after}
+use Rattle.z_types.specs.declared.address.Address.{Address}
+use Rattle.z_types.specs.declared.address.Address.TheVariants.{Test, Tcp}
+use Rattle.route_text.specs.declared.rule.TextRule.{TextRule}
+use Rattle.route_text.specs.declared.rule.TextRule.TheVariants.{Any, Name, DatabaseName, UpTo, IndexName}
+
+-- the same octets
+abbrev pub same_text : List ℕ → List ℕ → Bool
+same_text = pointwise ◌==◌
+
+-- a number from one to another
+abbrev pub is_from : ℕ → ℕ → ℕ → Bool
+is_from low high n = nat_le low n && nat_le n high
+
+-- space, tab, CR, LF
+abbrev pub is_white : ℕ → Bool
+is_white c = ((c == 32 || c == 9) || c == 13) || c == 10
+
+abbrev pub has_white : List ℕ → Bool
+has_white = list_any is_white
+
+-- 1 to 64 octets, none of them white space
+abbrev pub is_name : List ℕ → Bool
+is_name text = is_from 1 64 (length text) && not (has_white text)
+
+-- `/` and `?` part a path and its query
+abbrev pub is_delimiter : ℕ → Bool
+is_delimiter c = c == 47 || c == 63
+
+abbrev pub has_delimiter : List ℕ → Bool
+has_delimiter = list_any is_delimiter
+
+abbrev pub is_digit : ℕ → Bool
+is_digit c = is_from 48 57 c
+
+abbrev pub all_digits : List ℕ → Bool
+all_digits = list_all is_digit
+
+-- decimal digits, the first of several not 0
+abbrev pub is_decimal : List ℕ → Bool
+is_decimal [] = false
+is_decimal (c ∷ []) = is_digit c
+is_decimal (c ∷ d ∷ digits) = (not (c == 48) && is_digit c) && all_digits (d ∷ digits)
+
+-- the number that digits write, after others that wrote the high part
+abbrev pub number_after : ℕ → List ℕ → ℕ
+number_after high digits = number_from_digits_after 10 high (map (λ c. c - 48) digits)
+
+abbrev pub number_of_digits : List ℕ → ℕ
+number_of_digits = number_after 0
+
+-- the number from one to another that a text writes
+abbrev pub number_from : ℕ → ℕ → List ℕ → Option ℕ
+number_from low high text =
+    if is_decimal text && is_from low high (number_of_digits text) then Some (number_of_digits text) else None
+
+-- a number that is at most another, or none where it is more
+abbrev pub IsWithin : ℕ → ℕ → Option ℕ → Type 0
+IsWithin most number result = MatchOption result (most < number) (λ found. (found ≡ number) × (found ≤ most))
+
+-- an address by its parts between colons: `test:N`, or `tcp:HOST:PORT`
+abbrev pub address_of : List (List ℕ) → Option Address
+address_of (scheme ∷ number ∷ []) =
+    if same_text scheme (codes "test") then option_map Test (number_from 0 999999 number) else None
+address_of (scheme ∷ host ∷ port ∷ []) =
+    if same_text scheme (codes "tcp") && is_from 1 64 (length host) then option_map (Tcp host) (number_from 1 65535 port) else None
+address_of parts = None
+
+-- the parts between colons
+abbrev pub parts : List ℕ → List (List ℕ)
+parts = slice_split (λ c. c == 58)
+
+-- the address that a text writes
+abbrev pub address : List ℕ → Option Address
+address text = address_of (parts text)
+
+-- where the first dot stands
+abbrev pub first_dot : List ℕ → Option ℕ
+first_dot = position (λ c. c == 46)
+
+-- a dot with text on both sides of the first one
+abbrev pub has_prefix : List ℕ → Bool
+has_prefix text = option_map_or (is_from 1 (length text - 2)) (first_dot text) false
+
+-- the text keeps the rule
+abbrev pub fits : TextRule → List ℕ → Bool
+fits Any text = true
+fits Name text = is_name text
+fits DatabaseName text = is_name text && not (has_delimiter text)
+fits (UpTo most) text = is_from 1 most (length text)
+fits IndexName text = has_prefix text

@@ -1,0 +1,85 @@
+//! What a configuration is refused for as a whole.
+
+ghost use Rattle.std.specs.Prelude.{◌≡◌, map, IfOk};
+ghost use Rattle.route_text.specs.Whole.{twice, no_such, vias, member_names, of_whole};
+ghost use Rattle.route_text.specs.Reads.{Refuses};
+
+use crate::names::{Named, again, names_of, put_names, stranger};
+use crate::{RouteFault, Values};
+use std::alloc::Global;
+use z_types::{List, Memory, Text, copy};
+
+/// Goes on where the names are all different, all legs and groups name what there is, and result
+/// sets are not kept longer than their sessions.
+#[tactic(auto, unfolding(crate::specs::Whole::of_whole))]
+pub fn check_whole(alloc: Global, values: &Values) -> Result<(), RouteFault>
+    ensures { Refuses (of_whole values.now) result }
+{
+    let targets = names_of(alloc, values.targets.as_slice())?;
+    let mut both = names_of(alloc, values.targets.as_slice())?;
+    put_names(alloc, &mut both, values.groups.as_slice())?;
+    all_differ(false, both.as_slice())?;
+    differ_by_name(alloc, true, values.databases.as_slice())?;
+    differ_by_name(alloc, true, values.indexes.as_slice())?;
+    differ_by_name(alloc, false, values.schemas.as_slice())?;
+    all_known(targets.as_slice(), member_names(alloc, values)?.as_slice())?;
+    all_known(both.as_slice(), vias(alloc, values)?.as_slice())?;
+    if values.pool.set_ttl <= values.pool.session_ttl {
+        Ok(())
+    } else {
+        Err(RouteFault::TtlOrder)
+    }
+}
+
+/// Goes on where no name is the same as one before it.
+fn all_differ(ignore_case: bool, names: &[Text]) -> Result<(), RouteFault>
+    ensures { Refuses (twice ignore_case names.now) result }
+{
+    match again(ignore_case, names) {
+        Some(name) => Err(RouteFault::Twice(copy(name)?)),
+        None => Ok(()),
+    }
+}
+
+/// Goes on where no thing has the name of one before it.
+fn differ_by_name<T: Named>(
+    alloc: Global,
+    ignore_case: bool,
+    things: &[T],
+) -> Result<(), RouteFault>
+    ensures { Refuses (twice ignore_case (map T.named things.now)) result }
+{
+    all_differ(ignore_case, names_of(alloc, things)?.as_slice())
+}
+
+/// Goes on where each name is one of the known.
+fn all_known(known: &[Text], names: &[Text]) -> Result<(), RouteFault>
+    ensures { Refuses (no_such known.now names.now) result }
+{
+    match stranger(known, names) {
+        Some(name) => Err(RouteFault::NoSuchTarget(copy(name)?)),
+        None => Ok(()),
+    }
+}
+
+/// The members of all groups.
+fn member_names(alloc: Global, values: &Values) -> Result<List<Text>, Memory>
+    ensures { IfOk result (λ names. names ≡ member_names values.now) }
+{
+    let mut names = List::new(alloc);
+    for group in values.groups.as_slice() {
+        put_names(alloc, &mut names, group.targets.as_slice())?;
+    }
+    Ok(names)
+}
+
+/// What legs go to.
+pub fn vias(alloc: Global, values: &Values) -> Result<List<Text>, Memory>
+    ensures { IfOk result (λ names. names ≡ vias values.now) }
+{
+    let mut names = List::new(alloc);
+    for database in values.databases.as_slice() {
+        put_names(alloc, &mut names, database.legs.as_slice())?;
+    }
+    Ok(names)
+}

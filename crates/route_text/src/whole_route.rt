@@ -1,0 +1,41 @@
+//! The route of the values.
+
+ghost use Rattle.std.specs.Prelude.{◌≡◌, IfOk};
+ghost use Rattle.route_text.specs.RouteOf.{route_of};
+ghost use Rattle.route_text.specs.Sizes.{HasSizes};
+
+use crate::Values;
+use crate::class::classes_of;
+use crate::leg::{databases_of, legs_of};
+use crate::names::names_of;
+use crate::route::{firsts, groups_of};
+use crate::whole::vias;
+use route_config::Route;
+use std::alloc::Global;
+use z_types::Memory;
+
+/// The route of the values of a configuration that is refused for nothing.
+#[tactic(auto, unfolding(crate::specs::RouteOf::route_of), using(crate::proofs::SizeLemmas::counts))]
+pub fn route_of(alloc: Global, values: Values) -> Result<Route, Memory>
+    requires { HasSizes values }
+    ensures { IfOk result (λ route. route ≡ route_of values) }
+{
+    let targets = names_of(alloc, values.targets.as_slice())?;
+    let vias = vias(alloc, &values)?;
+    let names = firsts(alloc, vias.as_slice())?;
+    let groups = groups_of(alloc, targets.as_slice(), values.groups.as_slice())?;
+    let databases = databases_of(alloc, values.databases.as_slice())?;
+    let legs = legs_of(alloc, names.as_slice(), values.databases.as_slice())?;
+    let classes = classes_of(alloc, &values, names.as_slice())?;
+    Ok(Route {
+        targets: values.targets,
+        groups,
+        databases,
+        legs,
+        classes,
+        pool: values.pool,
+        limits: values.limits,
+        indexes: values.indexes,
+        schemas: values.schemas,
+    })
+}

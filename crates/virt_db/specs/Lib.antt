@@ -1,0 +1,4 @@
+pub mod Faults
+pub mod Legs
+pub mod Names
+pub mod Lent

@@ -1,0 +1,4 @@
+pub mod SetLemmas
+pub mod MeasureLemmas
+pub mod OperandLemmas
+pub mod ExpansionLemmas

@@ -1,0 +1,179 @@
+//! How large, how deep and how costly a query's expansion would be, before it is built. A number that
+//! would pass its type's end is given as that end.
+
+ghost use Rattle.std.specs.Prelude.{◌≡◌, IfOk, find, option_map, slice_get};
+ghost use Rattle.z_types.specs.Tree.{leaf, operand};
+ghost use Rattle.z_sets.specs.Sets.{is_same};
+ghost use Rattle.z_sets.specs.Measured.{IsOrMemory, measures_of, measures_of_sets, expansion_measures, joined, names_a_set, tested};
+
+use crate::ExpandFault;
+use crate::sets::{place_of, set_for};
+use std::alloc::Global;
+use z_types::{Attr, KnownSet, List, MOST_QUERY_DEPTH, Memory, Node, Rpn, Term, Text, copy};
+
+/// What a node costs.
+const NODE_COST: u64 = 64;
+
+/// What an attribute costs.
+const ATTRIBUTE_COST: u64 = 192;
+
+/// What a number costs as a term.
+const NUMBER_COST: u64 = 8;
+
+/// The most nodes of a query.
+const MOST_NODES: u64 = 4096;
+
+/// The most that a query may cost.
+const MOST_COST: u64 = 900_000;
+
+/// The nodes, levels and cost of a structure.
+#[derive(Clone, Copy)]
+pub(crate) struct Measures {
+    pub(crate) nodes: u64,
+    pub(crate) levels: u32,
+    pub(crate) cost: u64,
+}
+
+/// Whether some operand is a result set. It calls itself as deep as the structure is.
+pub(crate) fn names_a_set(query: &Rpn) -> bool
+    ensures { result ≡ names_a_set query.now }
+{
+    match &query.node {
+        Node::Leaf(_, _) => false,
+        Node::Set(_) => true,
+        Node::And(left, right) => names_a_set(left) || names_a_set(right),
+        Node::Or(left, right) => names_a_set(left) || names_a_set(right),
+        Node::AndNot(left, right) => names_a_set(left) || names_a_set(right),
+    }
+}
+
+/// The measures of the queries that sets stand for.
+pub(crate) fn measure_sets(alloc: Global, sets: &[KnownSet]) -> Result<List<Measures>, Memory>
+    ensures { IfOk result (λ measures. measures ≡ measures_of_sets sets.now) }
+{
+    let mut measures = List::new(alloc);
+    for set in sets {
+        measures.push(measure(&set.query.root))?;
+    }
+    Ok(measures)
+}
+
+/// The measures of a structure as it stands. It calls itself as deep as the structure is.
+fn measure(query: &Rpn) -> Measures
+    ensures { result ≡ measures_of query.now }
+{
+    match &query.node {
+        Node::Leaf(attrs, term) => measure_leaf(attrs, term),
+        Node::Set(_) => Measures {
+            nodes: 1,
+            levels: 1,
+            cost: NODE_COST,
+        },
+        Node::And(left, right) => join(measure(left), measure(right)),
+        Node::Or(left, right) => join(measure(left), measure(right)),
+        Node::AndNot(left, right) => join(measure(left), measure(right)),
+    }
+}
+
+/// The measures of an operand of attributes and a term.
+fn measure_leaf(attrs: &List<Attr>, term: &Term) -> Measures
+    ensures { result ≡ measures_of (leaf attrs.now term.now) }
+{
+    let of_term = match term {
+        Term::General(text) | Term::Words(text) => text.len() as u64,
+        Term::Number(_) => NUMBER_COST,
+    };
+    let of_attributes = (attrs.len() as u64).saturating_mul(ATTRIBUTE_COST);
+    Measures {
+        nodes: 1,
+        levels: 1,
+        cost: NODE_COST
+            .saturating_add(of_attributes)
+            .saturating_add(of_term),
+    }
+}
+
+/// The measures of an operator on two structures.
+fn join(left: Measures, right: Measures) -> Measures
+    ensures { result ≡ joined left right }
+{
+    Measures {
+        nodes: left.nodes.saturating_add(right.nodes).saturating_add(1),
+        levels: left.levels.max(right.levels).saturating_add(1),
+        cost: left
+            .cost
+            .saturating_add(right.cost)
+            .saturating_add(NODE_COST),
+    }
+}
+
+/// The measures of a structure with stored queries in place of its operand sets, or the fault of the
+/// first operand from the left. The measures of the stored queries are given, in the order of the sets.
+/// It calls itself as deep as the structure is.
+pub(crate) fn measure_expansion(
+    query: &Rpn,
+    legs: &List<u32>,
+    sets: &[KnownSet],
+    sizes: &[Measures],
+) -> Result<Measures, ExpandFault>
+    requires sizes { sizes.now ≡ measures_of_sets sets.now }
+    ensures { IsOrMemory (expansion_measures legs.now sets.now query.now) result }
+{
+    match &query.node {
+        Node::Leaf(attrs, term) => Ok(measure_leaf(attrs, term)),
+        Node::Set(name) => measure_operand(name, legs, sets, sizes),
+        Node::And(left, right) | Node::Or(left, right) | Node::AndNot(left, right) => {
+            let left = measure_expansion(left, legs, sets, sizes)?;
+            let right = measure_expansion(right, legs, sets, sizes)?;
+            Ok(join(left, right))
+        }
+    }
+}
+
+/// The measures of the query that a result set stands for, where it is one of these legs.
+fn measure_operand(
+    name: &Text,
+    legs: &List<u32>,
+    sets: &[KnownSet],
+    sizes: &[Measures],
+) -> Result<Measures, ExpandFault>
+    requires sizes { sizes.now ≡ measures_of_sets sets.now }
+    ensures { IsOrMemory (expansion_measures legs.now sets.now (operand name.now)) result }
+{
+    let _ = set_for(name, legs, sets)?;
+    match measures_named(name, sets, sizes) {
+        Some(measures) => Ok(measures),
+        None => unreachable!(),
+    }
+}
+
+/// The measures of the query of the first of the sets that has this name.
+fn measures_named(name: &Text, sets: &[KnownSet], sizes: &[Measures]) -> Option<Measures>
+    requires sizes { sizes.now ≡ measures_of_sets sets.now }
+    ensures { result ≡ option_map (λ set. measures_of set.query.root) (find (λ set. is_same set.name name.now) sets.now) }
+{
+    let place = place_of(sets, name)?;
+    item_at(sizes, place)
+}
+
+/// The measures at a place.
+fn item_at(sizes: &[Measures], place: usize) -> Option<Measures>
+    ensures { result ≡ slice_get sizes.now place }
+{
+    sizes.get(place).copied()
+}
+
+/// Tests measures against the bounds of a query: its nodes first, then its levels, then its cost.
+pub(crate) fn test_bounds(measures: Measures) -> Result<(), ExpandFault>
+    ensures { result ≡ tested measures }
+{
+    if measures.nodes > MOST_NODES {
+        Err(ExpandFault::TooLarge(measures.nodes))
+    } else if measures.levels > MOST_QUERY_DEPTH {
+        Err(ExpandFault::TooDeep(measures.levels))
+    } else if measures.cost > MOST_COST {
+        Err(ExpandFault::TooCostly(measures.cost))
+    } else {
+        Ok(())
+    }
+}
