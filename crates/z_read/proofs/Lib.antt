@@ -1,0 +1,4 @@
+pub mod ReadLemmas
+pub mod EachLemmas
+pub mod StructureLemmas
+pub mod RowLemmas

@@ -1,0 +1,22 @@
+-- Why a unit is not read (this project's own).
+use Rattle.std.specs.Prelude.{ℕ}
+use Rattle.unit_forms.specs.declared.refusal.Refusal.{Refusal}
+use Rattle.unit_forms.specs.declared.refusal.Refusal.TheVariants as refusal
+use Rattle.z_read.specs.declared.fault.ReadFault.{ReadFault}
+use Rattle.z_read.specs.declared.fault.ReadFault.TheVariants.{Ber, UnknownUnit, Missing, BadValue, LeftOut, Memory}
+
+-- the fault's place in their order
+abbrev pub number_of : ReadFault → ℕ
+number_of (Ber at) = 1
+number_of (UnknownUnit n) = 2
+number_of (Missing n) = 3
+number_of (BadValue n) = 4
+number_of (LeftOut n) = 5
+number_of Memory = 6
+
+-- the fault that a refusal is
+abbrev pub fault_of : Refusal → ReadFault
+fault_of (refusal.UnknownUnit n) = UnknownUnit n
+fault_of (refusal.Missing n) = Missing n
+fault_of (refusal.BadValue n) = BadValue n
+fault_of (refusal.LeftOut n) = LeftOut n

@@ -1,0 +1,5 @@
+pub mod Fault
+pub mod Read
+pub mod Parts
+pub mod Structures
+pub mod ScanAsks

@@ -1,0 +1,246 @@
+//! Attributes and terms (ANSI/NISO Z39.50-2003, AttributesPlusTerm, AttributeElement, Term).
+
+ghost use Rattle.std.specs.Prelude.{◌≡◌, true, IfOk};
+ghost use Rattle.unit_forms.specs.Reading.Answers.{read_as, each, all_asked};
+ghost use Rattle.unit_forms.specs.Reading.Rows.{required, required_of};
+ghost use Rattle.unit_forms.specs.Reading.Attributes.{value_of, value_choice, attr_in, attr_of, attrs_of, term_of, term_choice, is_attributes_first, operand_asked, attrs_and_term_in};
+ghost use Rattle.z_read.specs.Parts.{put_asked, asked_behind};
+
+use crate::diagnostics::other_form;
+use std::alloc::Global;
+use unit_forms::Refusal;
+use z_ber::Tag;
+use z_fields::{
+    Elements, Field, Fields, both, context, has_tag, integer_of, number_of, octets_of,
+    optional_oid, required_number, universal,
+};
+use z_types::{Asked, Attr, List, Memory, Term};
+
+/// A numeric value, or a complex one, which is not served.
+fn value_of(alloc: Global, field: &Field<'_>) -> Result<Result<Asked<u32>, Refusal>, Memory>
+    ensures { IfOk result (λ read. read ≡ value_of field.now) }
+{
+    if field.tag().number == 224 {
+        return Ok(Ok(Asked::Bad(other_form(alloc, 224)?)));
+    }
+    match number_of(field) {
+        Ok(value) => Ok(Ok(Asked::Good(value))),
+        Err(refusal) => Ok(Err(refusal)),
+    }
+}
+
+/// The value of an attribute.
+fn value_in(alloc: Global, fields: &Fields<'_>) -> Result<Result<Asked<u32>, Refusal>, Memory>
+    ensures { IfOk result (λ read. read ≡ required_of 121 value_choice value_of fields.now) }
+{
+    match fields.first_of(&[context(121), context(224)]) {
+        Some(field) => value_of(alloc, &field),
+        None => Ok(Err(Refusal::Missing(121))),
+    }
+}
+
+/// The attribute of these fields.
+#[tactic(auto, unfolding(unit_forms::specs::Reading::Attributes::attr_in))]
+fn attr_in(alloc: Global, fields: &Fields<'_>) -> Result<Result<Asked<Attr>, Refusal>, Memory>
+    ensures { IfOk result (λ read. read ≡ attr_in fields.now) }
+{
+    let set = optional_oid(alloc, fields, context(1))?;
+    let kind = required_number(fields, 120);
+    let value = value_in(alloc, fields)?;
+    match both(set, both(kind, value)) {
+        Ok((set, (kind, value))) => match value {
+            Asked::Good(value) => Ok(Ok(Asked::Good(Attr { set, kind, value }))),
+            Asked::Bad(diag) => Ok(Ok(Asked::Bad(diag))),
+        },
+        Err(refusal) => Ok(Err(refusal)),
+    }
+}
+
+/// An attribute, which is a SEQUENCE.
+fn attr_of(alloc: Global, field: &Field<'_>) -> Result<Result<Asked<Attr>, Refusal>, Memory>
+    ensures { IfOk result (λ read. read ≡ attr_of field.now) }
+{
+    let tag = field.tag();
+    if has_tag(tag, universal(16)) && tag.constructed {
+        attr_in(alloc, &Fields::of(alloc, field))
+    } else {
+        Ok(Err(Refusal::BadValue(tag.number)))
+    }
+}
+
+/// Puts an attribute behind others, where all are served.
+fn put_asked(attrs: Asked<List<Attr>>, attr: Asked<Attr>) -> Result<Asked<List<Attr>>, Memory>
+    ensures { IfOk result (λ asked. asked ≡ put_asked (attrs, attr)) }
+{
+    match attrs {
+        Asked::Good(mut attrs) => match attr {
+            Asked::Good(attr) => {
+                attrs.push(attr)?;
+                Ok(Asked::Good(attrs))
+            }
+            Asked::Bad(diag) => Ok(Asked::Bad(diag)),
+        },
+        Asked::Bad(diag) => Ok(Asked::Bad(diag)),
+    }
+}
+
+/// Puts an attribute behind others, where all are read.
+fn put_attr(
+    attrs: Result<Asked<List<Attr>>, Refusal>,
+    attr: Result<Asked<Attr>, Refusal>,
+) -> Result<Result<Asked<List<Attr>>, Refusal>, Memory>
+    ensures { IfOk result (λ read. read ≡ asked_behind attrs attr) }
+{
+    match both(attrs, attr) {
+        Ok((attrs, attr)) => Ok(Ok(put_asked(attrs, attr)?)),
+        Err(refusal) => Ok(Err(refusal)),
+    }
+}
+
+/// The attributes that elements are, each of them.
+#[tactic(auto, using(crate::proofs::EachLemmas::asked_steps))]
+fn every_attr(
+    alloc: Global,
+    mut elements: Elements<'_>,
+) -> Result<Result<Asked<List<Attr>>, Refusal>, Memory>
+    ensures { IfOk result
+        (λ read. read ≡ read_as all_asked (each (λ field. true) attr_of elements.entry)) }
+{
+    let mut attrs = Ok(Asked::Good(List::new(alloc)));
+    loop {
+        match elements.next() {
+            None => return Ok(attrs),
+            Some(field) => {
+                let attr = attr_of(alloc, &field)?;
+                attrs = put_attr(attrs, attr)?;
+            }
+        }
+    }
+}
+
+/// A list of attributes, which has to be there.
+#[tactic(auto, unfolding(unit_forms::specs::Reading::Attributes::attrs_in))]
+fn required_attrs(
+    alloc: Global,
+    fields: &Fields<'_>,
+) -> Result<Result<Asked<List<Attr>>, Refusal>, Memory>
+    ensures { IfOk result (λ read. read ≡ required 44 attrs_of fields.now) }
+{
+    match fields.first_of(&[context(44)]) {
+        Some(field) => {
+            if field.tag().constructed {
+                every_attr(alloc, field.elements())
+            } else {
+                Ok(Err(Refusal::BadValue(field.tag().number)))
+            }
+        }
+        None => Ok(Err(Refusal::Missing(44))),
+    }
+}
+
+/// The tags of terms.
+pub fn term_choice() -> [Tag; 8]
+    ensures { result ≡ term_choice }
+{
+    [
+        context(45),
+        context(215),
+        context(216),
+        context(217),
+        context(218),
+        context(219),
+        context(220),
+        context(221),
+    ]
+}
+
+/// A term, of a form that is served or another.
+fn term_of(alloc: Global, field: &Field<'_>) -> Result<Result<Asked<Term>, Refusal>, Memory>
+    ensures { IfOk result (λ read. read ≡ term_of field.now) }
+{
+    let number = field.tag().number;
+    if number == 45 {
+        return match octets_of(alloc, field)? {
+            Ok(octets) => Ok(Ok(Asked::Good(Term::General(octets)))),
+            Err(refusal) => Ok(Err(refusal)),
+        };
+    }
+    if number == 215 {
+        return match integer_of(field) {
+            Ok(value) => Ok(Ok(Asked::Good(Term::Number(value)))),
+            Err(refusal) => Ok(Err(refusal)),
+        };
+    }
+    if number == 216 {
+        return match octets_of(alloc, field)? {
+            Ok(octets) => Ok(Ok(Asked::Good(Term::Words(octets)))),
+            Err(refusal) => Ok(Err(refusal)),
+        };
+    }
+    Ok(Ok(Asked::Bad(other_form(alloc, number)?)))
+}
+
+/// A term, which has to be there.
+fn required_term(alloc: Global, fields: &Fields<'_>) -> Result<Result<Asked<Term>, Refusal>, Memory>
+    ensures { IfOk result (λ read. read ≡ required_of 45 term_choice term_of fields.now) }
+{
+    match fields.first_of(&term_choice()) {
+        Some(field) => term_of(alloc, &field),
+        None => Ok(Err(Refusal::Missing(45))),
+    }
+}
+
+/// Whether attributes stand before a term, where one of the two is there.
+fn is_attributes_first(found: Option<Field<'_>>) -> bool
+    ensures { result ≡ is_attributes_first found.entry }
+{
+    match found {
+        Some(field) => field.tag().number == 44,
+        None => true,
+    }
+}
+
+/// Attributes and a term, or the first from the left that is not served.
+fn operand_asked(
+    attributes_first: bool,
+    attrs: Asked<List<Attr>>,
+    term: Asked<Term>,
+) -> Asked<(List<Attr>, Term)>
+    ensures { result ≡ operand_asked attributes_first (attrs, term) }
+{
+    match attrs {
+        Asked::Good(attrs) => match term {
+            Asked::Good(term) => Asked::Good((attrs, term)),
+            Asked::Bad(diag) => Asked::Bad(diag),
+        },
+        Asked::Bad(diag) => match term {
+            Asked::Good(_) => Asked::Bad(diag),
+            Asked::Bad(other) => {
+                if attributes_first {
+                    Asked::Bad(diag)
+                } else {
+                    Asked::Bad(other)
+                }
+            }
+        },
+    }
+}
+
+/// The attributes and the term of these fields.
+#[tactic(auto, unfolding(unit_forms::specs::Reading::Attributes::attrs_and_term_in))]
+pub fn attrs_and_term_in(
+    alloc: Global,
+    fields: &Fields<'_>,
+) -> Result<Result<Asked<(List<Attr>, Term)>, Refusal>, Memory>
+    ensures { IfOk result (λ read. read ≡ attrs_and_term_in fields.now) }
+{
+    let [general, numeric, words, a, b, c, d, e] = term_choice();
+    let choice = [context(44), general, numeric, words, a, b, c, d, e];
+    let attributes_first = is_attributes_first(fields.first_of(&choice));
+    let attrs = required_attrs(alloc, fields)?;
+    let term = required_term(alloc, fields)?;
+    match both(attrs, term) {
+        Ok((attrs, term)) => Ok(Ok(operand_asked(attributes_first, attrs, term))),
+        Err(refusal) => Ok(Err(refusal)),
+    }
+}

@@ -1,0 +1,129 @@
+//! Diagnostics (ANSI/NISO Z39.50-2003, DefaultDiagFormat), and those of forms that are not served.
+
+ghost use Rattle.std.specs.Prelude.{◌≡◌, [], ◌∷◌, IfOk};
+ghost use Rattle.std.specs.Fmt.{decimal};
+ghost use Rattle.unit_forms.specs.Reading.Rows.{octets_of as octets_in_field, number_of as number_in_field, universal as universal_tag, required_of};
+ghost use Rattle.unit_forms.specs.Reading.Diagnostics.{diag_in, diag_of, other_query_type, other_form, proximity, specific_names, complex_composition, additional_ranges};
+
+use crate::each::Part;
+use std::alloc::Global;
+use unit_forms::Refusal;
+use z_fields::{Field, Fields, both, number_of, octets_of, required_oid, universal};
+use z_types::{Condition, Diag, Memory, Text};
+
+/// The condition of a diagnostic.
+fn condition_in(fields: &Fields<'_>) -> Result<u32, Refusal>
+    ensures { result ≡ required_of 2 (universal_tag 2 ∷ []) number_in_field fields.now }
+{
+    match fields.first_of(&[universal(2)]) {
+        Some(field) => number_of(&field),
+        None => Err(Refusal::Missing(2)),
+    }
+}
+
+/// The additional information, a VisibleString or a GeneralString.
+fn addinfo_in(alloc: Global, fields: &Fields<'_>) -> Result<Result<Text, Refusal>, Memory>
+    ensures { IfOk result
+        (λ read. read ≡ required_of 27 (universal_tag 26 ∷ universal_tag 27 ∷ []) octets_in_field fields.now) }
+{
+    match fields.first_of(&[universal(26), universal(27)]) {
+        Some(field) => octets_of(alloc, &field),
+        None => Ok(Err(Refusal::Missing(27))),
+    }
+}
+
+/// The diagnostic of these fields.
+#[tactic(auto, unfolding(unit_forms::specs::Reading::Diagnostics::diag_in))]
+fn diag_in(alloc: Global, fields: &Fields<'_>) -> Result<Result<Diag, Refusal>, Memory>
+    ensures { IfOk result (λ read. read ≡ diag_in fields.now) }
+{
+    let set = required_oid(alloc, fields)?;
+    let condition = condition_in(fields);
+    let addinfo = addinfo_in(alloc, fields)?;
+    match both(set, both(condition, addinfo)) {
+        Ok((set, (condition, addinfo))) => Ok(Ok(Diag {
+            set,
+            condition,
+            addinfo,
+        })),
+        Err(refusal) => Ok(Err(refusal)),
+    }
+}
+
+/// A diagnostic, in its own tag or another.
+pub fn diag_of(alloc: Global, field: &Field<'_>) -> Result<Result<Diag, Refusal>, Memory>
+    ensures { IfOk result (λ read. read ≡ diag_of field.now) }
+{
+    let tag = field.tag();
+    if tag.constructed {
+        diag_in(alloc, &Fields::of(alloc, field))
+    } else {
+        Ok(Err(Refusal::BadValue(tag.number)))
+    }
+}
+
+impl Part for Diag {
+    ghost use Rattle.unit_forms.specs.Reading.Diagnostics.{diag_of as diag_of_field};
+
+    ghost reading = { diag_of_field };
+
+    fn read(alloc: Global, field: &Field<'_>) -> Result<Result<Diag, Refusal>, Memory> {
+        diag_of(alloc, field)
+    }
+}
+
+/// The decimal text of a number.
+fn decimal_text(alloc: Global, number: u32) -> Result<Text, Memory>
+    ensures { IfOk result (λ text. text ≡ decimal number) }
+{
+    let text = format!(in alloc; "{number}")?;
+    Ok(Text::from_vec(text.into_bytes()))
+}
+
+/// That a query is of another type than 1 and 101.
+pub fn other_query_type(alloc: Global, number: u32) -> Result<Diag, Memory>
+    ensures { IfOk result (λ diag. diag ≡ other_query_type number) }
+{
+    let addinfo = decimal_text(alloc, number)?;
+    Diag::bib1(alloc, Condition::QueryTypeNotSupported, addinfo)
+}
+
+/// That an operand, a value or a term is of a form that is not served.
+pub fn other_form(alloc: Global, number: u32) -> Result<Diag, Memory>
+    ensures { IfOk result (λ diag. diag ≡ other_form number) }
+{
+    let addinfo = decimal_text(alloc, number)?;
+    Diag::bib1(alloc, Condition::MalformedQuery, addinfo)
+}
+
+/// That an operator is prox.
+pub fn proximity(alloc: Global) -> Result<Diag, Memory>
+    ensures { IfOk result (λ diag. diag ≡ proximity) }
+{
+    let addinfo = Text::copy_of(alloc, b"prox")?;
+    Diag::bib1(alloc, Condition::OperatorUnsupported, addinfo)
+}
+
+/// That element set names are told by database.
+pub fn specific_names(alloc: Global) -> Result<Diag, Memory>
+    ensures { IfOk result (λ diag. diag ≡ specific_names) }
+{
+    let addinfo = Text::copy_of(alloc, b"specific")?;
+    Diag::bib1(alloc, Condition::ElementSetNameNotValid, addinfo)
+}
+
+/// That a composition is not simple.
+pub fn complex_composition(alloc: Global) -> Result<Diag, Memory>
+    ensures { IfOk result (λ diag. diag ≡ complex_composition) }
+{
+    let addinfo = Text::copy_of(alloc, b"complex")?;
+    Diag::bib1(alloc, Condition::ElementSetNameNotValid, addinfo)
+}
+
+/// That there are additional ranges.
+pub fn additional_ranges(alloc: Global) -> Result<Diag, Memory>
+    ensures { IfOk result (λ diag. diag ≡ additional_ranges) }
+{
+    let addinfo = Text::copy_of(alloc, b"ranges")?;
+    Diag::bib1(alloc, Condition::PresentRequestOutOfRange, addinfo)
+}

@@ -1,0 +1,34 @@
+//! An Init, and the fields of its answer (ANSI/NISO Z39.50-2003, InitializeRequest, InitializeResponse).
+
+ghost use Rattle.std.specs.Prelude.{◌≡◌, IfOk};
+ghost use Rattle.unit_forms.specs.Reading.InitRequest.{init_in};
+
+use std::alloc::Global;
+use unit_forms::Refusal;
+use z_fields::{Fields, both, optional_octets, required_bits, required_number};
+use z_types::{Init, Memory};
+
+/// The Init of these fields.
+#[tactic(auto, unfolding(unit_forms::specs::Reading::InitRequest::init_in))]
+pub fn init_in(alloc: Global, fields: &Fields<'_>) -> Result<Result<Init, Refusal>, Memory>
+    ensures { IfOk result (λ read. read ≡ init_in fields.now) }
+{
+    let ref_id = optional_octets(alloc, fields, 2)?;
+    let versions = required_bits(fields, 3);
+    let options = required_bits(fields, 4);
+    let preferred = required_number(fields, 5);
+    let exceptional = required_number(fields, 6);
+    match both(
+        ref_id,
+        both(versions, both(options, both(preferred, exceptional))),
+    ) {
+        Ok((ref_id, (versions, (options, (preferred, exceptional))))) => Ok(Ok(Init {
+            ref_id,
+            versions,
+            options,
+            preferred,
+            exceptional,
+        })),
+        Err(refusal) => Ok(Err(refusal)),
+    }
+}

@@ -1,0 +1,233 @@
+//! Queries (ANSI/NISO Z39.50-2003, Query, RPNQuery, RPNStructure).
+
+ghost use Rattle.std.specs.Prelude.{◌≡◌, ◌||◌, IfOk};
+ghost use Rattle.unit_forms.specs.Reading.Elements.{has_tag};
+ghost use Rattle.unit_forms.specs.Reading.Rows.{context as context_tag};
+ghost use Rattle.unit_forms.specs.Reading.Queries.{operand_of, operand_in, operator_of, operator_in, joined, join_asked, joined_of, set_of, rpn_query_in, query_of, query_in};
+ghost use Rattle.z_read.specs.Structures.{structure_of};
+
+use crate::attributes::attrs_and_term_in;
+use crate::diagnostics::{other_form, other_query_type, proximity};
+use std::alloc::Global;
+use unit_forms::{Operator, Refusal};
+use z_ber::Tag;
+use z_fields::{Elements, Field, Fields, both, context, has_tag, octets_of, oid_of, universal};
+use z_types::{Asked, Memory, Oid, Rpn, RpnQuery};
+
+/// An operand: attributes and a term, the name of a result set, or a form that is not served.
+fn operand_of(alloc: Global, field: &Field<'_>) -> Result<Result<Asked<Rpn>, Refusal>, Memory>
+    ensures { IfOk result (λ read. read ≡ operand_of field.now) }
+{
+    let tag = field.tag();
+    if tag.number == 102 {
+        if !tag.constructed {
+            return Ok(Err(Refusal::BadValue(tag.number)));
+        }
+        return match attrs_and_term_in(alloc, &Fields::of(alloc, field))? {
+            Ok(Asked::Good((attrs, term))) => Ok(Ok(Asked::Good(Rpn::leaf(attrs, term)))),
+            Ok(Asked::Bad(diag)) => Ok(Ok(Asked::Bad(diag))),
+            Err(refusal) => Ok(Err(refusal)),
+        };
+    }
+    if tag.number == 31 {
+        return match octets_of(alloc, field)? {
+            Ok(name) => Ok(Ok(Asked::Good(Rpn::operand(name)))),
+            Err(refusal) => Ok(Err(refusal)),
+        };
+    }
+    Ok(Ok(Asked::Bad(other_form(alloc, tag.number)?)))
+}
+
+/// The operand among elements.
+#[tactic(auto, unfolding(unit_forms::specs::Reading::Queries::operand_in))]
+fn operand_in(alloc: Global, elements: Elements<'_>) -> Result<Result<Asked<Rpn>, Refusal>, Memory>
+    ensures { IfOk result (λ read. read ≡ operand_in elements.entry) }
+{
+    match elements.first_of(&[context(102), context(31), context(214)]) {
+        Some(field) => operand_of(alloc, &field),
+        None => Ok(Err(Refusal::Missing(102))),
+    }
+}
+
+/// An operator; prox is not served.
+fn operator_of(alloc: Global, field: &Field<'_>) -> Result<Asked<Operator>, Memory>
+    ensures { IfOk result (λ read. Ok read ≡ operator_of field.now) }
+{
+    match field.tag().number {
+        0 => Ok(Asked::Good(Operator::And)),
+        1 => Ok(Asked::Good(Operator::Or)),
+        2 => Ok(Asked::Good(Operator::AndNot)),
+        _ => Ok(Asked::Bad(proximity(alloc)?)),
+    }
+}
+
+/// The operator among the elements of a structure.
+#[tactic(auto, unfolding(unit_forms::specs::Reading::Queries::operator_in))]
+fn operator_in(
+    alloc: Global,
+    elements: Elements<'_>,
+) -> Result<Result<Asked<Operator>, Refusal>, Memory>
+    ensures { IfOk result (λ read. read ≡ operator_in elements.entry) }
+{
+    let Some(field) = elements.first_of(&[context(46)]) else {
+        return Ok(Err(Refusal::Missing(46)));
+    };
+    if !field.tag().constructed {
+        return Ok(Err(Refusal::BadValue(field.tag().number)));
+    }
+    let choice = [context(0), context(1), context(2), context(3)];
+    match field.elements().first_of(&choice) {
+        Some(operator) => Ok(Ok(operator_of(alloc, &operator)?)),
+        None => Ok(Err(Refusal::Missing(0))),
+    }
+}
+
+/// Two structures that an operator joins.
+fn joined(alloc: Global, left: Rpn, right: Rpn, operator: Operator) -> Result<Rpn, Memory>
+    ensures { IfOk result (λ query. query ≡ joined (left, (right, operator))) }
+{
+    match operator {
+        Operator::And => Rpn::and(alloc, left, right),
+        Operator::Or => Rpn::or(alloc, left, right),
+        Operator::AndNot => Rpn::and_not(alloc, left, right),
+    }
+}
+
+/// Two structures and an operator, or the first from the left that is not served.
+fn join_asked(
+    alloc: Global,
+    left: Asked<Rpn>,
+    right: Asked<Rpn>,
+    operator: Asked<Operator>,
+) -> Result<Asked<Rpn>, Memory>
+    ensures { IfOk result (λ asked. asked ≡ join_asked (left, (right, operator))) }
+{
+    match left {
+        Asked::Good(left) => match right {
+            Asked::Good(right) => match operator {
+                Asked::Good(operator) => Ok(Asked::Good(joined(alloc, left, right, operator)?)),
+                Asked::Bad(diag) => Ok(Asked::Bad(diag)),
+            },
+            Asked::Bad(diag) => Ok(Asked::Bad(diag)),
+        },
+        Asked::Bad(diag) => Ok(Asked::Bad(diag)),
+    }
+}
+
+/// Two structures and an operator, each read or refused.
+fn joined_of(
+    alloc: Global,
+    left: Result<Asked<Rpn>, Refusal>,
+    right: Result<Asked<Rpn>, Refusal>,
+    operator: Result<Asked<Operator>, Refusal>,
+) -> Result<Result<Asked<Rpn>, Refusal>, Memory>
+    ensures { IfOk result (λ read. read ≡ joined_of left right operator) }
+{
+    match both(left, both(right, operator)) {
+        Ok((left, (right, operator))) => Ok(Ok(join_asked(alloc, left, right, operator)?)),
+        Err(refusal) => Ok(Err(refusal)),
+    }
+}
+
+/// Whether a tag is one that a structure has.
+fn is_structure(tag: Tag) -> bool
+    ensures { result ≡ has_tag tag (context_tag 0) || has_tag tag (context_tag 1) }
+{
+    has_tag(tag, context(0)) || has_tag(tag, context(1))
+}
+
+/// The structure that an element is: an operand, or two structures and an operator.
+#[tactic(auto, using(crate::proofs::StructureLemmas::structure_steps))]
+fn structure_of(
+    alloc: Global,
+    found: Option<Field<'_>>,
+) -> Result<Result<Asked<Rpn>, Refusal>, Memory>
+    ensures { IfOk result (λ read. read ≡ structure_of found.entry) }
+{
+    let Some(field) = found else {
+        return Ok(Err(Refusal::Missing(0)));
+    };
+    let tag = field.tag();
+    if !is_structure(tag) {
+        return Ok(Err(Refusal::Missing(0)));
+    }
+    if !tag.constructed {
+        return Ok(Err(Refusal::BadValue(tag.number)));
+    }
+    if tag.number == 0 {
+        return operand_in(alloc, field.elements());
+    }
+    let mut elements = field.elements();
+    let first = elements.next();
+    let second = elements.next();
+    let left = structure_of(alloc, first)?;
+    let right = structure_of(alloc, second)?;
+    let operator = operator_in(alloc, field.elements())?;
+    Ok(joined_of(alloc, left, right, operator)?)
+}
+
+/// The attribute set that the first element of a query is.
+fn set_of(alloc: Global, found: Option<Field<'_>>) -> Result<Result<Oid, Refusal>, Memory>
+    ensures { IfOk result (λ read. read ≡ set_of found.entry) }
+{
+    match found {
+        Some(field) => {
+            if has_tag(field.tag(), universal(6)) {
+                oid_of(alloc, &field)
+            } else {
+                Ok(Err(Refusal::Missing(6)))
+            }
+        }
+        None => Ok(Err(Refusal::Missing(6))),
+    }
+}
+
+/// A query of type 1 or 101, by the places of its elements.
+#[tactic(auto, using(crate::proofs::StructureLemmas::second_structure), unfolding(unit_forms::specs::Reading::Queries::rpn_query_in))]
+fn rpn_query_in(
+    alloc: Global,
+    mut elements: Elements<'_>,
+) -> Result<Result<Asked<RpnQuery>, Refusal>, Memory>
+    ensures { IfOk result (λ read. read ≡ rpn_query_in elements.entry) }
+{
+    let first = elements.next();
+    let second = elements.next();
+    let set = set_of(alloc, first)?;
+    let root = structure_of(alloc, second)?;
+    match both(set, root) {
+        Ok((attr_set, root)) => match root {
+            Asked::Good(root) => Ok(Ok(Asked::Good(RpnQuery { attr_set, root }))),
+            Asked::Bad(diag) => Ok(Ok(Asked::Bad(diag))),
+        },
+        Err(refusal) => Ok(Err(refusal)),
+    }
+}
+
+/// A query of some type; those other than 1 and 101 are not served.
+fn query_of(alloc: Global, field: &Field<'_>) -> Result<Result<Asked<RpnQuery>, Refusal>, Memory>
+    ensures { IfOk result (λ read. read ≡ query_of field.now) }
+{
+    let tag = field.tag();
+    if tag.number != 1 && tag.number != 101 {
+        return Ok(Ok(Asked::Bad(other_query_type(alloc, tag.number)?)));
+    }
+    if tag.constructed {
+        rpn_query_in(alloc, field.elements())
+    } else {
+        Ok(Err(Refusal::BadValue(tag.number)))
+    }
+}
+
+/// The query among elements: the first of the context class.
+#[tactic(auto, unfolding(unit_forms::specs::Reading::Queries::query_in))]
+pub fn query_in(
+    alloc: Global,
+    elements: Elements<'_>,
+) -> Result<Result<Asked<RpnQuery>, Refusal>, Memory>
+    ensures { IfOk result (λ read. read ≡ query_in elements.entry) }
+{
+    match elements.first_context() {
+        Some(field) => query_of(alloc, &field),
+        None => Ok(Err(Refusal::Missing(1))),
+    }
+}

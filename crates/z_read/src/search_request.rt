@@ -1,0 +1,157 @@
+//! A Search (ANSI/NISO Z39.50-2003, SearchRequest).
+
+ghost use Rattle.std.specs.Prelude.{◌≡◌, IfOk};
+ghost use Rattle.unit_forms.specs.Reading.Answers.{read_as};
+ghost use Rattle.unit_forms.specs.Reading.Rows.{oid_of, required, optional, within};
+ghost use Rattle.unit_forms.specs.Reading.Queries.{query_in};
+ghost use Rattle.unit_forms.specs.Reading.SearchRequest.{name_in, with_names, bounds_in, named_in, wanted_in, as_search, search_in};
+
+use crate::element_names::optional_names;
+use crate::lists::required_databases;
+use crate::queries::query_in;
+use std::alloc::Global;
+use unit_forms::Refusal;
+use z_fields::{
+    Fields, both, context, optional_octets, optional_oid, required_flag, required_number,
+    required_octets,
+};
+use z_types::{Asked, List, Memory, Oid, RpnQuery, Search, Text};
+
+/// The referenceId, and the three bounds.
+type Bounds = (Option<Text>, (u32, (u32, u32)));
+
+/// The replace indicator, the result set's name and the databases.
+type Named = (bool, (Text, List<Text>));
+
+/// The element set names of a small and of a medium set, the syntax and the query.
+type Wanted = (
+    Option<Asked<Text>>,
+    (Option<Asked<Text>>, (Option<Oid>, Asked<RpnQuery>)),
+);
+
+/// The parts of a Search.
+type Parts = (Bounds, (Named, Wanted));
+
+/// The referenceId and the bounds of a Search.
+#[tactic(auto, unfolding(unit_forms::specs::Reading::SearchRequest::bounds_in))]
+fn bounds_in(alloc: Global, fields: &Fields<'_>) -> Result<Result<Bounds, Refusal>, Memory>
+    ensures { IfOk result (λ read. read ≡ bounds_in fields.now) }
+{
+    let ref_id = optional_octets(alloc, fields, 2)?;
+    let small = required_number(fields, 13);
+    let large = required_number(fields, 14);
+    let medium = required_number(fields, 15);
+    Ok(both(ref_id, both(small, both(large, medium))))
+}
+
+/// The result set and the databases of a Search.
+#[tactic(auto, unfolding(unit_forms::specs::Reading::SearchRequest::named_in))]
+fn named_in(alloc: Global, fields: &Fields<'_>) -> Result<Result<Named, Refusal>, Memory>
+    ensures { IfOk result (λ read. read ≡ named_in fields.now) }
+{
+    let replace = required_flag(fields, 16);
+    let set_name = required_octets(alloc, fields, 17)?;
+    let dbs = required_databases(alloc, fields, 18)?;
+    Ok(both(replace, both(set_name, dbs)))
+}
+
+/// The query, which has to be there.
+fn required_query(
+    alloc: Global,
+    fields: &Fields<'_>,
+) -> Result<Result<Asked<RpnQuery>, Refusal>, Memory>
+    ensures { IfOk result (λ read. read ≡ required 21 (within query_in) fields.now) }
+{
+    match fields.first_of(&[context(21)]) {
+        Some(field) => {
+            if field.tag().constructed {
+                query_in(alloc, field.elements())
+            } else {
+                Ok(Err(Refusal::BadValue(field.tag().number)))
+            }
+        }
+        None => Ok(Err(Refusal::Missing(21))),
+    }
+}
+
+/// The syntax of records that is preferred, where one is.
+fn optional_syntax(
+    alloc: Global,
+    fields: &Fields<'_>,
+) -> Result<Result<Option<Oid>, Refusal>, Memory>
+    ensures { IfOk result (λ read. read ≡ optional 104 oid_of fields.now) }
+{
+    optional_oid(alloc, fields, context(104))
+}
+
+/// The other fields of a Search.
+#[tactic(auto, unfolding(unit_forms::specs::Reading::SearchRequest::wanted_in))]
+fn wanted_in(alloc: Global, fields: &Fields<'_>) -> Result<Result<Wanted, Refusal>, Memory>
+    ensures { IfOk result (λ read. read ≡ wanted_in fields.now) }
+{
+    let small = optional_names(alloc, fields, 100)?;
+    let medium = optional_names(alloc, fields, 101)?;
+    let syntax = optional_syntax(alloc, fields)?;
+    let query = required_query(alloc, fields)?;
+    Ok(both(small, both(medium, both(syntax, query))))
+}
+
+/// The query, or the diagnostic of element set names that are not served.
+fn with_names(names: Option<Asked<Text>>, query: Asked<RpnQuery>) -> (Option<Text>, Asked<RpnQuery>)
+    ensures name { result.0 ≡ name_in names }
+    ensures query { result.1 ≡ with_names names query }
+{
+    match names {
+        Some(Asked::Good(name)) => (Some(name), query),
+        Some(Asked::Bad(diag)) => match query {
+            Asked::Good(_) => (None, Asked::Bad(diag)),
+            Asked::Bad(first) => (None, Asked::Bad(first)),
+        },
+        None => (None, query),
+    }
+}
+
+/// The Search of its fields.
+fn as_search(parts: Parts) -> Search
+    ensures { result ≡ as_search parts }
+{
+    let (bounds, (named, wanted)) = parts;
+    let (ref_id, (small, (large, medium))) = bounds;
+    let (replace, (set_name, dbs)) = named;
+    let (small_names, (medium_names, (syntax, query))) = wanted;
+    let (small_element, query) = with_names(small_names, query);
+    let (medium_element, query) = with_names(medium_names, query);
+    Search {
+        ref_id,
+        small,
+        large,
+        medium,
+        replace,
+        set_name,
+        dbs,
+        small_element,
+        medium_element,
+        syntax,
+        query,
+    }
+}
+
+/// The parts of the Search of these fields.
+fn parts_in(alloc: Global, fields: &Fields<'_>) -> Result<Result<Parts, Refusal>, Memory>
+    ensures { IfOk result (λ read. read_as as_search read ≡ search_in fields.now) }
+{
+    let bounds = bounds_in(alloc, fields)?;
+    let named = named_in(alloc, fields)?;
+    let wanted = wanted_in(alloc, fields)?;
+    Ok(both(bounds, both(named, wanted)))
+}
+
+/// The Search of these fields.
+pub fn search_in(alloc: Global, fields: &Fields<'_>) -> Result<Result<Search, Refusal>, Memory>
+    ensures { IfOk result (λ read. read ≡ search_in fields.now) }
+{
+    match parts_in(alloc, fields)? {
+        Ok(parts) => Ok(Ok(as_search(parts))),
+        Err(refusal) => Ok(Err(refusal)),
+    }
+}
