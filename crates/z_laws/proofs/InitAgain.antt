@@ -1,0 +1,52 @@
+-- An Init that is written is read again, as a request and in its response.
+use Rattle.std.proofs.Common.{◌≡◌, ◌∙◌, ◌^◌, ◌<◌, pos, [], ◌∷◌, None, Ok, lit<, sym, ap, refl}
+use Rattle.z_types.specs.declared.requests.Init.{Init}
+use Rattle.z_ber.specs.Element.{Forest, none, leaf}
+use Rattle.z_ber.specs.Written.{int_octets, bits_octets}
+use Rattle.unit_forms.specs.Fields.{primitive}
+use Rattle.unit_forms.specs.Requests.{init_fields}
+use Rattle.unit_forms.specs.Reading.Elements.{first_of}
+use Rattle.unit_forms.specs.Reading.Rows.{octets_of, number_of, bits_of, context, required, optional}
+use Rattle.unit_forms.specs.Reading.InitRequest.{init_in}
+use Rattle.z_laws.specs.Readable.{IsReadableInit}
+use Rattle.z_laws.proofs.Beginning.{joined, joined-none, Spells}
+use Rattle.z_laws.proofs.Lookup.{maybe_leaf, or_else-none, first_of-joined, first_of-maybe_leaf}
+use Rattle.z_laws.proofs.Parts.{◌⊕◌, spells-primitive, spells-maybe, number_once, bits_once, octets_if}
+
+-- the elements of an Init
+abbrev pub init_forest : Init → Forest
+init_forest init =
+    joined (joined (joined (joined (maybe_leaf (primitive 2) (λ x. x) init.ref_id)
+    (leaf (primitive 3) (bits_octets init.versions) none))
+    (leaf (primitive 4) (bits_octets init.options) none))
+    (leaf (primitive 5) (int_octets (pos init.preferred)) none))
+    (leaf (primitive 6) (int_octets (pos init.exceptional)) none)
+
+pub spells-init_fields : (init : Init) → Spells (init_fields init) (init_forest init)
+unfolding init_fields
+spells-init_fields init =
+    spells-maybe 2 (λ x. x) init.ref_id (lit< tt) ⊕ spells-primitive 3 _ (lit< tt) ⊕ spells-primitive 4 _ (lit< tt) ⊕ spells-primitive 5 _ (lit< tt) ⊕ spells-primitive 6 _ (lit< tt)
+
+init-ref_id : (init : Init) (rest : Forest) → first_of (context 2 ∷ []) rest ≡ None → optional 2 octets_of (joined (init_forest init) rest) ≡ Ok init.ref_id
+init-ref_id init rest h = simp (first_of-joined, first_of-maybe_leaf, h, or_else-none) (octets_if 2 init.ref_id)
+
+init-versions : (init : Init) (rest : Forest) → init.versions < 2 ^ 32 → required 3 bits_of (joined (init_forest init) rest) ≡ Ok init.versions
+init-versions init rest small = simp (first_of-joined, first_of-maybe_leaf) (bits_once 3 init.versions small)
+
+init-options : (init : Init) (rest : Forest) → init.options < 2 ^ 32 → required 4 bits_of (joined (init_forest init) rest) ≡ Ok init.options
+init-options init rest small = simp (first_of-joined, first_of-maybe_leaf) (bits_once 4 init.options small)
+
+init-preferred : (init : Init) (rest : Forest) → init.preferred < 2 ^ 31 → required 5 number_of (joined (init_forest init) rest) ≡ Ok init.preferred
+init-preferred init rest small = simp (first_of-joined, first_of-maybe_leaf) (number_once 5 init.preferred small)
+
+init-exceptional : (init : Init) (rest : Forest) → init.exceptional < 2 ^ 31 → required 6 number_of (joined (init_forest init) rest) ≡ Ok init.exceptional
+init-exceptional init rest small = simp (first_of-joined, first_of-maybe_leaf) (number_once 6 init.exceptional small)
+
+-- whatever follows that has no referenceId
+pub init_in-more : (init : Init) (rest : Forest) → first_of (context 2 ∷ []) rest ≡ None → IsReadableInit init → init_in (joined (init_forest init) rest) ≡ Ok init
+unfolding init_in
+init_in-more init rest none_there h =
+    rw (init-ref_id init rest none_there, init-versions init rest h.versions, init-options init rest h.options, init-preferred init rest h.preferred, init-exceptional init rest h.exceptional) refl
+
+pub init_in-again : (init : Init) → IsReadableInit init → init_in (init_forest init) ≡ Ok init
+init_in-again init h = ap init_in (sym (joined-none (init_forest init))) ∙ init_in-more init none refl h

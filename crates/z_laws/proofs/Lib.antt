@@ -1,0 +1,17 @@
+pub mod AttributesAgain
+pub mod Beginning
+pub mod CloseAgain
+pub mod DiagnosticsAgain
+pub mod InitAgain
+pub mod Lookup
+pub mod NamesAgain
+pub mod Parts
+pub mod PresentAgain
+pub mod QueryAgain
+pub mod RecordsAgain
+pub mod ReplyAgain
+pub mod RequestAgain
+pub mod ScanAgain
+pub mod ScanReplyAgain
+pub mod SearchAgain
+pub mod Values
