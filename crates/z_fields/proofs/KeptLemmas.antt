@@ -34,7 +34,7 @@ no : {P : Type 0} (b : Bool) → b ≡ true → b ≡ false → P
 no b e f = absurd (grind arith)
 
 -- a tag that is not wanted is in no choice of wanted tags
-unwanted : (wanted choice : List Tag) (tag : Tag) → are_wanted wanted choice ≡ true → is_one_of wanted tag ≡ false → is_one_of choice tag ≡ false
+pub unwanted : (wanted choice : List Tag) (tag : Tag) → are_wanted wanted choice ≡ true → is_one_of wanted tag ≡ false → is_one_of choice tag ≡ false
 unwanted wanted [] tag all not_one = refl
 unwanted wanted (w ∷ choice) tag all not_one =
     let p = and_both (is_one_of wanted w) (are_wanted wanted choice) all in

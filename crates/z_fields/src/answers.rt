@@ -6,6 +6,7 @@ ghost use Rattle.unit_forms.specs.Reading.Answers.{◌⊗◌};
 use unit_forms::{Refusal, first_refusal};
 
 /// Both values, or the refusal that is told.
+#[inline(always)]
 pub fn both<A: Drop, B: Drop>(
     first: Result<A, Refusal>,
     second: Result<B, Refusal>,

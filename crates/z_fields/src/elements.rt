@@ -48,6 +48,7 @@ impl<'a> Model for Elements<'a> {
 }
 
 /// Lends the next child of an element whose children are whole.
+#[inline(always)]
 fn take<'a>(lent: &mut Element<'a>) -> Option<Element<'a>>
     requires { AreWhole lent.old.levels lent.old.left }
     ensures { IsTaken lent.old lent.new result }
@@ -73,6 +74,7 @@ impl<'a> Field<'a> {
     }
 
     /// The tag.
+    #[inline(always)]
     pub fn tag(&self) -> Tag
         ensures { result ≡ self.now.tag }
     {
@@ -80,6 +82,7 @@ impl<'a> Field<'a> {
     }
 
     /// The contents octets, without the end of contents of an indefinite element.
+    #[inline(always)]
     pub fn contents(&self) -> &'a [u8]
         ensures { result.now ≡ self.now.contents }
     {
@@ -87,6 +90,7 @@ impl<'a> Field<'a> {
     }
 
     /// The elements in it, from the first on.
+    #[inline(always)]
     pub fn elements(&self) -> Elements<'a>
         ensures { result ≡ self.now.inner }
     {
@@ -96,6 +100,7 @@ impl<'a> Field<'a> {
     }
 
     /// The same field again.
+    #[inline(always)]
     pub fn again(&self) -> Field<'a>
         ensures { result ≡ self.now }
     {
@@ -106,6 +111,7 @@ impl<'a> Field<'a> {
 }
 
 /// Whether the class and number of a tag are the wanted ones.
+#[inline(always)]
 pub fn has_tag(tag: Tag, wanted: Tag) -> bool
     ensures { result ≡ has_tag tag wanted }
 {
@@ -124,6 +130,7 @@ pub fn is_one_of(choice: &[Tag], tag: Tag) -> bool
 
 impl<'a> Elements<'a> {
     /// Takes the first element, or answers `None` where none is left.
+    #[inline(always)]
     pub fn next(&mut self) -> Option<Field<'a>>
         ensures first { result ≡ first_element self.old }
         ensures others { self.new ≡ other_elements self.old }
@@ -136,6 +143,7 @@ impl<'a> Elements<'a> {
 
     /// The first element whose tag is one of these.
     #[tactic(auto, using(crate::proofs::FirstLemmas::first_steps))]
+    #[inline(always)]
     pub fn first_of(mut self, choice: &[Tag]) -> Option<Field<'a>>
         ensures { result ≡ first_of choice.now self.entry }
     {

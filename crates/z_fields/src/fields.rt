@@ -37,13 +37,15 @@ impl<'a> Model for Fields<'a> {
 fn first_kept<'a>(kept: &[Field<'a>], choice: &[Tag]) -> Option<Field<'a>>
     ensures { result ≡ first_kept choice.now kept.now }
 {
-    match kept {
-        [] => None,
-        [field, rest @ ..] => {
-            if is_one_of(choice, field.tag()) {
-                Some(field.again())
-            } else {
-                first_kept(rest, choice)
+    let mut left = kept;
+    loop {
+        match left {
+            [] => return None,
+            [field, rest @ ..] => {
+                if is_one_of(choice, field.tag()) {
+                    return Some(field.again());
+                }
+                left = rest;
             }
         }
     }
@@ -88,7 +90,7 @@ fn firsts<'a>(
 ) -> Result<Vec<Field<'a>>, Memory>
     ensures { IfOk result (λ kept. HasFirsts wanted.now kept.items elements.entry) }
 {
-    let mut kept = Vec::new(alloc);
+    let mut kept = Vec::with_capacity(alloc, wanted.len())?;
     loop {
         match elements.next() {
             None => return Ok(kept),
@@ -100,6 +102,7 @@ fn firsts<'a>(
 impl<'a> Fields<'a> {
     /// The fields of an element, found by a look at each. It takes no memory.
     #[tactic(auto, using(crate::proofs::KeptLemmas::nothing_wanted))]
+    #[inline(always)]
     pub fn of(alloc: Global, field: &Field<'a>) -> Fields<'a>
         ensures { result ≡ field.now.inner }
     {
@@ -127,6 +130,7 @@ impl<'a> Fields<'a> {
     }
 
     /// The first field whose tag is one of these.
+    #[inline(always)]
     pub fn first_of(&self, choice: &[Tag]) -> Option<Field<'a>>
         ensures { result ≡ first_of choice.now self.now }
     {

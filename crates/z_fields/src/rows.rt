@@ -14,6 +14,7 @@ use z_ber::Tag;
 use z_types::{Memory, Oid, Text};
 
 /// The context tag of a number.
+#[inline(always)]
 pub fn context(number: u32) -> Tag
     ensures { result ≡ context_tag number }
 {
@@ -25,6 +26,7 @@ pub fn context(number: u32) -> Tag
 }
 
 /// The universal tag of a number.
+#[inline(always)]
 pub fn universal(number: u32) -> Tag
     ensures { result ≡ universal_tag number }
 {

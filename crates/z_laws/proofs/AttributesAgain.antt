@@ -13,7 +13,8 @@ use Rattle.unit_forms.specs.Reading.Answers.{all_asked, read_as}
 use Rattle.unit_forms.specs.Reading.Rows.{number_of, oid_of, required, required_of, optional}
 use Rattle.unit_forms.specs.Reading.Attributes.{value_choice, value_of, attr_in, attr_of, attrs_in, attrs_of, term_choice, term_of, attrs_and_term_in}
 use Rattle.z_laws.specs.Readable.{IsReadableAttr, IsReadableTerm}
-use Rattle.z_laws.proofs.Beginning.{joined, Spells}
+use Rattle.z_laws.proofs.Beginning.{Spells}
+use Rattle.z_laws.proofs.Forests.{joined}
 use Rattle.z_laws.proofs.Lookup.{maybe_leaf, or_else-none, first_of-joined, first_of-maybe_leaf}
 use Rattle.z_laws.proofs.Parts.{◌⊕◌, spells-primitive, spells-constructed, spells-maybe, branches, spells-branches, number_once, integer_once, oid_if, each-branches}
 

@@ -1,36 +1,19 @@
 -- Octets that are elements wherever elements begin with them.
-use Rattle.std.proofs.Common.{◌≡◌, ◌∙◌, ℕ, zero, suc, ◌^◌, ◌<◌, ◌≤◌, Bool, true, false, cond, lit≤, inl, inr, List, [], ◌++◌, length, Option, Some, None, sym, ap, subst, append_assoc, arith, refl}
-use Rattle.std.specs.Int.Digits.{digits_of}
-use Rattle.std.proofs.lemmas.Int.Digits.{number_digits_of, all_below_base_digits_of, length-digits_of-le}
-use Rattle.std.proofs.lemmas.Bool.{cases_lt}
+use Rattle.std.proofs.Common.{◌≡◌, ◌∙◌, ℕ, zero, suc, ◌^◌, ◌<◌, ◌≤◌, Bool, true, false, cond, List, [], ◌++◌, length, Option, Some, None, sym, ap, subst, append_assoc, arith, refl}
 use Rattle.std.proofs.lemmas.List.{append-nil, length-append}
+use Rattle.std.proofs.Math.Nat.{le_trans}
 use Rattle.z_ber.specs.declared.tag.Tag.{Tag}
-use Rattle.z_ber.specs.Header.{IsHeader, IsLength}
+use Rattle.z_ber.specs.Header.{IsHeader}
 use Rattle.z_ber.specs.Element.{Forest, none, leaf, branch, end_of_contents, IsLeaf, IsBranch, IsInFront, AreElements, IsElement}
 use Rattle.z_ber.specs.Place.{IsUnit}
-use Rattle.z_ber.specs.Written.{IsTag, tag_octets, length_octets, element}
-use Rattle.z_ber.proofs.DigitSteps.{has_digit}
-use Rattle.z_ber.proofs.ElementLaws.{fronts, length_octets-short, length_octets-long}
+use Rattle.z_ber.specs.Written.{IsTag, element}
+use Rattle.z_ber.proofs.ElementLaws.{fronts}
 use Rattle.z_ber.proofs.TreeLaws.{heads_one, head_some, no_leaf, no_branch, none_some}
+use Rattle.z_laws.proofs.Forests.{joined, joined-none, joined-joined, levels, IsLow, joined-left, joined-right, are-joined}
+use Rattle.z_laws.proofs.Heads.{head_of, header-is}
 
 true_false : {P : Type 0} (b : Bool) → b ≡ true → b ≡ false → P
 true_false b p q = absurd cc
-
--- elements, and others behind them
-abbrev pub joined : Forest → Forest → Forest
-joined none after = after
-joined (leaf tag contents others) after = leaf tag contents (joined others after)
-joined (branch tag contents inner others) after = branch tag contents inner (joined others after)
-
-pub joined-none : (f : Forest) → joined f none ≡ f
-joined-none none = refl
-joined-none (leaf tag contents others) = ap (leaf tag contents) (joined-none others)
-joined-none (branch tag contents inner others) = ap (branch tag contents inner) (joined-none others)
-
-pub joined-joined : (f g h : Forest) → joined (joined f g) h ≡ joined f (joined g h)
-joined-joined none g h = refl
-joined-joined (leaf tag contents others) g h = ap (leaf tag contents) (joined-joined others g h)
-joined-joined (branch tag contents inner others) g h = ap (branch tag contents inner) (joined-joined others g h)
 
 -- how a tree goes on that begins with a forest: others, which are what is left of the octets
 pub record GoesOn (levels : ℕ) (rest : List ℕ) (forest tree : Forest) : Type 0 where
@@ -41,11 +24,15 @@ pub record GoesOn (levels : ℕ) (rest : List ℕ) (forest tree : Forest) : Type
 -- wherever elements begin with these octets they begin with this forest
 pub record Spells (octets : List ℕ) (forest : Forest) : Type 0 where
   pub found : (levels : ℕ) (rest : List ℕ) (tree : Forest) → length octets < 2 ^ 64 → AreElements false levels (octets ++ rest) tree → GoesOn levels rest forest tree
+  pub built : (n : ℕ) → levels forest ≤ n → length octets < 2 ^ 64 → AreElements false n octets forest
 
 -- ---- parts
 
 pub spells-nothing : Spells [] none
-spells-nothing = record { found = λ levels rest tree small are. record { others = tree; whole = refl; behind = are } }
+spells-nothing = record {
+  found = λ levels rest tree small are. record { others = tree; whole = refl; behind = are };
+  built = λ n low small. refl;
+}
 
 -- what goes on with one forest and then with another goes on with both
 goes_on-joined : (levels : ℕ) (rest : List ℕ) (f g tree others : Forest) → tree ≡ joined f others → GoesOn levels rest g others → GoesOn levels rest (joined f g) tree
@@ -62,35 +49,13 @@ spells-both a b f g p q = record {
       let first = p.found levels (b ++ rest) tree (omega (arith, length-append a b)) are' in
       let second = q.found levels rest first.others (omega (arith, length-append a b)) first.behind in
       goes_on-joined levels rest f g tree first.others first.whole second;
+  built = λ n low small.
+      let front = p.built n (le_trans (joined-left f g) low) (omega (arith, small, length-append a b)) in
+      let back = q.built n (le_trans (joined-right f g) low) (omega (arith, small, length-append a b)) in
+      are-joined n a b f g front back;
 }
 
 -- ---- an element
-
-length_octets-is : (c : Bool) (n : ℕ) → n < 2 ^ 64 → IsLength c (length_octets n) (Some n)
-length_octets-is c n lt =
-    elim (cases_lt n 128) [
-      | inl low ↦ inl (low, length_octets-short n low)
-      | inr big ↦ inr (record {
-        digits = digits_of 256 n;
-        below = all_below_base_digits_of 256 n (lit≤ tt);
-        some = has_digit 256 n (lit≤ tt) (omega arith);
-        few = length-digits_of-le 256 8 n (lit≤ tt) (omega (arith, lt));
-        number = sym (number_digits_of 256 n (lit≤ tt));
-        spelled = length_octets-long n big;
-      })
-    ]
-
--- the header of a written element
-abbrev head_of : Tag → List ℕ → List ℕ
-head_of tag contents = tag_octets tag ++ length_octets (length contents)
-
-header-is : (tag : Tag) (contents : List ℕ) → IsTag tag → length contents < 2 ^ 64 → IsHeader (head_of tag contents) tag (Some (length contents))
-header-is tag contents valid lt = record {
-  valid = valid;
-  ends = length_octets (length contents);
-  lengths = length_octets-is tag.constructed (length contents) lt;
-  spelled = refl;
-}
 
 element-head : (tag : Tag) (contents rest : List ℕ) → element tag contents ++ rest ≡ head_of tag contents ++ (contents ++ rest)
 unfolding element
@@ -153,9 +118,25 @@ leaf_found t c valid form (suc levels) rest (branch s d inner others) lt are =
     let same = same_tag s t are.here.head c _ rest _ valid lt are.here.header (branch_parts s d _ are) in
     true_false s.constructed are.here.constructed (ap (λ (r : Tag). r.constructed) same.0 ∙ form)
 
+element-parts : (tag : Tag) (contents : List ℕ) → element tag contents ≡ head_of tag contents ++ contents
+unfolding element
+element-parts tag contents = refl
+
+leaf_built : (t : Tag) (c : List ℕ) → IsTag t → t.constructed ≡ false → (n : ℕ) → levels (leaf t c none) ≤ n → length c < 2 ^ 64 → AreElements false n (element t c) (leaf t c none)
+leaf_built t c valid form zero low lt = absurd (omega arith)
+leaf_built t c valid form (suc n) low lt = record {
+  first = element t c;
+  others = [];
+  here = record { primitive = form; head = head_of t c; header = header-is t c valid lt; spelled = element-parts t c };
+  apart = λ e. absurd cc;
+  behind = refl;
+  spelled = sym (append-nil (element t c));
+}
+
 pub spells-leaf : (t : Tag) (c : List ℕ) → IsTag t → t.constructed ≡ false → Spells (element t c) (leaf t c none)
 spells-leaf t c valid form = record {
   found = λ levels rest tree small are. leaf_found t c valid form levels rest tree (omega (arith, small, element-long t c)) are;
+  built = λ n low small. leaf_built t c valid form n low (omega (arith, small, element-long t c));
 }
 
 -- nothing is no elements
@@ -201,19 +182,44 @@ branch_found t c f valid form p (suc levels) rest (branch s d inner others) lt a
       behind = subst (λ (o : List ℕ). AreElements false (suc levels) o others) same.left are.behind;
     }
 
+branch_built : (t : Tag) (c : List ℕ) (f : Forest) → IsTag t → t.constructed ≡ true → Spells c f → (n : ℕ) → levels (branch t c f none) ≤ n → length c < 2 ^ 64 → AreElements false n (element t c) (branch t c f none)
+branch_built t c f valid form p zero low lt = absurd (omega arith)
+branch_built t c f valid form p (suc n) low lt = record {
+  first = element t c;
+  others = [];
+  here = record {
+    constructed = form;
+    indefinite = false;
+    head = head_of t c;
+    header = header-is t c valid lt;
+    inner = p.built n (omega arith) lt;
+    spelled = element-parts t c ∙ sym (append-nil (head_of t c ++ c));
+  };
+  apart = λ e. absurd cc;
+  behind = refl;
+  spelled = sym (append-nil (element t c));
+}
+
 pub spells-branch : (t : Tag) (c : List ℕ) (f : Forest) → IsTag t → t.constructed ≡ true → Spells c f → Spells (element t c) (branch t c f none)
 spells-branch t c f valid form p = record {
   found = λ levels rest tree small are. branch_found t c f valid form p levels rest tree (omega (arith, small, element-long t c)) are;
+  built = λ n low small. branch_built t c f valid form p n low (omega (arith, small, element-long t c));
 }
 
 -- ---- a unit
 
-are_alone : (octets : List ℕ) (tree : Forest) → IsElement 64 octets tree → AreElements false 64 octets tree
-are_alone octets none h = absurd h
-are_alone octets (leaf tag contents others) h = h.1
-are_alone octets (branch tag contents inner others) h = h.1
+pub are_alone : (n : ℕ) (octets : List ℕ) (tree : Forest) → IsElement n octets tree → AreElements false n octets tree
+are_alone n octets none h = absurd h
+are_alone n octets (leaf tag contents others) h = h.1
+are_alone n octets (branch tag contents inner others) h = h.1
 
 -- a unit that is spelled has this tree
 pub unit_tree : (octets : List ℕ) (forest tree : Forest) → Spells octets forest → IsUnit octets tree → tree ≡ forest
 unit_tree octets forest tree p unit =
-    spelled_whole octets forest p 64 tree (omega (arith, unit.small)) (are_alone octets tree unit.element)
+    spelled_whole octets forest p 64 tree (omega (arith, unit.small)) (are_alone 64 octets tree unit.element)
+
+-- octets that are spelled as one constructed element, on 64 levels and of 1048576 octets at most, are a unit
+pub spelled_unit : (octets contents : List ℕ) (tag : Tag) (inner : Forest) → Spells octets (branch tag contents inner none) → IsLow 63 inner → length octets ≤ 1048576 → IsUnit octets (branch tag contents inner none)
+spelled_unit octets contents tag inner p low small =
+    let below = low.within in
+    record { small = small; element = (refl, p.built 64 (omega arith) (omega arith)) }

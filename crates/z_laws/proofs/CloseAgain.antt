@@ -8,7 +8,8 @@ use Rattle.unit_forms.specs.Requests.{close_fields, close_octets}
 use Rattle.unit_forms.specs.Reading.Rows.{octets_of, number_of, required, optional}
 use Rattle.unit_forms.specs.Reading.CloseUnit.{close_in}
 use Rattle.z_laws.specs.Readable.{IsReadableClose}
-use Rattle.z_laws.proofs.Beginning.{joined, Spells}
+use Rattle.z_laws.proofs.Beginning.{Spells}
+use Rattle.z_laws.proofs.Forests.{joined}
 use Rattle.z_laws.proofs.Lookup.{maybe_leaf, or_else-none, first_of-joined, first_of-maybe_leaf}
 use Rattle.z_laws.proofs.Parts.{◌⊕◌, spells-primitive, spells-constructed, spells-maybe, number_once, octets_if}
 

@@ -11,7 +11,8 @@ use Rattle.unit_forms.specs.Reading.Rows.{number_of, universal}
 use Rattle.unit_forms.specs.Reading.Diagnostics.{diag_in, diag_of}
 use Rattle.unit_forms.specs.Reading.Records.{diags_in}
 use Rattle.z_laws.specs.ReadableReplies.{IsReadableDiag}
-use Rattle.z_laws.proofs.Beginning.{joined, Spells, spells-leaf, spells-branch}
+use Rattle.z_laws.proofs.Beginning.{Spells, spells-leaf, spells-branch}
+use Rattle.z_laws.proofs.Forests.{joined}
 use Rattle.z_laws.proofs.Values.{number_in-again}
 use Rattle.z_laws.proofs.Parts.{◌⊕◌, branches, spells-branches, oid_once, each-branches, map-same}
 

@@ -9,7 +9,8 @@ use Rattle.unit_forms.specs.Reading.Elements.{first_of}
 use Rattle.unit_forms.specs.Reading.Rows.{octets_of, number_of, bits_of, context, required, optional}
 use Rattle.unit_forms.specs.Reading.InitRequest.{init_in}
 use Rattle.z_laws.specs.Readable.{IsReadableInit}
-use Rattle.z_laws.proofs.Beginning.{joined, joined-none, Spells}
+use Rattle.z_laws.proofs.Beginning.{Spells}
+use Rattle.z_laws.proofs.Forests.{joined, joined-none}
 use Rattle.z_laws.proofs.Lookup.{maybe_leaf, or_else-none, first_of-joined, first_of-maybe_leaf}
 use Rattle.z_laws.proofs.Parts.{◌⊕◌, spells-primitive, spells-maybe, number_once, bits_once, octets_if}
 

@@ -3,7 +3,7 @@ use Rattle.std.proofs.Common.{◌≡◌, ◌∙◌, ℕ, Bool, true, false, cond
 use Rattle.z_ber.specs.declared.tag.Tag.{Tag}
 use Rattle.z_ber.specs.Element.{Forest, none, leaf, branch}
 use Rattle.unit_forms.specs.Reading.Elements.{Field, field_of, is_one_of, first_of}
-use Rattle.z_laws.proofs.Beginning.{joined}
+use Rattle.z_laws.proofs.Forests.{joined}
 
 -- the first of two where there is one
 abbrev pub or_else : Option Field → Option Field → Option Field

@@ -11,7 +11,8 @@ use Rattle.unit_forms.specs.Fields.{primitive, constructed, optional}
 use Rattle.unit_forms.specs.Reading.Elements.{Field, field_of}
 use Rattle.unit_forms.specs.Reading.Answers.{read_if, read_as, each}
 use Rattle.unit_forms.specs.Reading.Rows.{octets_of, number_of, integer_of, truth_of, bits_of, oid_of}
-use Rattle.z_laws.proofs.Beginning.{joined, Spells, spells-nothing, spells-both, spells-leaf, spells-branch}
+use Rattle.z_laws.proofs.Beginning.{Spells, spells-nothing, spells-both, spells-leaf, spells-branch}
+use Rattle.z_laws.proofs.Forests.{joined}
 use Rattle.z_laws.proofs.Lookup.{maybe_leaf, maybe_branch, maybe_field}
 use Rattle.z_laws.proofs.Values.{integer_in-again, number_in-again, truth_in-again, bits_in-again, oid_in-again}
 

@@ -12,7 +12,8 @@ use Rattle.unit_forms.specs.Reading.ElementNames.{composition_or_none, compositi
 use Rattle.unit_forms.specs.Reading.PresentRequest.{place_in, form_in, present_in}
 use Rattle.unit_forms.specs.Reading.Rows.{octets_of, number_of, integer_of, oid_of, context, required, optional}
 use Rattle.z_laws.specs.Readable.{IsAsked, IsAnyName, IsReadablePresent}
-use Rattle.z_laws.proofs.Beginning.{joined, Spells, spells-nothing}
+use Rattle.z_laws.proofs.Beginning.{Spells, spells-nothing}
+use Rattle.z_laws.proofs.Forests.{joined}
 use Rattle.z_laws.proofs.Lookup.{maybe_leaf, maybe_field, or_else-none, first_of-joined, first_of-maybe_leaf, first_of-maybe_branch}
 use Rattle.z_laws.proofs.Parts.{◌⊕◌, spells-primitive, spells-maybe, number_once, integer_once, octets_if, oid_if}
 use Rattle.z_laws.proofs.NamesAgain.{maybe_name, spells-maybe_name, name_forest}

@@ -13,7 +13,8 @@ use Rattle.unit_forms.specs.Reading.Elements.{first_of}
 use Rattle.unit_forms.specs.Reading.Rows.{context}
 use Rattle.unit_forms.specs.Reading.Queries.{operand_in, operator_in, structure_at, rpn_query_in, query_in}
 use Rattle.z_laws.specs.Readable.{IsAsked, IsReadableTree, IsReadableQuery}
-use Rattle.z_laws.proofs.Beginning.{joined, joined-joined, Spells, spells-nothing, spells-leaf}
+use Rattle.z_laws.proofs.Beginning.{Spells, spells-nothing, spells-leaf}
+use Rattle.z_laws.proofs.Forests.{joined, joined-joined}
 use Rattle.z_laws.proofs.Lookup.{first_of-joined}
 use Rattle.z_laws.proofs.Parts.{◌⊕◌, spells-primitive, spells-constructed, oid_once}
 use Rattle.z_laws.proofs.AttributesAgain.{plus_forest, spells-plus, attrs_and_term_in-again}

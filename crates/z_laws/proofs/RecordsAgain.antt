@@ -21,7 +21,8 @@ use Rattle.unit_forms.specs.Reading.Answers.{each, read_as}
 use Rattle.unit_forms.specs.Reading.Rows.{octets_of, context, universal, required, required_of, optional, within}
 use Rattle.unit_forms.specs.Reading.Records.{kept_if, is_single, encoding_choice, encoding_of, external_in, item_in, named_in, named_of, records_in, body_or_none}
 use Rattle.z_laws.specs.ReadableReplies.{IsOneElement, IsEncoded, IsReadableItem, IsReadableNamed, IsReadableBody}
-use Rattle.z_laws.proofs.Beginning.{joined, GoesOn, Spells, spells-nothing, spells-leaf, spells-branch}
+use Rattle.z_laws.proofs.Beginning.{are_alone, GoesOn, Spells, spells-nothing, spells-leaf, spells-branch}
+use Rattle.z_laws.proofs.Forests.{joined, are-on}
 use Rattle.z_laws.proofs.Lookup.{maybe_leaf, or_else-none, first_of-joined, first_of-maybe_leaf}
 use Rattle.z_laws.proofs.Parts.{◌⊕◌, spells-primitive, spells-constructed, spells-maybe, oid_once, octets_if}
 use Rattle.z_laws.proofs.DiagnosticsAgain.{diag_forest, spells-diag_fields, spells-diag, diag_in-again, diags_forest, spells-diags, diags_in-again}
@@ -64,7 +65,10 @@ in_front_of (suc levels) octets rest (branch t c inner others) m forest h are =
     }
 
 spells-element : (octets : List ℕ) (h : IsOneElement octets) → Spells octets h.1
-spells-element octets h = record { found = λ levels rest tree small are. in_front_of levels octets rest tree h.0 h.1 h.2 are }
+spells-element octets h = record {
+  found = λ levels rest tree small are. in_front_of levels octets rest tree h.0 h.1 h.2 are;
+  built = λ n low small. are-on h.1 false h.0 n octets (are_alone h.0 octets h.1 h.2) low;
+}
 
 single-again : (levels : ℕ) (octets : List ℕ) (tree : Forest) → IsElement levels octets tree → is_single tree octets ≡ Some octets
 single-again levels octets none h = absurd h
@@ -74,7 +78,7 @@ single-again levels octets (branch t c inner others) h = rw h.0 refl
 -- ---- an EXTERNAL
 
 -- the element of an encoding
-abbrev encoding_forest : (form : Form) (octets : List ℕ) → IsEncoded form octets → Forest
+abbrev pub encoding_forest : (form : Form) (octets : List ℕ) → IsEncoded form octets → Forest
 encoding_forest Single octets h = branch (constructed 0) octets h.1 none
 encoding_forest Octets octets h = leaf (primitive 1) octets none
 encoding_forest Arbitrary octets h = leaf (primitive 2) octets none
@@ -94,7 +98,7 @@ encoding-again Octets octets h = refl
 encoding-again Arbitrary octets h = rw (kept-again octets (bits_in octets) h) refl
 
 -- the elements of an EXTERNAL
-abbrev external_forest : (syntax : List ℕ) (form : Form) (octets : List ℕ) → IsEncoded form octets → Forest
+abbrev pub external_forest : (syntax : List ℕ) (form : Form) (octets : List ℕ) → IsEncoded form octets → Forest
 external_forest syntax form octets h =
     joined (leaf object_identifier_tag (oid_octets syntax) none) (encoding_forest form octets h)
 
@@ -110,7 +114,7 @@ external_in-again syntax form octets h =
 -- ---- a record
 
 -- the element of a record or of a diagnostic in its place
-abbrev item_forest : (item : Item) → IsReadableItem item → Forest
+abbrev pub item_forest : (item : Item) → IsReadableItem item → Forest
 item_forest (Record syntax form octets) h =
     branch (constructed 1) (external_octets syntax form octets)
     (branch external (object_identifier syntax ++ element (encoding_tag form) octets) (external_forest syntax form octets h.1) none) none
@@ -129,7 +133,7 @@ item_in-again (Record syntax form octets) h = external_in-again syntax form octe
 item_in-again (Surrogate diag) h = ap (read_as Surrogate) (diag_in-again diag h)
 
 -- the elements of a NamePlusRecord
-abbrev named_forest : (named : NamedRecord) → IsReadableNamed named → Forest
+abbrev pub named_forest : (named : NamedRecord) → IsReadableNamed named → Forest
 named_forest named h =
     joined (maybe_leaf (primitive 0) (λ x. x) named.name)
     (branch (constructed 1) (item_octets named.item) (item_forest named.item h) none)
@@ -149,7 +153,7 @@ unfolding named_in
 named_in-again named h = rw (named-name named h, named-item named h) refl
 
 -- records one after another
-abbrev records_forest : (records : List NamedRecord) → AllByRecursion IsReadableNamed records → Forest
+abbrev pub records_forest : (records : List NamedRecord) → AllByRecursion IsReadableNamed records → Forest
 records_forest [] h = none
 records_forest (named ∷ records) h =
     branch sequence (named_fields named) (named_forest named h.0) (records_forest records h.1)

@@ -20,7 +20,8 @@ use Rattle.unit_forms.specs.Reading.Rows.{octets_of, number_of, truth_of, contex
 use Rattle.unit_forms.specs.Reading.Units.{reply_of, reply_in}
 use Rattle.z_laws.specs.Readable.{IsReadableInit}
 use Rattle.z_laws.specs.ReadableReplies.{IsReadableBody, IsReadableReply}
-use Rattle.z_laws.proofs.Beginning.{joined, joined-joined, Spells, unit_tree}
+use Rattle.z_laws.proofs.Beginning.{Spells, unit_tree}
+use Rattle.z_laws.proofs.Forests.{joined, joined-joined}
 use Rattle.z_laws.proofs.Lookup.{maybe_leaf, or_else-none, first_of-joined, first_of-maybe_leaf}
 use Rattle.z_laws.proofs.Parts.{◌⊕◌, spells-primitive, spells-constructed, spells-maybe, number_once, truth_once, number_if, octets_if}
 use Rattle.z_laws.proofs.InitAgain.{init_forest, spells-init_fields, init_in-more}
@@ -39,7 +40,7 @@ implementation_forest =
 abbrev result_forest : Bool → Forest
 result_forest result = leaf (primitive 12) (bool_octets result) implementation_forest
 
-abbrev init_reply_forest : Init → Bool → Forest
+abbrev pub init_reply_forest : Init → Bool → Forest
 init_reply_forest init result = joined (init_forest init) (result_forest result)
 
 spells-implementation : Spells implementation_fields implementation_forest
@@ -72,7 +73,7 @@ counts_forest ref_id count returned next ok status =
     (leaf (primitive 22) (bool_octets ok) none))
     (maybe_leaf (primitive 27) (λ n. int_octets (pos n)) status)
 
-abbrev search_reply_forest : Option (List ℕ) → ℕ → ℕ → ℕ → Bool → Option ℕ → (body : Body) → IsReadableBody body → Forest
+abbrev pub search_reply_forest : Option (List ℕ) → ℕ → ℕ → ℕ → Bool → Option ℕ → (body : Body) → IsReadableBody body → Forest
 search_reply_forest ref_id count returned next ok status body h =
     joined (counts_forest ref_id count returned next ok status) (body_forest body h)
 
@@ -105,7 +106,7 @@ search_reply_in-again ref_id count returned next ok status body h =
 
 -- ---- a PresentResponse
 
-abbrev present_reply_forest : Option (List ℕ) → ℕ → ℕ → ℕ → (body : Body) → IsReadableBody body → Forest
+abbrev pub present_reply_forest : Option (List ℕ) → ℕ → ℕ → ℕ → (body : Body) → IsReadableBody body → Forest
 present_reply_forest ref_id returned next status body h =
     joined (joined (joined (joined (maybe_leaf (primitive 2) (λ x. x) ref_id)
     (leaf (primitive 24) (int_octets (pos returned)) none))
@@ -141,7 +142,7 @@ present_reply_in-again ref_id returned next status body h =
 -- ---- a reply
 
 -- the tree of a reply
-abbrev reply_forest : (told : Reply) → IsReadableReply told → Forest
+abbrev pub reply_forest : (told : Reply) → IsReadableReply told → Forest
 reply_forest (reply.Init init result) h =
     branch (constructed 21) (init_reply_fields init result) (init_reply_forest init result) none
 reply_forest (reply.Search ref_id count returned next ok status body) h =
@@ -152,7 +153,7 @@ reply_forest (reply.Scan ref_id status answer diags) h =
     branch (constructed 36) (scan_reply_fields ref_id status answer diags) (scan_reply_forest ref_id status answer diags) none
 reply_forest (reply.Close close) h = branch (constructed 48) (close_fields close) (close_forest close) none
 
-spells-reply : (told : Reply) (h : IsReadableReply told) → Spells (spell_reply told) (reply_forest told h)
+pub spells-reply : (told : Reply) (h : IsReadableReply told) → Spells (spell_reply told) (reply_forest told h)
 spells-reply (reply.Init init result) h =
     spells-constructed 21 _ (init_reply_forest init result) (lit< tt) (spells-init_reply_fields init result)
 spells-reply (reply.Search ref_id count returned next ok status body) h =

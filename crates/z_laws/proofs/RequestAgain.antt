@@ -18,7 +18,7 @@ use Rattle.z_laws.proofs.ScanAgain.{scan_forest, spells-scan_fields, scan_in-aga
 use Rattle.z_laws.proofs.CloseAgain.{close_forest, spells-close, close_in-again}
 
 -- the tree of a request
-abbrev request_forest : Request → Forest
+abbrev pub request_forest : Request → Forest
 request_forest (request.Init init) = branch (constructed 20) (init_fields init) (init_forest init) none
 request_forest (request.Search search) = branch (constructed 22) (search_fields search) (search_forest search) none
 request_forest (request.Present present) =
@@ -26,7 +26,7 @@ request_forest (request.Present present) =
 request_forest (request.Scan scan) = branch (constructed 35) (scan_fields scan) (scan_forest scan) none
 request_forest (request.Close close) = branch (constructed 48) (close_fields close) (close_forest close) none
 
-spells-request : (asked : Request) → Spells (spell_request asked) (request_forest asked)
+pub spells-request : (asked : Request) → Spells (spell_request asked) (request_forest asked)
 spells-request (request.Init init) = spells-constructed 20 _ (init_forest init) (lit< tt) (spells-init_fields init)
 spells-request (request.Search search) =
     spells-constructed 22 _ (search_forest search) (lit< tt) (spells-search_fields search)

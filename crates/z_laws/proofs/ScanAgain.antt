@@ -14,7 +14,8 @@ use Rattle.unit_forms.specs.Reading.Rows.{octets_of, number_of, oid_of, universa
 use Rattle.unit_forms.specs.Reading.ScanRequest.{ask_in, scan_in}
 use Rattle.unit_forms.specs.Reading.SearchRequest.{databases_of}
 use Rattle.z_laws.specs.Readable.{IsAsked, IsReadableAsk}
-use Rattle.z_laws.proofs.Beginning.{joined, Spells, spells-nothing}
+use Rattle.z_laws.proofs.Beginning.{Spells, spells-nothing}
+use Rattle.z_laws.proofs.Forests.{joined}
 use Rattle.z_laws.proofs.Lookup.{maybe_leaf, or_else-none, first_of-joined, first_of-maybe_leaf}
 use Rattle.z_laws.proofs.Parts.{◌⊕◌, spells-primitive, spells-constructed, spells-maybe, spells-maybe_leaf, number_once, number_if, octets_if, oid_if}
 use Rattle.z_laws.proofs.AttributesAgain.{plus_forest, spells-plus, attrs_and_term_in-again}
@@ -35,11 +36,11 @@ spells-ask ask =
     spells-maybe_leaf object_identifier_tag oid_octets ask.attr_set (lit< tt, lit< tt) refl ⊕ spells-constructed 102 _ (plus_forest ask.attrs ask.term) (lit< tt) (spells-plus ask.attrs ask.term) ⊕ spells-maybe 5 (λ n. int_octets (pos n)) ask.step (lit< tt) ⊕ spells-primitive 6 _ (lit< tt) ⊕ spells-maybe 7 (λ n. int_octets (pos n)) ask.position (lit< tt)
 
 -- what is asked
-abbrev asked_forest : Asked ScanAsk → Forest
-asked_forest (Good ask) = ask_forest ask
-asked_forest (Bad diag) = none
+abbrev pub scan_ask_forest : Asked ScanAsk → Forest
+scan_ask_forest (Good ask) = ask_forest ask
+scan_ask_forest (Bad diag) = none
 
-spells-asked : (asked : Asked ScanAsk) → Spells (scan_asked_fields asked) (asked_forest asked)
+spells-asked : (asked : Asked ScanAsk) → Spells (scan_asked_fields asked) (scan_ask_forest asked)
 spells-asked (Good ask) = spells-ask ask
 spells-asked (Bad diag) = spells-nothing
 
@@ -48,7 +49,7 @@ abbrev scan_parts : Option (List ℕ) → List (List ℕ) → Asked ScanAsk → 
 scan_parts ref_id dbs asked =
     joined (joined (maybe_leaf (primitive 2) (λ x. x) ref_id)
     (branch (constructed 3) (database_names dbs) (databases_forest dbs) none))
-    (asked_forest asked)
+    (scan_ask_forest asked)
 
 abbrev pub scan_forest : Scan → Forest
 scan_forest scan = scan_parts scan.ref_id scan.dbs scan.ask

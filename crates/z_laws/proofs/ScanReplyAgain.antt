@@ -21,7 +21,8 @@ use Rattle.unit_forms.specs.Reading.Responses.{entry_term_of, entry_in, entry_of
 use Rattle.unit_forms.specs.Reading.Rows.{octets_of, number_of, context, required, required_of, optional, within}
 use Rattle.z_laws.specs.Readable.{IsReadableTerm}
 use Rattle.z_laws.specs.ReadableReplies.{IsReadableDiag, IsReadableEntry, IsReadableAnswer}
-use Rattle.z_laws.proofs.Beginning.{joined, Spells, spells-nothing, element-long}
+use Rattle.z_laws.proofs.Beginning.{Spells, spells-nothing, element-long}
+use Rattle.z_laws.proofs.Forests.{joined}
 use Rattle.z_laws.proofs.Lookup.{maybe_leaf, or_else-none, first_of-joined, first_of-maybe_leaf}
 use Rattle.z_laws.proofs.Parts.{◌⊕◌, spells-primitive, spells-constructed, spells-maybe, branches, spells-branches, number_once, integer_once, number_if, octets_if, each-branches, map-same}
 use Rattle.z_laws.proofs.AttributesAgain.{term_forest, spells-term}
@@ -34,7 +35,7 @@ abbrev entry_parts : Term → Option ℕ → Forest
 entry_parts term occurrences =
     joined (term_forest term) (maybe_leaf (primitive 2) (λ n. int_octets (pos n)) occurrences)
 
-abbrev entry_forest : ScanEntry → Forest
+abbrev pub entry_forest : ScanEntry → Forest
 entry_forest entry = entry_parts entry.term entry.occurrences
 
 spells-term_info : (entry : ScanEntry) → Spells (term_info_fields entry) (entry_forest entry)
@@ -61,7 +62,7 @@ entry_in-again entry h =
 
 -- ---- entries and diagnostics
 
-abbrev entries_forest : List ScanEntry → Forest
+abbrev pub entries_forest : List ScanEntry → Forest
 entries_forest entries = branches (constructed 1) term_info_fields entry_forest entries
 
 spells-entries : (entries : List ScanEntry) → Spells (flat_map entry_octets entries) (entries_forest entries)
@@ -76,14 +77,14 @@ entries_in-again entries h =
     ∙ ap Ok (map-same entries)
 
 -- the element of entries
-abbrev entries_part : List ScanEntry → List Diag → Forest
+abbrev pub entries_part : List ScanEntry → List Diag → Forest
 entries_part [] [] = branch (constructed 1) [] none none
 entries_part [] (diag ∷ diags) = none
 entries_part (entry ∷ entries) diags =
     branch (constructed 1) (flat_map entry_octets (entry ∷ entries)) (entries_forest (entry ∷ entries)) none
 
 -- the element of diagnostics
-abbrev diags_part : List Diag → Forest
+abbrev pub diags_part : List Diag → Forest
 diags_part [] = none
 diags_part (diag ∷ diags) =
     branch (constructed 2) (flat_map diag_octets (diag ∷ diags)) (diags_forest (diag ∷ diags)) none
@@ -100,7 +101,7 @@ spells-diags_part (diag ∷ diags) =
     spells-constructed 2 _ (diags_forest (diag ∷ diags)) (lit< tt) (spells-diags (diag ∷ diags))
 
 -- the elements of a ListEntries
-abbrev listed_forest : List ScanEntry → List Diag → Forest
+abbrev pub listed_forest : List ScanEntry → List Diag → Forest
 listed_forest entries diags = joined (entries_part entries diags) (diags_part diags)
 
 spells-list_entries : (entries : List ScanEntry) (diags : List Diag) → Spells (list_entries entries diags) (listed_forest entries diags)

@@ -14,7 +14,8 @@ use Rattle.unit_forms.specs.Reading.Queries.{query_in}
 use Rattle.unit_forms.specs.Reading.Rows.{octets_of, number_of, truth_of, oid_of, required, optional, within}
 use Rattle.unit_forms.specs.Reading.SearchRequest.{databases_of, name_in, with_names, bounds_in, named_in, wanted_in, as_search, search_in}
 use Rattle.z_laws.specs.Readable.{IsReadableSearch}
-use Rattle.z_laws.proofs.Beginning.{joined, Spells}
+use Rattle.z_laws.proofs.Beginning.{Spells}
+use Rattle.z_laws.proofs.Forests.{joined}
 use Rattle.z_laws.proofs.Lookup.{maybe_leaf, or_else-none, first_of-joined, first_of-maybe_leaf, first_of-maybe_branch}
 use Rattle.z_laws.proofs.Parts.{◌⊕◌, spells-primitive, spells-constructed, spells-maybe, number_once, truth_once, octets_if, oid_if}
 use Rattle.z_laws.proofs.NamesAgain.{databases_forest, spells-databases, databases_in-again, maybe_name, spells-maybe_name, name_asked, names_if}

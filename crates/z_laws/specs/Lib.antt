@@ -1,3 +1,4 @@
 pub mod Laws
 pub mod Readable
 pub mod ReadableReplies
+pub mod Shallow

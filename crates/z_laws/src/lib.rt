@@ -4,4 +4,7 @@
 
 mod laws;
 
-pub use laws::{written_replies_are_read, written_requests_are_read};
+pub use laws::{
+    written_replies_are_read, written_replies_are_units, written_requests_are_read,
+    written_requests_are_units,
+};

@@ -3,3 +3,4 @@ pub mod Read
 pub mod Parts
 pub mod Structures
 pub mod ScanAsks
+pub mod Laws

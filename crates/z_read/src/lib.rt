@@ -9,6 +9,7 @@ mod each;
 mod element_names;
 mod fault;
 mod init_request;
+mod laws;
 mod lists;
 mod present_request;
 mod queries;
@@ -19,4 +20,5 @@ mod search_request;
 mod units;
 
 pub use fault::ReadFault;
+pub use laws::{one_answer, skipped_elements};
 pub use units::{read_reply, read_request};

@@ -1,0 +1,18 @@
+//! What is true of every reading of units. These functions do nothing; what they ensure is the law.
+
+ghost use Rattle.z_types.specs.OneValue.{HasOneReading};
+ghost use Rattle.z_read.specs.Laws.{IsAnswer, SkippedChangeNothing, request_tags, reply_tags};
+ghost use Rattle.z_read.specs.Read.{IsRequestRead, IsReplyRead};
+
+/// Octets are read as one request or as one reply, or are refused for one reason: all answers other
+/// than want of memory are the same.
+pub fn one_answer()
+    ensures request { HasOneReading (IsAnswer IsRequestRead) }
+    ensures reply { HasOneReading (IsAnswer IsReplyRead) }
+{}
+
+/// Elements of a unit that are none of its fields change nothing, whatever they hold.
+pub fn skipped_elements()
+    ensures request { SkippedChangeNothing request_tags IsRequestRead }
+    ensures reply { SkippedChangeNothing reply_tags IsReplyRead }
+{}
