@@ -3,6 +3,8 @@ pub mod TextLemmas
 pub mod HeldLemmas
 pub mod RangeLemmas
 pub mod SizeLemmas
+pub mod PlaceLemmas
+pub mod SoundLemmas
 pub mod TreeLemmas
 pub mod FirstLemmas
 mod OnLiterals

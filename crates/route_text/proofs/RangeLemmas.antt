@@ -1,25 +1,26 @@
 -- What is refused for nothing keeps the ranges of its keys.
-use Rattle.std.proofs.Common.{◌≡◌, ℕ, ◌≤◌, ◌+◌, Bool, true, false, nat_le, List, [], length, Option, Some, None, refl, arith}
+use Rattle.std.proofs.Common.{◌≡◌, ℕ, ◌+◌, ℤ, pos, negsuc, nat_abs, int_le, Bool, true, false, ◌&&◌, nat_le, List, length, Option, Some, None, option_map, refl, arith}
+use Rattle.std.specs.Fmt.{signed_decimal}
 use Rattle.std.specs.Option.{option_or, unwrap_or}
 use Rattle.std.specs.List.{AllByRecursion}
 use Rattle.std.proofs.lemmas.Bool.{and_parts}
 use Rattle.std.proofs.lemmas.Bool.Decides.{nat_tests}
-use Rattle.toml.specs.Data.{Data, Items, no_items, item, Members, as_array, as_table}
+use Rattle.toml.specs.Data.{Data, Items, no_items, item, Members, as_integer, as_array, as_table}
 use Rattle.route_text.specs.declared.fault.RouteFault.{RouteFault}
-use Rattle.route_text.specs.declared.fault.RouteFault.TheVariants.{TooMany}
+use Rattle.route_text.specs.declared.fault.RouteFault.TheVariants.{OutOfRange, TooMany}
 use Rattle.route_text.specs.Texts.{is_from}
 use Rattle.route_text.specs.Path.{item_path}
-use Rattle.route_text.specs.Kinds.{Need, required, default, Kind, Array, Table, Keys, key_names}
-use Rattle.route_text.specs.Refusal.{refusal, of_kind, of_keys, of_items, of_others, at_key, unless, count}
-use Rattle.route_text.specs.Sizes.{HasFrom}
-use Rattle.route_text.specs.Values.{held, list, list_of}
+use Rattle.route_text.specs.Kinds.{required, default, Kind, Number, Array, Table, Keys, key_names}
+use Rattle.route_text.specs.Refusal.{refusal, of_kind, of_keys, of_items, of_others, at_key, unless, count, is_within}
+use Rattle.route_text.specs.Sizes.{IsFrom, HasFrom}
+use Rattle.route_text.specs.Values.{held, number, list, list_of}
 
 -- of two refusals that come to nothing each is nothing
 pub neither : (one other : Option RouteFault) → option_or one other ≡ None → (one ≡ None) × (other ≡ None)
 neither None other h = (refl, h)
 neither (Some fault) other h = absurd (cc)
 
-passed : (test : Bool) (fault : RouteFault) → unless test fault ≡ None → test ≡ true
+pub passed : (test : Bool) (fault : RouteFault) → unless test fault ≡ None → test ≡ true
 passed true fault h = refl
 passed false fault h = absurd (cc)
 
@@ -27,7 +28,7 @@ count_list : {A : Type 0} (read : Data → A) (items : Items) → count items �
 count_list read no_items = refl
 count_list read (item value rest) = grind (arith, count_list read rest)
 
-from_parts : (low high n : ℕ) → is_from low high n ≡ true → (low ≤ n) × (n ≤ high)
+from_parts : (low high n : ℕ) → is_from low high n ≡ true → IsFrom low high n
 from_parts low high n h = (grind (arith, nat_tests, and_parts (nat_le low n) (nat_le n high) h), grind (arith, nat_tests, and_parts (nat_le low n) (nat_le n high) h))
 
 list_within : {A : Type 0} (read : Data → A) (each : Kind) (low high : ℕ) (path : List ℕ) (content : Option Items)
@@ -79,3 +80,17 @@ required-passed check path (Some value) h = h
 pub default-passed : (other : Data) (check : List ℕ → Data → Option RouteFault) (path : List ℕ) (here : Option Data) → check path other ≡ None → at_key (default other) path (check path) here ≡ None → check path (held (default other) here) ≡ None
 default-passed other check path None passes h = passes
 default-passed other check path (Some value) passes h = h
+
+-- a whole number from one to another is as far from nought
+within_abs : (low high : ℕ) (n : ℤ) → int_le (pos low) n && int_le n (pos high) ≡ true → IsFrom low high (nat_abs n)
+within_abs low high (pos m) h = from_parts low high m h
+within_abs low high (negsuc m) h = absurd (cc)
+
+number_of_integer : (low high : ℕ) (path : List ℕ) (content : Option ℤ) → of_kind path content (λ n. unless (is_within low high n) (OutOfRange path (signed_decimal n))) ≡ None
+    → IsFrom low high (unwrap_or (option_map nat_abs content) 0)
+number_of_integer low high path None h = absurd (cc)
+number_of_integer low high path (Some n) h = within_abs low high n (passed _ _ h)
+
+-- a number is in its range
+pub number-within : (low high : ℕ) (path : List ℕ) (value : Data) → refusal (Number low high) path value ≡ None → IsFrom low high (number value)
+number-within low high path value h = number_of_integer low high path (as_integer value) h

@@ -1,13 +1,11 @@
 -- Sizes: of values that are refused for nothing, and of the classes and legs that they make.
-use Rattle.std.proofs.Common.{◌≡◌, ℕ, ◌≤◌, ◌<◌, suc, ◌+◌, ◌*◌, ◌^◌, Bool, true, false, ◌&&◌, if◌then◌else◌, cond, List, [], ◌∷◌, ◌++◌, map, length, Option, Some, None, option_map, codes, All, refl, arith}
+use Rattle.std.proofs.Common.{◌≡◌, ℕ, ◌≤◌, ◌<◌, suc, ◌*◌, ◌^◌, Bool, true, false, ◌&&◌, if◌then◌else◌, cond, List, [], ◌∷◌, ◌++◌, map, length, Option, Some, None, option_map, codes, All, refl, arith}
 use Rattle.std.specs.Option.{unwrap_or}
 use Rattle.std.specs.List.{AllByRecursion, find, flat_map}
 use Rattle.std.proofs.lemmas.List.{length-map, length-append}
 use Rattle.std.proofs.lemmas.List.Elements.{All-cons, All-nil}
-use Rattle.std.proofs.lemmas.Bool.{and_parts}
 use Rattle.std.proofs.lemmas.Bool.Decides.{nat_tests}
 use Rattle.toml.specs.Data.{Data, Items, no_items, item, get, array, as_array}
-use Rattle.z_types.specs.declared.address.Address.{Address}
 use Rattle.z_types.specs.declared.address.Address.TheVariants.{Test, Tcp}
 use Rattle.z_types.specs.Members.{HasShortHost, AreMembers}
 use Rattle.route_config.specs.declared.route.Target.{Target}
@@ -15,12 +13,12 @@ use Rattle.route_text.specs.declared.values.GroupValues.{GroupValues}
 use Rattle.route_text.specs.declared.values.DatabaseValues.{DatabaseValues}
 use Rattle.route_text.specs.declared.values.Values.{Values}
 use Rattle.route_text.specs.declared.rule.TextRule.TheVariants.{Any}
-use Rattle.route_text.specs.Texts.{same_text, is_from, number_from, address_of, parts, address}
+use Rattle.route_text.specs.Texts.{same_text, is_from, number_from, address_of, parts}
 use Rattle.route_text.specs.Path.{key_path}
-use Rattle.route_text.specs.Kinds.{Text, Array, Table, required}
+use Rattle.route_text.specs.Kinds.{Text, Array, Table}
 use Rattle.route_text.specs.Keys.{target_keys, group_keys, leg_keys, database_keys, top_keys}
-use Rattle.route_text.specs.Refusal.{refusal, of_keys}
-use Rattle.route_text.specs.Values.{at, list, list_of, text, address_in, target_in, group_in, leg_in, database_in, values_in}
+use Rattle.route_text.specs.Refusal.{refusal}
+use Rattle.route_text.specs.Values.{at, list_of, text, address_in, target_in, group_in, leg_in, database_in, values_in}
 use Rattle.route_text.specs.Whole.{is_among, target_names, vias}
 use Rattle.route_text.specs.RouteOf.{address_of as address_named, addresses_of, members_of, firsts, class_names}
 use Rattle.route_text.specs.Sizes.{HasFrom, HasSizes}
@@ -63,11 +61,11 @@ group_size path value h =
     let keys = neither _ None (neither _ _ (keys-passed group_keys path value h)).1 in
     list-within text (Text Any) 1 16 (key_path path (codes "targets")) (at group_keys (codes "targets") value) (required-passed (refusal (Array 1 16 (Text Any))) (key_path path (codes "targets")) (get (codes "targets") value) keys.0)
 
-database_size : (path : List ℕ) (value : Data) → refusal (Table database_keys) path value ≡ None → length (database_in value).legs ≤ 16
+database_size : (path : List ℕ) (value : Data) → refusal (Table database_keys) path value ≡ None → HasFrom 1 16 (database_in value).legs
 unfolding database_in database_keys
 database_size path value h =
     let keys = neither _ None (neither _ _ (neither _ _ (keys-passed database_keys path value h)).1).1 in
-    (list-within leg_in (Table leg_keys) 1 16 (key_path path (codes "leg")) (at database_keys (codes "leg") value) (required-passed (refusal (Array 1 16 (Table leg_keys))) (key_path path (codes "leg")) (get (codes "leg") value) keys.0)).1
+    list-within leg_in (Table leg_keys) 1 16 (key_path path (codes "leg")) (at database_keys (codes "leg") value) (required-passed (refusal (Array 1 16 (Table leg_keys))) (key_path path (codes "leg")) (get (codes "leg") value) keys.0)
 
 -- the values of a tree that is refused for nothing have their sizes
 pub sizes : (tree : Data) → first_refusal tree ≡ None → HasSizes (values_in tree)
@@ -80,11 +78,11 @@ sizes tree h =
     let groups = default-passed (array no_items) (refusal (Array 0 64 (Table group_keys))) (codes "group") (get (codes "group") tree) refl (neither _ _ from_group).0 in
     let databases = required-passed (refusal (Array 1 64 (Table database_keys))) (codes "database") (get (codes "database") tree) (neither _ _ from_database).0 in
     record {
-      targets = (list-within target_in (Table target_keys) 1 64 (codes "target") (at top_keys (codes "target") tree) targets).1;
+      targets = list-within target_in (Table target_keys) 1 64 (codes "target") (at top_keys (codes "target") tree) targets;
       hosts = all_listed target_in (λ target. HasShortHost target.address) short_target (unwrap_or (as_array (at top_keys (codes "target") tree)) no_items);
       groups = array-all group_in (Table group_keys) (λ group. HasFrom 1 16 group.targets) group_size 0 64 (codes "group") (at top_keys (codes "group") tree) groups;
-      databases = (list-within database_in (Table database_keys) 1 64 (codes "database") (at top_keys (codes "database") tree) databases).1;
-      legs = array-all database_in (Table database_keys) (λ database. length database.legs ≤ 16) database_size 1 64 (codes "database") (at top_keys (codes "database") tree) databases;
+      databases = list-within database_in (Table database_keys) 1 64 (codes "database") (at top_keys (codes "database") tree) databases;
+      legs = array-all database_in (Table database_keys) (λ database. HasFrom 1 16 database.legs) database_size 1 64 (codes "database") (at top_keys (codes "database") tree) databases;
     }
 
 -- the address of a target's name is short, also where there is none
@@ -130,19 +128,29 @@ firsts_size : (known names : List (List ℕ)) → length (firsts known names) �
 firsts_size known [] = omega arith
 firsts_size known (name ∷ names) = if_known (is_among known name) (length names) (firsts known names) (firsts (known ++ name ∷ []) names) name (firsts_size known names) (firsts_size (known ++ name ∷ []) names)
 
-vias_size : (databases : List DatabaseValues) → AllByRecursion (λ database. length database.legs ≤ 16) databases → length (flat_map (λ database. map (λ leg. leg.via) database.legs) databases) ≤ 16 * length databases
+vias_size : (databases : List DatabaseValues) → AllByRecursion (λ database. HasFrom 1 16 database.legs) databases → length (flat_map (λ database. map (λ leg. leg.via) database.legs) databases) ≤ 16 * length databases
 vias_size [] all = omega arith
-vias_size (database ∷ databases) all = grind (arith, length-append (map (λ leg. leg.via) database.legs) (flat_map (λ database. map (λ leg. leg.via) database.legs) databases), length-map database.legs (λ leg. leg.via), vias_size databases all.1, all.0)
+vias_size (database ∷ databases) all = grind (arith, length-append (map (λ leg. leg.via) database.legs) (flat_map (λ database. map (λ leg. leg.via) database.legs) databases), length-map database.legs (λ leg. leg.via), vias_size databases all.1, all.0.1)
 
 pub class-count : (values : Values) → HasSizes values → length (class_names values) < 2 ^ 32
-class-count values sizes = grind (arith, firsts_size [] (vias values), vias_size values.databases sizes.legs, sizes.databases)
+class-count values sizes = grind (arith, firsts_size [] (vias values), vias_size values.databases sizes.legs, sizes.databases.1)
 
 pub target-count : (values : Values) → HasSizes values → length (target_names values) < 2 ^ 32
-target-count values sizes = grind (arith, length-map values.targets (λ target. target.name), sizes.targets)
+target-count values sizes = grind (arith, length-map values.targets (λ target. target.name), sizes.targets.1)
 
 pub database-count : (values : Values) → HasSizes values → length values.databases < 2 ^ 32
-database-count values sizes = grind (arith, sizes.databases)
+database-count values sizes = grind (arith, sizes.databases.1)
 
-pub ruleset counts = (class-count, target-count, database-count)
+pub databases-few : (values : Values) → HasSizes values → length values.databases ≤ 64
+databases-few values sizes = sizes.databases.1
+
+few_legs : (databases : List DatabaseValues) → AllByRecursion (λ database. HasFrom 1 16 database.legs) databases → AllByRecursion (λ database. length database.legs ≤ 16) databases
+few_legs [] all = tt
+few_legs (database ∷ databases) all = (all.0.1, few_legs databases all.1)
+
+pub legs-few : (values : Values) → HasSizes values → AllByRecursion (λ database. length database.legs ≤ 16) values.databases
+legs-few values sizes = few_legs values.databases sizes.legs
+
+pub ruleset counts = (class-count, target-count, database-count, databases-few, legs-few)
 
 pub ruleset members = (members-named)

@@ -1,12 +1,12 @@
 -- The tree of octets, and what is read of it.
-use Rattle.std.proofs.Common.{◌≡◌, ◌≢◌, ℕ, Bool, true, false, if◌then◌else◌, List, Option, Some, None, option_map, Result, Ok, Err, refl, ap, ◌∙◌, sym}
+use Rattle.std.proofs.Common.{◌≡◌, ◌≢◌, ℕ, Bool, true, false, if◌then◌else◌, List, Option, Some, None, option_map, Result, Ok, Err, refl, ap}
 use Rattle.std.specs.Str.{IsUtf8, is_utf8}
 use Rattle.std.proofs.lemmas.Str.{IsUtf8-from_is_utf8, is_utf8-from_IsUtf8}
 use Rattle.toml.specs.Data.{Data, Members, table}
 use Rattle.toml.specs.Parse.{parse_document}
 use Rattle.route_config.specs.declared.route.Route.{Route}
 use Rattle.route_text.specs.declared.fault.RouteFault.{RouteFault}
-use Rattle.route_text.specs.declared.fault.RouteFault.TheVariants.{Toml, Memory}
+use Rattle.route_text.specs.declared.fault.RouteFault.TheVariants.{Memory}
 use Rattle.route_text.specs.Values.{values_in}
 use Rattle.route_text.specs.RouteOf.{route_of}
 use Rattle.route_text.specs.Reads.{Reads}

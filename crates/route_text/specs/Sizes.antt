@@ -4,13 +4,17 @@ use Rattle.std.specs.List.{AllByRecursion}
 use Rattle.z_types.specs.Members.{HasShortHost}
 use Rattle.route_text.specs.declared.values.Values.{Values}
 
--- so many items, from the first number to the second
+-- a number from one to another
+abbrev pub IsFrom : ℕ → ℕ → ℕ → Type 0
+IsFrom low high n = (low ≤ n) × (n ≤ high)
+
+-- so many items
 abbrev pub HasFrom : {A : Type 0} → ℕ → ℕ → List A → Type 0
-HasFrom low high items = (low ≤ length items) × (length items ≤ high)
+HasFrom low high items = IsFrom low high (length items)
 
 pub record HasSizes (values : Values) : Type 0 where
-  pub targets : length values.targets ≤ 64
+  pub targets : HasFrom 1 64 values.targets
   pub hosts : AllByRecursion (λ target. HasShortHost target.address) values.targets
   pub groups : AllByRecursion (λ group. HasFrom 1 16 group.targets) values.groups
-  pub databases : length values.databases ≤ 64
-  pub legs : AllByRecursion (λ database. length database.legs ≤ 16) values.databases
+  pub databases : HasFrom 1 64 values.databases
+  pub legs : AllByRecursion (λ database. HasFrom 1 16 database.legs) values.databases

@@ -5,9 +5,8 @@ ghost use Rattle.std.specs.Option.{unwrap_or};
 ghost use Rattle.toml.specs.View.{view};
 ghost use Rattle.route_text.specs.Kinds.{Table as TableKind};
 ghost use Rattle.route_text.specs.Keys.{top_keys, default_indexes, default_schemas};
-ghost use Rattle.route_text.specs.Refusal.{refusal};
 ghost use Rattle.route_text.specs.Values.{values_in, index_in, schema_in, list};
-ghost use Rattle.route_text.specs.Reads.{Reads};
+ghost use Rattle.route_text.specs.Reads.{ReadsKind};
 
 use crate::key::{entries_or, entry_or_empty, required_entries};
 use crate::kind::table_in;
@@ -24,7 +23,7 @@ const TOP: &[u8] = b"";
 /// The values of a configuration's keys.
 #[tactic(auto, unfolding(crate::specs::Keys::top_keys, crate::specs::Values::values_in))]
 pub fn values_in(alloc: Global, file: &Value) -> Result<Values, RouteFault>
-    ensures { Reads (refusal (TableKind top_keys) [] (view file.now)) (values_in (view file.now)) result }
+    ensures { ReadsKind (TableKind top_keys) values_in [] (view file.now) result }
 {
     let members = table_in(alloc, TOP, file)?;
     let targets = required_entries(alloc, TOP, file, "target", 1, 64)?;

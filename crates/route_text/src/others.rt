@@ -18,7 +18,8 @@ pub fn no_others(
     table: &Table,
     known: &[&str],
 ) -> Result<(), RouteFault>
-    ensures { Refuses (of_others (map (λ key. key.now) known.now) path.now (table_view table.now)) result }
+    ensures { Refuses (of_others (map (λ key. key.now) known.now) path.now (table_view table.now))
+        result }
 {
     match least_other(table, known) {
         Some(name) => Err(RouteFault::Unknown(key_path(alloc, path, name.as_bytes())?)),
@@ -28,7 +29,8 @@ pub fn no_others(
 
 /// The least name in a table that is none of the keys: its names come in the order of their octets.
 fn least_other<'a>(table: &'a Table, known: &[&str]) -> Option<&'a String>
-    ensures { option_map (λ name. string_bytes name.now) result ≡ least (others (map (λ key. key.now) known.now) (table_view table.now)) }
+    ensures { option_map (λ name. string_bytes name.now) result
+        ≡ least (others (map (λ key. key.now) known.now) (table_view table.now)) }
 {
     table.keys().find(|name| !is_key(known, name.as_bytes()))
 }

@@ -1,9 +1,11 @@
 //! A configuration from its octets.
 
+ghost use Rattle.std.specs.Prelude.{IfOk};
 ghost use Rattle.toml.specs.View.{view};
 ghost use Rattle.route_text.specs.Values.{values_in};
 ghost use Rattle.route_text.specs.RouteOf.{route_of};
 ghost use Rattle.route_text.specs.Reads.{Reads, IsTree};
+ghost use Rattle.route_text.specs.Sound.{IsSound};
 ghost use Rattle.route_text.specs.Configuration.{first_refusal, IsConfiguration};
 
 use crate::file::values_in;
@@ -17,7 +19,8 @@ use toml::Value;
 /// The route of a configuration's octets, or the first refusal: that they are no TOML, then of the
 /// keys in the table's order, then of the whole.
 pub fn read_route(alloc: Global, text: &[u8]) -> Result<Route, RouteFault>
-    ensures { IsConfiguration text.now result }
+    ensures configuration { IsConfiguration text.now result }
+    ensures sound { IfOk result IsSound }
 {
     match read_tree(alloc, text) {
         Ok(tree) => read_tree_route(alloc, &tree),
@@ -27,7 +30,9 @@ pub fn read_route(alloc: Global, text: &[u8]) -> Result<Route, RouteFault>
 
 /// The route of a tree, or its first refusal.
 fn read_tree_route(alloc: Global, tree: &Value) -> Result<Route, RouteFault>
-    ensures { Reads (first_refusal (view tree.now)) (route_of (values_in (view tree.now))) result }
+    ensures read { Reads (first_refusal (view tree.now)) (route_of (values_in (view tree.now)))
+        result }
+    ensures sound { IfOk result IsSound }
 {
     let values = read_values(alloc, tree)?;
     Ok(route_of(alloc, values)?)

@@ -1,6 +1,5 @@
 -- Names of which each differs from the others, in any case of ASCII letters
-use Rattle.std.proofs.Common.{◌≡◌, ◌<◌, ◌+◌, ℕ, List, [], ◌∷◌, ◌++◌, find, filter, not, refl, Bool, true, false, cond, ◌||◌, Option, None, Some, length, take, get_or, suc, is_none, sym, ap, ◌∙◌, rules, add-one}
-use Rattle.std.specs.List.{list_any}
+use Rattle.std.proofs.Common.{◌≡◌, ◌<◌, ◌+◌, ℕ, List, [], ◌∷◌, ◌++◌, find, filter, not, refl, Bool, true, false, cond, ◌||◌, length, take, get_or, is_none, sym, ap, ◌∙◌, add-one}
 use Rattle.std.specs.Str.{str_eq_ignore_ascii_case, bytes_eq, str_to_ascii_lowercase}
 use Rattle.std.proofs.lemmas.List.Elements.{filter-append}
 use Rattle.std.proofs.lemmas.List.{append-nil}
@@ -20,10 +19,10 @@ with_last true true name x names e = refl
 with_last false true name x names e = refl
 with_last true false name x names e =
     ap (λ rest. name ∷ rest) (filter-append (λ other. not (str_eq_ignore_ascii_case name other)) names (x ∷ [])
-        ∙ kept_last true (filter (λ other. not (str_eq_ignore_ascii_case name other)) names) x (λ other. not (str_eq_ignore_ascii_case name other)) (ap not e))
+    ∙ kept_last true (filter (λ other. not (str_eq_ignore_ascii_case name other)) names) x (λ other. not (str_eq_ignore_ascii_case name other)) (ap not e))
 with_last false false name x names e =
     ap (λ rest. name ∷ rest) (filter-append (λ other. not (str_eq_ignore_ascii_case name other)) names (x ∷ [])
-        ∙ kept_last false (filter (λ other. not (str_eq_ignore_ascii_case name other)) names) x (λ other. not (str_eq_ignore_ascii_case name other)) (ap not e))
+    ∙ kept_last false (filter (λ other. not (str_eq_ignore_ascii_case name other)) names) x (λ other. not (str_eq_ignore_ascii_case name other)) (ap not e))
 
 -- one more name is left out where it is among those before it
 pub distinct-push : (names : List (List ℕ)) (x : List ℕ) → distinct (names ++ x ∷ []) ≡ cond (is_among x names) (distinct names) (distinct names ++ x ∷ [])
@@ -58,8 +57,8 @@ find-distinct p respects [] = refl
 find-distinct p respects (name ∷ names) =
     find_head_one (p name) p name names (filter (λ other. not (str_eq_ignore_ascii_case name other)) (distinct names)) refl
     (λ e. find-kept p (λ other. not (str_eq_ignore_ascii_case name other)) (distinct names)
-        (λ x f. differs_one (str_eq_ignore_ascii_case name x) (p name) (p x) (respects name x) e f)
-        ∙ find-distinct p respects names)
+    (λ x f. differs_one (str_eq_ignore_ascii_case name x) (p name) (p x) (respects name x) e f)
+    ∙ find-distinct p respects names)
 
 unknown_respects : (route : Route) (a b : List ℕ) → str_eq_ignore_ascii_case a b ≡ true → is_none (database_named route a) ≡ is_none (database_named route b)
 unknown_respects route a b h =

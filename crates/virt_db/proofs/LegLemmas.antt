@@ -1,5 +1,5 @@
 -- The legs of names are those of the names of which each differs from the others
-use Rattle.std.proofs.Common.{◌≡◌, ℕ, List, [], Option, None, Some, Result, Ok, Err, refl, Bool, true, false, cond, length, nat_lt, ◌==◌, ◌≤◌, sym, ap, subst, ◌∙◌, arith}
+use Rattle.std.proofs.Common.{◌≡◌, ℕ, List, Option, None, Some, Result, Ok, Err, refl, Bool, true, false, cond, length, nat_lt, ◌==◌, ◌≤◌, ap, subst, ◌∙◌, arith}
 use Rattle.std.proofs.lemmas.Bool.Decides.{nat_tests}
 use Rattle.route_config.specs.declared.route.Route.{Route}
 use Rattle.virt_db.specs.Legs.{AreLegsOf, distinct, found_legs, known_legs, first_unknown, most_databases}
@@ -34,7 +34,7 @@ pub legs-of-few : (route : Route) (names : List (List ℕ)) (answer : Result (Li
 legs-of-few route names answer some less h =
     told route names (known_among route (distinct names)) answer h
     (known_among-distinct route names
-        ∙ few (length (distinct names) == 0) (nat_lt most_databases (length (distinct names))) _ _ (known_legs route names (first_unknown route names)) some less)
+    ∙ few (length (distinct names) == 0) (nat_lt most_databases (length (distinct names))) _ _ (known_legs route names (first_unknown route names)) some less)
 
 none_of : (n : ℕ) → (n ≡ 0 → ⊥) → (n == 0) ≡ false
 none_of n h = grind (arith, nat_tests)

@@ -1,5 +1,5 @@
 -- Names that were met, and the legs of those of which each differs from the others (this project's own)
-use Rattle.std.specs.Prelude.{◌≡◌, ℕ, List, Option, None, Some, Result, Ok, Err, Bool, Vec, flat_map}
+use Rattle.std.specs.Prelude.{◌≡◌, ℕ, List, Option, None, Some, Result, Err, Bool, Vec, flat_map}
 use Rattle.std.specs.List.{list_any}
 use Rattle.std.specs.declared.alloc.Global.{Global}
 use Rattle.std.specs.BTreeSet.{BTreeSet, contains}
@@ -20,7 +20,7 @@ is_among name names = list_any (λ other. str_eq_ignore_ascii_case other name) n
 abbrev pub HasNames : BTreeSet (Vec ℕ Global) → List (List ℕ) → Type 0
 HasNames set names =
     (key : Vec ℕ Global) → contains (λ a b. slice_cmp nat_cmp a.items b.items) set key
-        ≡ list_any (λ name. bytes_eq (str_to_ascii_lowercase name) key.items) names
+    ≡ list_any (λ name. bytes_eq (str_to_ascii_lowercase name) key.items) names
 
 -- the legs of these names, each of which differs from the others
 abbrev pub legs_among : Route → List (List ℕ) → List ℕ

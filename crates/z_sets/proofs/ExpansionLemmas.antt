@@ -1,5 +1,5 @@
 -- An expansion follows from its measures and its parts
-use Rattle.std.proofs.Common.{◌≡◌, ℕ, ◌<◌, ◌^◌, ◌-◌, List, [], ◌∷◌, find, map, refl, Bool, true, false, cond, ◌||◌, Option, None, Some, Result, Ok, Err, nat_lt, min, arith, rules, sym, ap, ◌∙◌}
+use Rattle.std.proofs.Common.{◌≡◌, ℕ, ◌<◌, ◌^◌, ◌-◌, List, [], map, refl, Bool, true, false, cond, ◌||◌, Option, None, Some, Result, Ok, Err, nat_lt, arith, sym, ap, ◌∙◌}
 use Rattle.std.proofs.lemmas.Bool.Decides.{nat_tests}
 use Rattle.z_types.specs.declared.known_set.KnownSet.{KnownSet}
 use Rattle.z_types.specs.declared.query.RpnQuery.{RpnQuery}
@@ -8,10 +8,9 @@ use Rattle.z_types.specs.Tree.{Tree, tree_size, leaf, operand, and, or, and_not}
 use Rattle.z_types.specs.QueryMeasures.{tree_depth, tree_cost, most_nodes, most_cost, within32, within64}
 use Rattle.z_sets.specs.Sets.{StoredSet, stored, set_named, is_same}
 use Rattle.z_sets.specs.Expansion.{IsExpansion, expanded, then_bounded, bounded, under, substituted, in_place_of, inside}
-use Rattle.z_sets.specs.Measured.{IsOrMemory, measures_of, measures_in, joined, expansion_measures, names_a_set, tested, then_tested, tested_expansion}
+use Rattle.z_sets.specs.Measured.{IsOrMemory, measures_of, measures_in, joined, names_a_set, tested, then_tested, tested_expansion}
 use Rattle.z_sets.specs.declared.fault.ExpandFault.{ExpandFault}
 use Rattle.z_sets.specs.declared.fault.ExpandFault.TheVariants.{UnknownSet, OtherLegs, TooLarge, TooDeep, TooCostly, Memory}
-use Rattle.z_sets.specs.declared.measures.Measures.{Measures}
 use Rattle.z_sets.proofs.MeasureLemmas.{measures_of-inside, measures_of-and, measures_of-or, measures_of-and_not}
 
 -- ---- the attribute set changes no measure
@@ -99,7 +98,7 @@ pub test_fails : (query : RpnQuery) (legs : List ℕ) (sets : List KnownSet) (fa
 test_fails query legs sets fault h =
     told_whole query legs sets (tested_expansion legs sets query.root) fault h
     (λ f e. bounded_fault query.attr_set (substituted query.attr_set legs (map stored sets) query.root) f
-        (ap then_tested (measures_in-substituted query.attr_set legs (map stored sets) query.root) ∙ e))
+    (ap then_tested (measures_in-substituted query.attr_set legs (map stored sets) query.root) ∙ e))
 
 passed_whole : (arcs : List ℕ) (tree : Result Tree ExpandFault) (root : Tree) (done : Unit {0}) → then_tested (measures_in tree) ≡ Ok done → tree ≡ Ok root → then_bounded arcs tree ≡ Ok (record { attr_set = arcs; root = root })
 passed_whole arcs (Err f) root done h e = cc

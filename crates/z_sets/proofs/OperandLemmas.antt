@@ -1,5 +1,5 @@
 -- What an operand that is a result set becomes, and the fault of one that cannot
-use Rattle.std.proofs.Common.{◌≡◌, ℕ, List, [], find, map, option_map, refl, Bool, true, false, cond, Option, None, Some, Result, Ok, Err}
+use Rattle.std.proofs.Common.{◌≡◌, ℕ, List, [], find, map, option_map, Bool, true, false, cond, Option, None, Some, Result, Ok, Err}
 use Rattle.z_types.specs.declared.known_set.KnownSet.{KnownSet}
 use Rattle.z_types.specs.Tree.{Tree, operand}
 use Rattle.z_sets.specs.Sets.{stored, is_same}

@@ -1,5 +1,5 @@
 -- The set that an operand of a query names (this project's own)
-use Rattle.std.specs.Prelude.{◌≡◌, ℕ, List, Option, None, Some, Result, Ok, Err, if◌then◌else◌}
+use Rattle.std.specs.Prelude.{◌≡◌, ℕ, List, Option, None, Some, Result, Ok, Err, filter, not, if◌then◌else◌}
 use Rattle.std.specs.Borrow.{Bor}
 use Rattle.z_types.specs.declared.known_set.KnownSet.{KnownSet}
 use Rattle.z_sets.specs.Sets.{is_same}
@@ -16,3 +16,7 @@ abbrev pub IsLentOrMemory : {A : Type 0} → Result A ExpandFault → Result (Bo
 IsLentOrMemory wanted (Ok lent) = wanted ≡ Ok lent.now
 IsLentOrMemory wanted (Err Memory) = Unit {0}
 IsLentOrMemory wanted (Err fault) = wanted ≡ Err fault
+
+-- the sets of other names, with their hits
+abbrev pub others_than : List ℕ → List KnownSet → List KnownSet
+others_than name sets = filter (λ set. not (is_same set.name name)) sets

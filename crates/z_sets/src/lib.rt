@@ -9,4 +9,7 @@ mod sets;
 
 pub use expansion::expand;
 pub use fault::ExpandFault;
-pub use sets::find_set;
+pub use sets::{find_set, put_set, remove_set};
+
+#[cfg(test)]
+mod tests;

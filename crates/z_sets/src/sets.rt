@@ -1,13 +1,15 @@
 //! A client's result sets by their names.
 
-ghost use Rattle.std.specs.Prelude.{◌≡◌, find, map, option_map};
+ghost use Rattle.std.specs.Prelude.{◌≡◌, ◌≤◌, [], ◌∷◌, ◌++◌, find, map, option_map, not, OnOk, OnErr, vec_len, vec_capacity};
 ghost use Rattle.std.specs.List.{position};
 ghost use Rattle.std.specs.Option.{option_copied};
-ghost use Rattle.z_sets.specs.Sets.{is_same, stored, set_named};
-ghost use Rattle.z_sets.specs.Operands.{set_for, IsLentOrMemory};
+ghost use Rattle.z_sets.specs.Sets.{is_same, stored, set_named, with_set, without_set};
+ghost use Rattle.z_sets.specs.Operands.{set_for, IsLentOrMemory, others_than};
 
 use crate::ExpandFault;
-use z_types::{KnownSet, List, Text, copy};
+use std::alloc::Global;
+use std::mem::replace;
+use z_types::{KnownSet, List, Memory, Text, copy};
 
 /// The first of the sets that has this name.
 pub fn find_set<'a>(sets: &'a List<KnownSet>, name: &[u8]) -> Option<&'a KnownSet>
@@ -49,4 +51,56 @@ pub(crate) fn set_for<'a>(
             }
         }
     }
+}
+
+/// Puts a set behind the others, in place of any of its name. Without memory nothing is changed.
+pub fn put_set(alloc: Global, sets: &mut List<KnownSet>, set: KnownSet) -> Result<(), Memory>
+    ensures ok { OnOk result (sets.new ≡ others_than set.name sets.old ++ set ∷ []) }
+    ensures stored { OnOk result (map stored sets.new ≡ with_set (stored set) (map stored sets.old)) }
+    ensures err { OnErr result (sets.new ≡ sets.old) }
+{
+    let mut items = replace(sets, List::new(alloc)).into_vec();
+    let put = put_in(&mut items, set);
+    *sets = List::from_vec(items);
+    put
+}
+
+/// Removes each set of this name.
+pub fn remove_set(alloc: Global, sets: &mut List<KnownSet>, name: &[u8])
+    ensures others { sets.new ≡ others_than name.now sets.old }
+    ensures stored { map stored sets.new ≡ without_set name.now (map stored sets.old) }
+{
+    let mut items = replace(sets, List::new(alloc)).into_vec();
+    remove_in(&mut items, name);
+    *sets = List::from_vec(items);
+}
+
+/// `put_set` in a vector.
+fn put_in(items: &mut Vec<KnownSet>, set: KnownSet) -> Result<(), Memory>
+    ensures ok { OnOk result (items.new.items ≡ others_than set.name items.old.items ++ set ∷ []) }
+    ensures err { OnErr result (items.new.items ≡ items.old.items) }
+{
+    items.reserve(1)?;
+    remove_in(items, set.name.as_slice());
+    match items.push(set) {
+        Ok(()) => Ok(()),
+        Err(_) => unreachable!(),
+    }
+}
+
+/// `remove_set` in a vector, which keeps its room.
+fn remove_in(items: &mut Vec<KnownSet>, name: &[u8])
+    ensures others { items.new.items ≡ others_than name.now items.old.items }
+    ensures shorter { vec_len items.new ≤ vec_len items.old }
+    ensures room { vec_capacity items.new ≡ vec_capacity items.old }
+{
+    items.retain(|set| has_other_name(set, name));
+}
+
+/// Whether a set has another name.
+fn has_other_name(set: &KnownSet, name: &[u8]) -> bool
+    ensures { result ≡ not (is_same set.now.name name.now) }
+{
+    let same = set.name.as_slice() == name;
+    !same
 }

@@ -13,11 +13,13 @@ loop-name-preserved c =
     let so_far = c.loop-name.invariant in
     let next = take-next names c.loop-name.name-index name (omega arith) c.name-item.is in
     let new = c.in_ok-see.ensures.new taken so_far.1 in
-    subst (λ met. (c.if-branch.list ≡ distinct met) × HasNames c.see.new.seen met) (sym next)
-    (elim c.if-branch.branch [
-        then-branch+in_ok-copy+in_ok-push w ↦
-        distinct-new taken c.loop-name.list c.if-branch.list name so_far.0 (sym w.if-branch.true ∙ new)
-        (w.list-is ∙ w.in_ok-push.ensures.ok ∙ ap (λ last. c.loop-name.list ++ last ∷ []) w.in_ok-copy.ensures)
-      | else-branch w ↦
-        distinct-met taken c.loop-name.list c.if-branch.list name so_far.0 (sym w.if-branch.false ∙ new) w.list-is ],
-    c.in_ok-see.ensures.seen taken so_far.1)
+    subst (λ met. (c.if-branch.list ≡ distinct met) × HasNames c.see.new.seen met) (sym next) (
+      elim c.if-branch.branch [
+        | then-branch+in_ok-copy+in_ok-push w ↦
+            distinct-new taken c.loop-name.list c.if-branch.list name so_far.0 (sym w.if-branch.true ∙ new)
+            (w.list-is ∙ w.in_ok-push.ensures.ok ∙ ap (λ last. c.loop-name.list ++ last ∷ []) w.in_ok-copy.ensures)
+        | else-branch w ↦
+            distinct-met taken c.loop-name.list c.if-branch.list name so_far.0 (sym w.if-branch.false ∙ new) w.list-is
+      ],
+      c.in_ok-see.ensures.seen taken so_far.1,
+    )

@@ -1,4 +1,4 @@
-use Rattle.std.proofs.Common.{arith, rules, subst, sym, ◌∙◌}
+use Rattle.std.proofs.Common.{arith, rules, subst, ◌∙◌}
 use Rattle.virt_db.specs.Faults.{IsOrMemory}
 use Rattle.virt_db.specs.Names.{known_among}
 use Rattle.virt_db.proofs.LegLemmas.{legs-of-named}

@@ -1,4 +1,4 @@
-use Rattle.std.proofs.Common.{rules, not, sym, ap, ◌∙◌, ◌≡◌}
+use Rattle.std.proofs.Common.{rules, not, ap, ◌∙◌, ◌≡◌}
 use Rattle.std.specs.Str.{str_to_ascii_lowercase}
 use Rattle.virt_db.proofs.SeenLemmas.{is_among-key, HasNames-push}
 use Rattle.virt_db.proofs.legs.see.Goals as goal

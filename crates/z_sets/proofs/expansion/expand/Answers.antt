@@ -1,4 +1,4 @@
-use Rattle.std.proofs.Common.{rules, sym, ◌∙◌}
+use Rattle.std.proofs.Common.{sym, ◌∙◌}
 use Rattle.z_sets.proofs.ExpansionLemmas.{expansion-none}
 use Rattle.z_sets.proofs.expansion.expand.Goals as goal
 

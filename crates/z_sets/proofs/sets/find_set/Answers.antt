@@ -1,4 +1,3 @@
-use Rattle.std.proofs.Common.{sym, rules}
 use Rattle.z_sets.proofs.SetLemmas.{set_named-map-stored}
 use Rattle.z_sets.proofs.sets.find_set.Goals as goal
 
