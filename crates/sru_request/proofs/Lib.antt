@@ -1,0 +1,4 @@
+mod EndLemmas
+mod NumberLemmas
+mod CheckLemmas
+mod FirstLemmas

@@ -1,0 +1,8 @@
+pub mod Head
+pub mod Request
+pub mod Numbers
+pub mod Name
+pub mod Parameters
+pub mod Choices
+pub mod Firsts
+pub mod Checks
