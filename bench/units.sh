@@ -1,5 +1,7 @@
 #!/bin/bash
-# Times how z_write writes replies: of ten records of 1 kB, of one record of 1 MiB, and of none.
+# Times how z_write writes replies, of ten records of 1 kB, of one record of 1 MiB, and of none; and how z_read
+# reads units, beside a walk of z_ber through all their elements. Ends with status 1 where a Search of ten times
+# the octets takes more than twenty times as long, or one shape of 1 MiB more than ten times another.
 . "$(dirname "$0")/readers.sh"
 
 # The millions of replies that are written in a second.
@@ -17,3 +19,48 @@ echo "An answer of one record of 1 MiB, written, and one of a tenth of it"
 compare write-record 1048000 5000
 echo "Answers to a Search without records, of 14 octets, written"
 replies write-search 0 20000000
+
+# The nanoseconds of one reading, or one walk, of a unit.
+once() {
+    local made whole
+    made=$(nanoseconds "$1" "$2" 0)
+    whole=$(nanoseconds "$1" "$2" "$3")
+    awk -v times="$3" -v ns=$((whole - made)) 'BEGIN { printf "%.1f\n", ns / times }'
+}
+
+# A unit that is read so many times, beside a walk through its elements, which copies nothing.
+units() {
+    local octets read walked
+    octets=$("$program" "read-$1" "$2" 0 | cut -d ' ' -f 1)
+    read=$(once "read-$1" "$2" "$3")
+    walked=$(once "walk-$1" "$2" "$3")
+    awk -v what="$1" -v n="$octets" -v read="$read" -v walked="$walked" 'BEGIN {
+        printf "%s: %d octets, %.0f a second, %.1f MB/s, %.1f times the walk\n", what, n, 1e9 / read, n * 1000 / read, read / walked }'
+}
+
+# Compares a shape of 1 MiB with a tenth of it; `least` and `most` are the speeds of the slowest and the fastest.
+least=0
+most=0
+shape() {
+    local line speed
+    line=$(compare "read-$1" "$2" "$3")
+    echo "$line"
+    speed=$(cut -d ' ' -f 5 <<<"$line")
+    least=$(awk -v a="$least" -v b="$speed" 'BEGIN { print (a == 0 || b < a) ? b : a }')
+    most=$(awk -v a="$most" -v b="$speed" 'BEGIN { print (b > a) ? b : a }')
+    awk '{ exit ($(NF - 3) > 20) }' <<<"$line" || status=1
+}
+
+echo "Units read"
+units search 64 1000000
+units init 150 1000000
+units records 10000 500000
+units entries 2000 50000
+units record 1048000 5000
+echo "Searches of 1 MiB: 100,000 attributes; 49,152 operands; the attributes on the last levels, of definite and of indefinite length"
+shape attributes 1000000 20
+shape operands 1048000 20
+shape levels 1000000 20
+shape open-levels 1000000 5
+awk -v a="$least" -v b="$most" 'BEGIN { printf "the slowest takes %.1f times as long as the fastest\n", b / a; exit (b > 10 * a) }' || status=1
+exit $status

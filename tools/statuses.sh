@@ -13,6 +13,7 @@ cp "$here/crates/gateway_program/data/first.script" s
 cp c $'c\xff'
 cp s $'s\xfe'
 printf 'x' >x
+sed -e 's/alpha/far/' -e 's/test:0/tcp:localhost:9999/' c >real
 printf '#\nfeed 1 b\n' >bad
 head -c 262145 /dev/zero >long_config
 head -c 16777217 /dev/zero | tr '\0' '#' >long_script
@@ -23,6 +24,7 @@ page=$(cat "$here/crates/gateway_program/stdout"; echo .)
 page=${page%.}
 usage=$'usage: check CONFIG | replay CONFIG SCRIPT | load N | serve CONFIG PORT WORKERS\n'
 help=$'Zaklumen, a gateway for Z39.50 and SRU.\n\n'
+help+=$'check CONFIG          reads a configuration, and prints how many databases and classes it has\n'
 help+=$'replay CONFIG SCRIPT  plays the octets that a script feeds to clients, and prints what they are answered\n'
 help+=$'--help                prints this\n--version             prints the version\n'
 tried=0
@@ -67,8 +69,11 @@ ends 'a word too many' 2 "$usage" replay c s s
 ends 'help and more' 2 "$usage" --help c
 ends 'an unknown word' 2 "$usage" play c s
 ends 'a word that is not UTF-8' 2 "$usage" $'repl\xff' c s
-ends 'a refused configuration' 3 $'config 0 stage\n' replay x s
-ends 'a configuration over its limit' 3 $'config 0 stage\n' replay long_config s
+ends 'a check' 0 $'ok databases 1 classes 1\n' check c
+ends 'a refused configuration' 3 $'config 1 toml\n' replay x s
+ends 'a check of a refused configuration' 3 $'config 1 toml\n' check x
+ends 'a configuration over its limit' 3 $'config 7 bytes 262145\n' replay long_config s
+ends 'a target over TCP' 9 $'real target far\n' replay real s
 ends 'a refused script' 4 $'script line 2\n' replay c bad
 ends 'an event too many' 4 $'script line 1000001\n' replay c many
 ends 'a script over its limit' 4 $'script line 0\n' replay c long_script

@@ -6,6 +6,8 @@
 mod ber;
 mod cql;
 mod elements;
+mod sru;
+mod units;
 mod writes;
 
 use anyhow::{Context, Result, bail};
@@ -21,10 +23,35 @@ enum Sample {
     Elements(elements::Shape),
     Cql(cql::Shape),
     Written(writes::Shape),
+    Sru(sru::Shape),
+    Read(units::Shape),
+    Walked(units::Shape),
+}
+
+/// The unit that a word names.
+fn unit_named(word: &str) -> Option<units::Shape> {
+    match word {
+        "search" => Some(units::Shape::Search),
+        "init" => Some(units::Shape::Init),
+        "records" => Some(units::Shape::Records),
+        "record" => Some(units::Shape::Record),
+        "entries" => Some(units::Shape::Entries),
+        "attributes" => Some(units::Shape::Attributes),
+        "operands" => Some(units::Shape::Operands),
+        "levels" => Some(units::Shape::Levels),
+        "open-levels" => Some(units::Shape::OpenLevels),
+        _ => None,
+    }
 }
 
 /// What a word names.
 fn named(word: &str) -> Option<Sample> {
+    if let Some(unit) = word.strip_prefix("read-") {
+        return Some(Sample::Read(unit_named(unit)?));
+    }
+    if let Some(unit) = word.strip_prefix("walk-") {
+        return Some(Sample::Walked(unit_named(unit)?));
+    }
     match word {
         "ber-flat" => Some(Sample::Ber(ber::Shape::Flat)),
         "ber-small" => Some(Sample::Ber(ber::Shape::Small)),
@@ -46,6 +73,9 @@ fn named(word: &str) -> Option<Sample> {
         "write-search" => Some(Sample::Written(writes::Shape::Search)),
         "write-records" => Some(Sample::Written(writes::Shape::Records)),
         "write-record" => Some(Sample::Written(writes::Shape::Record)),
+        "sru-reply" => Some(Sample::Sru(sru::Shape::Reply)),
+        "sru-packed" => Some(Sample::Sru(sru::Shape::Packed)),
+        "sru-names" => Some(Sample::Sru(sru::Shape::Names)),
         _ => None,
     }
 }
@@ -63,6 +93,9 @@ fn read(
         Sample::Elements(shape) => elements::read(alloc, shape, size, times),
         Sample::Cql(shape) => cql::read(alloc, shape, size, times),
         Sample::Written(shape) => writes::write(alloc, shape, size, times),
+        Sample::Read(shape) => units::read(alloc, shape, false, size, times),
+        Sample::Walked(shape) => units::read(alloc, shape, true, size, times),
+        Sample::Sru(shape) => sru::run(alloc, shape, size, times),
     }
 }
 

@@ -46,7 +46,7 @@ fn presented(body: Body) -> Reply {
 }
 
 /// The reply of a shape, of about so many octets.
-fn sample(alloc: Global, shape: Shape, size: usize) -> Result<Reply, Memory> {
+pub(crate) fn sample(alloc: Global, shape: Shape, size: usize) -> Result<Reply, Memory> {
     match shape {
         Shape::Search => Ok(Reply::Search {
             ref_id: None,

@@ -12,6 +12,7 @@ use Rattle.gateway_program.specs.declared.status.Status.TheVariants as status
 abbrev pub help_text : List ℕ
 help_text =
     line_of (codes "Zaklumen, a gateway for Z39.50 and SRU.") ++ line_of []
+    ++ line_of (codes "check CONFIG          reads a configuration, and prints how many databases and classes it has")
     ++ line_of (codes "replay CONFIG SCRIPT  plays the octets that a script feeds to clients, and prints what they are answered")
     ++ line_of (codes "--help                prints this") ++ line_of (codes "--version             prints the version")
 

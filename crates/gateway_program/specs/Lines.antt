@@ -1,8 +1,11 @@
 -- The lines that a refusal prints (this project's own)
-use Rattle.std.specs.Prelude.{◌≡◌, ◌⊎◌, ℕ, List, [], ◌∷◌, ◌++◌, codes}
+use Rattle.std.specs.Prelude.{◌≡◌, ◌⊎◌, ℕ, List, [], ◌∷◌, ◌++◌, length, codes}
 use Rattle.std.specs.Fmt.{decimal}
 use Rattle.gw_outside.specs.Counts.{Rose}
 use Rattle.gw_outside.specs.Sinks.{appended, ReceivedPrefix}
+use Rattle.route_config.specs.declared.route.Route.{Route}
+use Rattle.route_text.specs.declared.fault.RouteFault.{RouteFault}
+use Rattle.route_text.specs.Faults.{fault_number, fault_text}
 use Rattle.gateway_program.specs.Outside.{SinkWrites}
 
 -- words, and the end of a line
@@ -13,9 +16,18 @@ line_of words = words ++ 10 ∷ []
 abbrev pub usage_line : List ℕ
 usage_line = line_of (codes "usage: check CONFIG | replay CONFIG SCRIPT | load N | serve CONFIG PORT WORKERS")
 
--- a configuration is refused
-abbrev pub config_line : List ℕ
-config_line = line_of (codes "config 0 stage")
+-- a configuration is refused: the number of the refusal, and what it is about
+abbrev pub config_line : RouteFault → List ℕ
+config_line fault = line_of (codes "config " ++ decimal (fault_number fault) ++ 32 ∷ fault_text fault)
+
+-- a configuration is good
+abbrev pub check_line : Route → List ℕ
+check_line route =
+    line_of (codes "ok databases " ++ decimal (length route.databases) ++ codes " classes " ++ decimal (length route.classes))
+
+-- a replay asks test targets alone
+abbrev pub real_target_line : List ℕ → List ℕ
+real_target_line name = line_of (codes "real target " ++ name)
 
 -- a script is refused at a line
 abbrev pub script_line : ℕ → List ℕ

@@ -1,18 +1,18 @@
 -- When each status comes, and what is printed with it (this project's own)
-use Rattle.std.specs.Prelude.{◌≡◌, ◌≢◌, ◌⊎◌, ℕ, ◌<◌, ◌≤◌, List, Option, None, Some, Ok, Err, IfSome, length}
+use Rattle.std.specs.Prelude.{◌≡◌, ◌⊎◌, ℕ, ◌<◌, ◌≤◌, List, Option, None, Some, Ok, Err, IfSome, length}
 use Rattle.gw_outside.specs.Counts.{Rose}
 use Rattle.z_types.specs.declared.world.World as world
 use Rattle.route_config.specs.declared.route.Route.{Route}
 use Rattle.route_config.specs.Lookup.{target_names}
-use Rattle.route_config.specs.Smallest.{smallest_text, smallest_route}
 use Rattle.script.specs.declared.event.Event.{Event}
 use Rattle.script.specs.declared.faults.ScriptFault.TheVariants.{Line, TooMany}
 use Rattle.script.specs.Script.{script_of}
 use Rattle.replay.specs.declared.reports.Report.{Report}
 use Rattle.replay.specs.Report.{IsReportOf}
 use Rattle.replay.specs.Page.{page}
-use Rattle.gateway_program.specs.Command.{command_of}
-use Rattle.gateway_program.specs.Lines.{Received, ReceivedNothing, FailedWithin, Says, usage_line, config_line, script_line, fault_line}
+use Rattle.gateway_program.specs.Command.{check_of, replay_of}
+use Rattle.gateway_program.specs.Configs.{IsTaken, IsRefusedConfig, first_real}
+use Rattle.gateway_program.specs.Lines.{Received, ReceivedNothing, FailedWithin, Says, usage_line, check_line, real_target_line, script_line, fault_line}
 use Rattle.gateway_program.specs.Outside.{FileReads, SinkWrites}
 use Rattle.gateway_program.specs.declared.status.Status.{Status}
 use Rattle.gateway_program.specs.declared.status.Status.TheVariants as status
@@ -78,29 +78,42 @@ abbrev pub ScriptDone : {W : Type 0} → world.Ghosts W → Route → List ℕ �
 ScriptDone w route script reads writes status.ReadFault = IsUnread script reads writes
 ScriptDone w route script reads writes other = ScriptPlayed w route (reads.contents script) writes other
 
--- the file of this name is the smallest configuration, where it is told; or it is another
-abbrev pub IsTaken : List ℕ → FileReads → Type 0
-IsTaken config reads = IfSome (reads.contents config) (λ text. text ≡ smallest_text)
+-- a route with test targets alone is played with the script; another is refused by its first other target
+abbrev pub RoutePlayed : {W : Type 0} → world.Ghosts W → Option (List ℕ) → Route → List ℕ → FileReads → SinkWrites → Status → Type 0
+RoutePlayed w (Some name) route script reads writes ended = (ended ≡ status.RealTarget) × Says writes (real_target_line name)
+RoutePlayed w None route script reads writes ended = ScriptDone w route script reads writes ended
 
-abbrev pub IsNotTaken : List ℕ → FileReads → Type 0
-IsNotTaken config reads = IfSome (reads.contents config) (λ text. text ≢ smallest_text)
+-- a configuration was taken, and its route played
+abbrev pub TakenAndPlayed : {W : Type 0} → world.Ghosts W → List ℕ → List ℕ → FileReads → SinkWrites → Status → Type 0
+TakenAndPlayed w config script reads writes ended =
+    (route : Route) × IsTaken config reads route × RoutePlayed w (first_real route) route script reads writes ended
 
--- Config exactly where the configuration is another than the smallest; and else the script decides
+-- Config exactly where the configuration is refused; and else its route and the script decide
 abbrev pub ReplayDone : {W : Type 0} → world.Ghosts W → List ℕ → List ℕ → FileReads → SinkWrites → Status → Type 0
-ReplayDone w config script reads writes status.Config = IsNotTaken config reads × Says writes config_line
+ReplayDone w config script reads writes status.Config = IsRefusedConfig config reads writes
 ReplayDone w config script reads writes status.Memory = ReceivedNothing writes
 ReplayDone w config script reads writes status.ReadFault =
-    IsUnread config reads writes ⊎ (IsTaken config reads × IsUnread script reads writes)
-ReplayDone w config script reads writes other = IsTaken config reads × ScriptDone w smallest_route script reads writes other
+    IsUnread config reads writes ⊎ TakenAndPlayed w config script reads writes status.ReadFault
+ReplayDone w config script reads writes ended = TakenAndPlayed w config script reads writes ended
+
+-- a configuration was checked: it is good, or refused, or could not be read
+abbrev pub CheckDone : List ℕ → FileReads → SinkWrites → Status → Type 0
+CheckDone config reads writes status.Ok = (route : Route) × IsTaken config reads route × Received writes (check_line route)
+CheckDone config reads writes status.WriteFault = (route : Route) × IsTaken config reads route × FailedWithin writes (check_line route)
+CheckDone config reads writes status.Config = IsRefusedConfig config reads writes
+CheckDone config reads writes status.ReadFault = IsUnread config reads writes
+CheckDone config reads writes status.Memory = ReceivedNothing writes
+CheckDone config reads writes other = ⊥
 
 -- Words exactly where the words are no command
-abbrev pub CommandDone : {W : Type 0} → world.Ghosts W → Option (List ℕ × List ℕ) → FileReads → SinkWrites → Status → Type 0
-CommandDone w None reads writes ended = (ended ≡ status.Words) × Says writes usage_line
-CommandDone w (Some (config, script)) reads writes ended = ReplayDone w config script reads writes ended
+abbrev pub CommandDone : {W : Type 0} → world.Ghosts W → Option (List ℕ) → Option (List ℕ × List ℕ) → FileReads → SinkWrites → Status → Type 0
+CommandDone w (Some config) replayed reads writes ended = CheckDone config reads writes ended
+CommandDone w None (Some (config, script)) reads writes ended = ReplayDone w config script reads writes ended
+CommandDone w None None reads writes ended = (ended ≡ status.Words) × Says writes usage_line
 
 -- what these words did
 abbrev pub IsDone : {W : Type 0} → world.Ghosts W → List (List ℕ) → FileReads → SinkWrites → Status → Type 0
-IsDone w words reads writes ended = CommandDone w (command_of words) reads writes ended
+IsDone w words reads writes ended = CommandDone w (check_of words) (replay_of words) reads writes ended
 
 -- a script is refused at a line, which is printed, or no memory could be had
 abbrev pub IsRefusal : ℕ → SinkWrites → Status → Type 0
@@ -113,3 +126,21 @@ abbrev pub IsUnreadTold : List ℕ → SinkWrites → Status → Type 0
 IsUnreadTold name writes status.ReadFault = Says writes (fault_line name)
 IsUnreadTold name writes status.Memory = ReceivedNothing writes
 IsUnreadTold name writes other = ⊥
+
+-- a route is refused for a target, whose name is printed, or no memory could be had
+abbrev pub IsTargetRefusal : List ℕ → SinkWrites → Status → Type 0
+IsTargetRefusal name writes status.RealTarget = Says writes (real_target_line name)
+IsTargetRefusal name writes status.Memory = ReceivedNothing writes
+IsTargetRefusal name writes other = ⊥
+
+-- a text was printed, or a front of it where the sink failed, or nothing for want of memory
+abbrev pub IsTextPrinted : List ℕ → SinkWrites → Status → Type 0
+IsTextPrinted text writes status.Ok = Received writes text
+IsTextPrinted text writes status.WriteFault = FailedWithin writes text
+IsTextPrinted text writes status.Memory = ReceivedNothing writes
+IsTextPrinted text writes other = ⊥
+
+-- nothing was received for want of memory; or this holds
+abbrev pub IsMemoryOr : Status → SinkWrites → Type 0 → Type 0
+IsMemoryOr status.Memory writes fact = ReceivedNothing writes
+IsMemoryOr other writes fact = fact

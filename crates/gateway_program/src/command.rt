@@ -1,19 +1,19 @@
 //! The words of the commands.
 
 ghost use Rattle.std.specs.Prelude.{◌≡◌};
-ghost use Rattle.std.specs.Option.{option_map};
-ghost use Rattle.gateway_program.specs.Command.{command_of, is_replay};
+ghost use Rattle.std.specs.Option.{option_copied, option_map};
+ghost use Rattle.gateway_program.specs.Command.{check_of, replay_of};
 
 use z_types::Text;
 
-/// The names of the configuration and of the script where the words are those of `replay`.
-pub(crate) fn command_of(words: &[Text]) -> Option<(&Text, &Text)>
-    ensures { option_map (λ names. (names.0.now, names.1.now)) result ≡ command_of words.now }
+/// The name of the configuration where the words are those of `check`.
+pub(crate) fn check_of(words: &[Text]) -> Option<&Text>
+    ensures { option_copied result ≡ check_of words.now }
 {
     match words {
-        [word, config, script] => {
-            if is_replay(word) {
-                Some((config, script))
+        [word, config] => {
+            if word.as_slice() == b"check".as_slice() {
+                Some(config)
             } else {
                 None
             }
@@ -22,9 +22,18 @@ pub(crate) fn command_of(words: &[Text]) -> Option<(&Text, &Text)>
     }
 }
 
-/// Whether it is the word `replay`.
-fn is_replay(word: &Text) -> bool
-    ensures { result ≡ is_replay word.now }
+/// The names of the configuration and of the script where the words are those of `replay`.
+pub(crate) fn replay_of(words: &[Text]) -> Option<(&Text, &Text)>
+    ensures { option_map (λ names. (names.0.now, names.1.now)) result ≡ replay_of words.now }
 {
-    word.as_slice() == b"replay".as_slice()
+    match words {
+        [word, config, script] => {
+            if word.as_slice() == b"replay".as_slice() {
+                Some((config, script))
+            } else {
+                None
+            }
+        }
+        _ => None,
+    }
 }

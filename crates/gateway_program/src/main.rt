@@ -2,17 +2,22 @@
 #![tactic(auto)]
 
 mod command;
+mod config;
 mod descriptors;
 mod files;
 mod output;
 mod play;
 mod program;
+#[cfg(test)]
+mod recorded;
 mod say;
 mod status;
 #[cfg(test)]
 mod tests;
 mod top;
 mod words;
+#[cfg(test)]
+mod worked;
 
 use std::process::ExitCode;
 

@@ -19,6 +19,7 @@ use z_types::{Memory, Text};
 
 /// What `--help` prints.
 pub(crate) const HELP: &[u8] = b"Zaklumen, a gateway for Z39.50 and SRU.\n\n\
+check CONFIG          reads a configuration, and prints how many databases and classes it has\n\
 replay CONFIG SCRIPT  plays the octets that a script feeds to clients, and prints what they are answered\n\
 --help                prints this\n\
 --version             prints the version\n";

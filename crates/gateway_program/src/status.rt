@@ -17,6 +17,8 @@ pub enum Status {
     WriteFault,
     /// 7: no memory could be had; nothing is printed.
     Memory,
+    /// 9: a replay asks test targets alone; `real target NAME` is printed of the first other one.
+    RealTarget,
 }
 
 impl Status {
@@ -35,6 +37,7 @@ impl Status {
             Status::ReadFault => 5,
             Status::WriteFault => 6,
             Status::Memory => 7,
+            Status::RealTarget => 9,
         }
     }
 }

@@ -8,6 +8,7 @@ use crate::say::USAGE;
 use crate::status::Status;
 use crate::top::top;
 use crate::words::words;
+use crate::{recorded, worked};
 use gw_memory::{MemoryFiles, MemorySink};
 use route_config::SMALLEST_TEXT;
 use std::alloc::Global;
@@ -39,7 +40,9 @@ const NO_COMMANDS: &[&[&str]] = &[
     &["replay", "c", "s", "s"],
     &["Replay", "c", "s"],
     &["", "c", "s"],
-    &["check", "c"],
+    &["check"],
+    &["check", "c", "s"],
+    &["Check", "c"],
     &["load", "12"],
     &["serve", "c", "9999", "1"],
 ];
@@ -129,6 +132,95 @@ fn a_page_is_printed_of_each_script(rt: HostRuntime) -> Result<(), Fail> {
     Ok(())
 }
 
+/// The name of the first session that is replayed with another page than its own.
+fn first_wrong(
+    alloc: Global,
+    sessions: &[worked::Session],
+) -> Result<Option<&'static str>, Memory> {
+    for (what, config, script, page) in sessions {
+        if !has_page(alloc, config, script, page)? {
+            return Ok(Some(what));
+        }
+    }
+    Ok(None)
+}
+
+/// Whether a script has this page, by a configuration.
+fn has_page(alloc: Global, config: &[u8], script: &[u8], page: &[u8]) -> Result<bool, Memory> {
+    let outside = Outside {
+        config,
+        ..sound(script)
+    };
+    replays(alloc, outside, Status::Ok, page)
+}
+
+#[test]
+fn worked_sessions_have_their_pages(rt: HostRuntime) -> Result<(), Fail> {
+    let wrong = first_wrong(rt.alloc(), worked::SESSIONS)?;
+    assert!(rt; wrong.is_none(), "{wrong:?}");
+    Ok(())
+}
+
+#[test]
+fn recorded_sessions_of_other_programs_have_their_pages(rt: HostRuntime) -> Result<(), Fail> {
+    let wrong = first_wrong(rt.alloc(), recorded::SESSIONS)?;
+    assert!(rt; wrong.is_none(), "{wrong:?}");
+    Ok(())
+}
+
+/// A target over TCP.
+const REAL_TARGET: &[u8] =
+    b"[[target]]\nname = \"far\"\naddress = \"tcp:localhost:9999\"\n[[database]]\nname = \"Default\"\n[[database.leg]]\nvia = \"far\"\ndatabases = [\"Default\"]\n";
+
+#[test]
+fn a_configuration_is_checked_and_a_real_target_is_not_replayed(
+    rt: HostRuntime,
+) -> Result<(), Fail> {
+    for (line, config, status, printed) in [
+        (
+            ["check", "c"].as_slice(),
+            SMALLEST_TEXT,
+            Status::Ok,
+            b"ok databases 1 classes 1\n".as_slice(),
+        ),
+        (
+            &["check", "c"],
+            worked::REALISTIC,
+            Status::Ok,
+            b"ok databases 2 classes 2\n",
+        ),
+        (
+            &["check", "c"],
+            REAL_TARGET,
+            Status::Ok,
+            b"ok databases 1 classes 1\n",
+        ),
+        (
+            &["replay", "c", "s"],
+            REAL_TARGET,
+            Status::RealTarget,
+            b"real target far\n",
+        ),
+        (
+            &["check", "c"],
+            b"[[target]]\n",
+            Status::Config,
+            b"config 2 target[0].name\n",
+        ),
+        (&["check", "d"], b"", Status::ReadFault, b"read fault d\n"),
+    ] {
+        let outside = Outside {
+            config,
+            ..sound(b"x")
+        };
+        assert!(rt;
+            ends(rt.alloc(), line, outside, status, printed)?,
+            "{line:?}"
+        );
+    }
+    Ok(())
+}
+
 /// Scripts in which clients 7 and 10000 are fed the same octets, in turns, in pieces, run and ended where
 /// they may be.
 const IN_TURNS: [&[u8]; 3] = [
@@ -157,7 +249,14 @@ fn a_file_over_its_limit_is_refused_without_its_octets(rt: HostRuntime) -> Resul
         config: config.as_slice(),
         ..sound(b"")
     };
-    assert!(rt; replays(alloc, long_config, Status::Config, b"config 0 stage\n")?);
+    assert!(rt;
+        replays(
+            alloc,
+            long_config,
+            Status::Config,
+            b"config 7 bytes 262145\n"
+        )?
+    );
     let long_script = sound(script.as_slice());
     assert!(rt; replays(alloc, long_script, Status::Script, b"script line 0\n")?);
     let longest_script = sound(&script.as_slice()[1..]);
@@ -180,7 +279,7 @@ fn a_refused_file_is_told_by_its_first_fault(rt: HostRuntime) -> Result<(), Fail
             ["replay", "s", "s"],
             b"x".as_slice(),
             Status::Config,
-            b"config 0 stage\n".as_slice(),
+            b"config 1 toml\n".as_slice(),
         ),
         (
             ["replay", "c", "s"],
@@ -287,12 +386,12 @@ fn the_program_tells_of_itself_and_of_the_files_that_it_cannot_read(
         (
             &["replay", "/dev/zero", "s"],
             Status::Config,
-            b"config 0 stage\n",
+            b"config 7 bytes 262145\n",
         ),
         (
             &["replay", "/dev/null", "s"],
             Status::Config,
-            b"config 0 stage\n",
+            b"config 2 target\n",
         ),
     ] {
         assert!(rt; ends_at_the_system(&rt, line, status, printed)?);
@@ -367,6 +466,7 @@ fn each_status_has_its_number(rt: HostRuntime) {
         Status::ReadFault.number(),
         Status::WriteFault.number(),
         Status::Memory.number(),
+        Status::RealTarget.number(),
     ];
-    assert_eq!(rt; numbers, [0, 2, 3, 4, 5, 6, 7]);
+    assert_eq!(rt; numbers, [0, 2, 3, 4, 5, 6, 7, 9]);
 }

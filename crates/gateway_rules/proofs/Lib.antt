@@ -1,3 +1,5 @@
-pub mod AnswerSteps
-pub mod OneCourse
+pub mod OneReading
+pub mod Composition
+pub mod OneEnding
 pub mod OneAnswer
+pub mod Parts

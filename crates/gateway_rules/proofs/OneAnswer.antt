@@ -1,91 +1,99 @@
--- The answers to a client's octets are one where every mark is Plain.
-use Rattle.std.proofs.Common.{◌≡◌, ℕ, Bool, true, false, List, [], ◌∷◌, ◌++◌, Option, Some, None, refl, sym, ap, ◌∙◌, subst, map, if◌then◌else◌, MatchBool}
-use Rattle.std.specs.List.{flat_map}
+-- A session has one answer where every mark is Plain, however its causes name classes.
+use Rattle.std.proofs.Common.{◌≡◌, ℕ, List, [], ◌∷◌, Some, refl, sym, ap, ◌∙◌, subst, map}
+use Rattle.std.specs.List.{AllByRecursion, flat_map}
+use Rattle.z_types.specs.declared.marks.End.{End}
+use Rattle.gateway_rules.specs.Answers.{Ended, IsConnection}
 use Rattle.z_types.specs.declared.marks.Mark.{Mark}
 use Rattle.z_types.specs.declared.marks.Mark.TheVariants.{Plain}
-use Rattle.z_types.specs.declared.marks.End.{End}
-use Rattle.z_types.specs.declared.requests.Request.{Request}
-use Rattle.z_types.specs.declared.requests.Request.TheVariants as request
-use Rattle.z_types.specs.declared.requests.Search.{Search}
-use Rattle.z_types.specs.declared.replies.Reply.{Reply}
 use Rattle.z_types.specs.declared.world.World as world
 use Rattle.route_config.specs.declared.route.Route.{Route}
 use Rattle.unit_forms.specs.Replies.{spell_reply}
-use Rattle.gateway_rules.specs.Marks.{Cause, marked_diag}
-use Rattle.gateway_rules.specs.Search.{by_mark, by_databases, hits_of_asked, legs_of, first_unknown}
-use Rattle.gateway_rules.specs.Session.{reply_to, replies, protocol_error, Fits}
-use Rattle.gateway_rules.specs.State.{ClientState, is_in_place, state_after, is_close}
-use Rattle.gateway_rules.specs.Answers.{AnswersFrom}
-use Rattle.gateway_rules.specs.OneAnswer.{IsAllPlain}
-use Rattle.gateway_rules.proofs.OneCourse.{course-one, IsOneCourse}
+use Rattle.gateway_rules.specs.Asking as asking
+use Rattle.gateway_rules.specs.Asking.{Due, asked}
+use Rattle.gateway_rules.specs.Course as at
+use Rattle.gateway_rules.specs.Course.{Course, end_of}
+use Rattle.gateway_rules.specs.Marks.{Cause}
+use Rattle.gateway_rules.specs.OneAnswer.{AreMarksPlain, HasOneAnswer}
+use Rattle.gateway_rules.specs.Outcomes.{under_mark, plain_outcome}
+use Rattle.gateway_rules.specs.Session.{run, answered, answer_to, Fits}
+use Rattle.gateway_rules.specs.Settling.{Settled, settled}
+use Rattle.gateway_rules.specs.State.{ClientState, new_client}
+use Rattle.z_types.specs.declared.requests.Request.{Request}
+use Rattle.gateway_rules.proofs.OneEnding.{connection-one}
 
--- ---- a request
+-- no leg was marked, at any request
+abbrev pub IsAllPlain : List Cause → Type 0
+IsAllPlain causes = AllByRecursion (λ cause. cause.mark ≡ Plain) causes
 
--- a Plain cause gives no diagnostic, whatever its class
-plain-diag : (mark : Mark) (class : List ℕ) → mark ≡ Plain → marked_diag mark class ≡ None
-plain-diag mark class e = ap (λ h. marked_diag h class) e
+-- what is answered under a Plain mark does not ask for a class
+due-plain : {W : Type 0} (w : world.Ghosts W) (route : Route) (client : ClientState) (request : Request) (c d : Cause)
+    (due : Due) → c.mark ≡ Plain → d.mark ≡ Plain
+    → answer_to w route client request c due ≡ answer_to w route client request d due
+due-plain w route client request c d (asking.at_once reply) e f = refl
+due-plain w route client request c d (asking.works work) e f =
+    ap (λ m. settled client request work (under_mark m c.class (plain_outcome w route work))) e
+    ∙ sym (ap (λ m. settled client request work (under_mark m d.class (plain_outcome w route work))) f)
 
--- what the databases answer under a Plain cause does not depend on its class
-databases-plain : {W : Type 0} (w : world.Ghosts W) (route : Route) (search : Search) (c d : Cause) (unknown : Option (List ℕ)) → c.mark ≡ Plain → d.mark ≡ Plain → by_databases w route search c unknown ≡ by_databases w route search d unknown
-databases-plain w route search c d (Some name) e f = refl
-databases-plain w route search c d None e f =
-    ap (λ h. by_mark search.ref_id h (hits_of_asked w route search.query (legs_of route search.dbs))) (plain-diag c.mark c.class e ∙ sym (plain-diag d.mark d.class f))
+-- two courses of causes that fit and are Plain are the same marks and get the same replies
+pub run-plain : {W : Type 0} (w : world.Ghosts W) (route : Route) (client : ClientState) (course : Course)
+    (cs ds : List Cause) → IsAllPlain cs → IsAllPlain ds
+    → Fits (run w route client course cs) → Fits (run w route client course ds)
+    → (map (λ cause. cause.mark) cs ≡ map (λ cause. cause.mark) ds)
+    × ((run w route client course cs).replies ≡ (run w route client course ds).replies)
+run-plain w route client (at.stands here) cs ds x y p q =
+    (ap (map (λ cause. cause.mark)) (p.none_left ∙ sym q.none_left), refl)
+run-plain w route client (at.ends last end) cs ds x y p q =
+    (ap (map (λ cause. cause.mark)) (p.none_left ∙ sym q.none_left), refl)
+run-plain w route client (at.answers request more) [] ds x y p q = absurd p.served
+run-plain w route client (at.answers request more) (c ∷ cs) [] x y p q = absurd q.served
+run-plain w route client (at.answers request more) (c ∷ cs) (d ∷ ds) x y p q =
+    let same : answered w route client request c
+    ≡ answered w route client request d = due-plain w route client request c d (asked w route client request) x.0 y.0 in
+    let after_c = (answered w route client request c).client in
+    let after_d = (answered w route client request d).client in
+    let fit_c : Fits
+    (run w route after_c more cs) = record { allowed = p.allowed.1; served = p.served; none_left = p.none_left } in
+    let fit_d : Fits
+    (run w route after_d more ds) = record { allowed = q.allowed.1; served = q.served; none_left = q.none_left } in
+    let fit_at_c : Fits (run w route after_c more ds) = subst (λ (s : Settled). Fits (run w route s.client more ds))
+    (sym same) fit_d in
+    let rest = run-plain w route after_c more cs ds x.1 y.1 fit_c fit_at_c in
+    let marks = ap (λ h. h ∷ map (λ cause. cause.mark) cs) (x.0 ∙ sym y.0) ∙ ap (λ h. d.mark ∷ h) rest.0 in
+    let replies =
+    ap (λ h. (answered w route client request c).reply ∷ h) rest.1
+    ∙ ap (λ (s : Settled). s.reply ∷ (run w route s.client more ds).replies) same in
+    (marks, replies)
 
--- two Plain causes give the same reply
-reply-plain : {W : Type 0} (w : world.Ghosts W) (route : Route) (asked : Request) (c d : Cause) → c.mark ≡ Plain → d.mark ≡ Plain → reply_to w route asked c ≡ reply_to w route asked d
-reply-plain w route (request.Init init) c d e f = refl
-reply-plain w route (request.Search search) c d e f = databases-plain w route search c d (first_unknown route search.dbs) e f
-reply-plain w route (request.Present present) c d e f = refl
-reply-plain w route (request.Scan scan) c d e f = refl
-reply-plain w route (request.Close close) c d e f = refl
+causes-plain : (causes : List Cause) → AreMarksPlain (map (λ cause. cause.mark) causes) → IsAllPlain causes
+causes-plain [] h = tt
+causes-plain (cause ∷ causes) h = (h.0, causes-plain causes h.1)
 
--- ---- all requests
+some-one : (a b : End) → Some a ≡ Some b → a ≡ b
+some-one a b h = cc
 
--- the marks of causes
-abbrev pub marks_of : List Cause → List Mark
-marks_of causes = map (λ cause. cause.mark) causes
+-- The answers under Plain marks are one, where the octets have one course: one list of marks, the same octets written,
+-- and one end.
+pub answers-one : {W : Type 0} (w : world.Ghosts W) (route : Route) (client : ClientState)
+    (IsWhole : Course → Type 0) → ((c d : Course) → IsWhole c → IsWhole d → c ≡ d)
+    → (ms ns : List Mark) (o p : List ℕ) (e f : End)
+    → Ended w route client IsWhole ms o e → Ended w route client IsWhole ns p f
+    → AreMarksPlain ms → AreMarksPlain ns → (ms ≡ ns) × (o ≡ p) × (e ≡ f)
+answers-one w route client IsWhole one ms ns o p e f a b x y =
+    let s = a.answered in
+    let t = b.answered in
+    let course : s.whole ≡ t.whole = one s.whole t.whole s.is_whole t.is_whole in
+    let fits : Fits (run w route client s.whole t.causes) = subst
+    (λ (c : Course). Fits (run w route client c t.causes)) (sym course) b.fits in
+    let plain_s = causes-plain s.causes (subst AreMarksPlain (sym s.of_marks) x) in
+    let plain_t = causes-plain t.causes (subst AreMarksPlain (sym t.of_marks) y) in
+    let same = run-plain w route client s.whole s.causes t.causes plain_s plain_t a.fits fits in
+    let marks = sym s.of_marks ∙ same.0 ∙ t.of_marks in
+    let written = s.written
+    ∙ ap (flat_map spell_reply) (same.1 ∙ ap (λ c. (run w route client c t.causes).replies) course) ∙ sym t.written in
+    (marks, written, some-one e f (sym a.ended ∙ ap end_of course ∙ b.ended))
 
--- replies and marks behind a request are the same where they are the same behind one that is no Close
-behind : (b : Bool) (cs ds : List Cause) (xs ys : List Reply) (P Q : Type 0) → (P → Q → (marks_of cs ≡ marks_of ds) × (xs ≡ ys))
-    → MatchBool b (cs ≡ []) P → MatchBool b (ds ≡ []) Q → (marks_of cs ≡ marks_of ds) × ((if b then [] else xs) ≡ (if b then [] else ys))
-behind true cs ds xs ys P Q f p q = (ap marks_of (p ∙ sym q), refl)
-behind false cs ds xs ys P Q f p q = f p q
-
-same_front : {A : Type 0} (x y : A) (xs ys : List A) → x ≡ y → xs ≡ ys → x ∷ xs ≡ y ∷ ys
-same_front x y xs ys e f = cc
-
--- the same requests under Plain causes take the same marks and the same replies
-pub replies-one : {W : Type 0} (w : world.Ghosts W) (route : Route) (state : ClientState) (readings : List (Option Request)) (cs ds : List Cause)
-    → Fits route state readings cs → Fits route state readings ds → IsAllPlain (marks_of cs) → IsAllPlain (marks_of ds)
-    → (marks_of cs ≡ marks_of ds) × (replies w route state readings cs ≡ replies w route state readings ds)
-replies-one w route state [] cs ds p q a b = (ap marks_of (p ∙ sym q), refl)
-replies-one w route state (None ∷ others) cs ds p q a b = (ap marks_of (p ∙ sym q), refl)
-replies-one w route state (Some asked ∷ others) [] [] p q a b = (refl, refl)
-replies-one w route state (Some asked ∷ others) [] (d ∷ ds) p q a b = let e = q.0 in absurd cc
-replies-one w route state (Some asked ∷ others) (c ∷ cs) [] p q a b = let e = p.0 in absurd cc
-replies-one w route state (Some asked ∷ others) (c ∷ cs) (d ∷ ds) p q a b =
-    let reply = reply-plain w route asked c d a.0 b.0 in
-    let after : ClientState = state_after state asked in
-    let rest = behind (is_close asked) cs ds (replies w route after others cs) (replies w route after others ds) _ _ (λ m n. replies-one w route after others cs ds m n a.1 b.1) p.2 q.2 in
-    (same_front _ _ _ _ (a.0 ∙ sym b.0) rest.0, ap (λ h. if is_in_place state asked then h else protocol_error ∷ []) (same_front _ _ _ _ reply rest.1))
-
--- ---- the answers
-
--- two answers to the same octets take the same course, whatever the targets, the routes and the marks
-pub course-of : {V W : Type 0} (v : world.Ghosts V) (w : world.Ghosts W) (route other_route : Route) (state : ClientState) (at : ℕ) (bytes : List ℕ) (ms ns : List Mark) (o p : List ℕ) (e f : End)
-    (a : AnswersFrom v route state at bytes ms o e) (b : AnswersFrom w other_route state at bytes ns p f) → IsOneCourse a.readings b.readings a.tail b.tail e f
-course-of v w route other_route state at bytes ms ns o p e f a b =
-    course-one state at a.units b.units a.readings b.readings a.rest b.rest a.tail b.tail e f a.frames b.frames a.read b.read (sym a.whole ∙ b.whole) a.ended b.ended
-
--- two answers to the same octets, with every mark Plain, are the same
-pub answers-one : {W : Type 0} (w : world.Ghosts W) (route : Route) (state : ClientState) (at : ℕ) (bytes : List ℕ) (ms ns : List Mark) (o p : List ℕ) (e f : End)
-    → AnswersFrom w route state at bytes ms o e → AnswersFrom w route state at bytes ns p f → IsAllPlain ms → IsAllPlain ns → (ms ≡ ns) × (o ≡ p) × (e ≡ f)
-answers-one w route state at bytes ms ns o p e f a b x y =
-    let course = course-of w w route route state at bytes ms ns o p e f a b in
-    let fits = subst (λ h. Fits route state h b.causes) (sym course.0) b.fits in
-    let one = replies-one w route state a.readings a.causes b.causes a.fits fits (subst IsAllPlain (sym a.of_marks) x) (subst IsAllPlain (sym b.of_marks) y) in
-    let replied : replies w route state a.readings a.causes ≡ replies w route state b.readings b.causes = one.1 ∙ ap (λ h. replies w route state h b.causes) course.0 in
-    let said : replies w route state a.readings a.causes ++ a.tail ≡ replies w route state b.readings b.causes ++ b.tail =
-    ap (λ h. h ++ a.tail) replied ∙ ap (λ h. replies w route state b.readings b.causes ++ h) course.1
-    in
-    (sym a.of_marks ∙ one.0 ∙ b.of_marks, a.written ∙ ap (flat_map spell_reply) said ∙ sym b.written, course.2)
+-- The octets, twice answered with every mark Plain, have the same answer.
+pub one-answer : {W : Type 0} (w : world.Ghosts W) → HasOneAnswer w
+one-answer w route bytes ms ns o p e f a b x y =
+    answers-one w route new_client (IsConnection route bytes)
+    (connection-one route bytes) ms ns o p e f a b x y

@@ -1,63 +1,97 @@
--- A client's session (ANSI/NISO Z39.50-2003, 4.2 and 3.2.11): its requests answered in order from an unknown client, each under the next cause
-use Rattle.std.specs.Prelude.{◌≡◌, ℕ, true, false, List, [], ◌∷◌, Option, None, Some, if◌then◌else◌, Contains, MatchBool}
-use Rattle.z_types.specs.declared.marks.Mark.{Mark}
-use Rattle.z_types.specs.declared.marks.Mark.TheVariants.{Plain, Link, Silent, Gone, Full}
-use Rattle.z_types.specs.declared.requests.Close.{Close}
-use Rattle.z_types.specs.declared.requests.Request.{Request}
-use Rattle.z_types.specs.declared.requests.Request.TheVariants as request
-use Rattle.z_types.specs.declared.replies.Reply.{Reply}
-use Rattle.z_types.specs.declared.replies.Reply.TheVariants as reply
+-- A client's session (ANSI/NISO Z39.50-2003, 4.2): the requests of its course answered in order, each under the next
+-- cause, as a route with private sessions and no pool answers them
+use Rattle.std.specs.Prelude.{◌≡◌, ℕ, List, [], ◌∷◌, ◌++◌, option_to_list}
+use Rattle.std.specs.List.{AllByRecursion}
+use Rattle.z_types.specs.declared.marks.End.{End}
 use Rattle.z_types.specs.declared.world.World as world
 use Rattle.route_config.specs.declared.route.Route.{Route}
-use Rattle.gateway_rules.specs.Init.{init_reply}
-use Rattle.gateway_rules.specs.Marks.{Cause}
-use Rattle.gateway_rules.specs.Search.{search_reply, first_unknown, reached_by}
-use Rattle.gateway_rules.specs.State.{ClientState, is_in_place, state_after, is_close}
+use Rattle.gateway_rules.specs.Asking as asking
+use Rattle.gateway_rules.specs.Asking.{Due, asked}
+use Rattle.gateway_rules.specs.Course as course
+use Rattle.gateway_rules.specs.Course.{Course}
+use Rattle.gateway_rules.specs.Marks.{Cause, Taken, IsAllowed}
+use Rattle.gateway_rules.specs.Outcomes.{outcome_of, classes_asked}
+use Rattle.gateway_rules.specs.Settling.{Settled, settled}
+use Rattle.gateway_rules.specs.State.{ClientState, Progress}
+use Rattle.z_types.specs.declared.replies.Reply.{Reply}
+use Rattle.z_types.specs.declared.requests.Request.{Request}
 
--- 3.2.11.1.1: a Close for a protocol error, which no request asked for
-abbrev pub protocol_error : Reply
-protocol_error = reply.Close (record { ref_id = None; reason = 6; info = None })
+-- ---- one request
 
--- a Close is answered with Close: finished, under the client's referenceId
-abbrev pub close_reply : Close → Reply
-close_reply close = reply.Close (record { ref_id = close.ref_id; reason = 0; info = None })
+-- what a request is answered, where this is due: a reply at once leaves the client as it was, until an accepted Init
+-- sets the sizes and the login
+abbrev pub answer_to : {W : Type 0} → world.Ghosts W → Route → ClientState → Request → Cause → Due → Settled
+answer_to w route client request cause (asking.at_once reply) = record { reply = reply; client = client }
+answer_to w route client request cause (asking.works work) =
+    settled client request work (outcome_of w route work cause)
 
--- the reply to a request in its place, under a cause; a Present and a Scan are not served yet
-abbrev pub reply_to : {W : Type 0} → world.Ghosts W → Route → Request → Cause → Reply
-reply_to w route (request.Init init) cause = init_reply init
-reply_to w route (request.Search search) cause = search_reply w route search cause
-reply_to w route (request.Present present) cause = protocol_error
-reply_to w route (request.Scan scan) cause = protocol_error
-reply_to w route (request.Close close) cause = close_reply close
+-- the classes that are asked, where this is due
+abbrev pub classes_of : Route → Due → List (List ℕ)
+classes_of route (asking.at_once reply) = []
+classes_of route (asking.works work) = classes_asked route work
 
--- the classes of which a request asks a target
-abbrev pub reached : Route → Request → List (List ℕ)
-reached route (request.Init init) = []
-reached route (request.Search search) = reached_by route search (first_unknown route search.dbs)
-reached route (request.Present present) = []
-reached route (request.Scan scan) = []
-reached route (request.Close close) = []
+-- what a request is answered under a cause
+abbrev pub answered : {W : Type 0} → world.Ghosts W → Route → ClientState → Request → Cause → Settled
+answered w route client request cause = answer_to w route client request cause (asked w route client request)
 
--- a request may be answered under this cause: any mark but Plain comes only where a target is asked, and a Link names one of those asked
-abbrev pub IsAllowed : List (List ℕ) → Cause → Mark → Type 0
-IsAllowed classes cause Plain = Unit {0}
-IsAllowed classes cause Link = Contains classes cause.class
-IsAllowed classes cause (Silent looks) = (class : List ℕ) × Contains classes class
-IsAllowed classes cause Gone = (class : List ℕ) × Contains classes class
-IsAllowed classes cause (Full open_sessions) = (class : List ℕ) × Contains classes class
+-- the names of the classes that a request asks
+abbrev pub reached : {W : Type 0} → world.Ghosts W → Route → ClientState → Request → List (List ℕ)
+reached w route client request = classes_of route (asked w route client request)
 
--- the replies to what was read, each request under the next cause: a unit that is no request, or is out of its place, ends the session with a protocol error and takes no cause
-abbrev pub replies : {W : Type 0} → world.Ghosts W → Route → ClientState → List (Option Request) → List Cause → List Reply
-replies w route state [] causes = []
-replies w route state (None ∷ others) causes = protocol_error ∷ []
-replies w route state (Some request ∷ others) [] = if is_in_place state request then [] else protocol_error ∷ []
-replies w route state (Some request ∷ others) (cause ∷ causes) =
-    if is_in_place state request then reply_to w route request cause ∷ (if is_close request then [] else replies w route (state_after state request) others causes) else protocol_error ∷ []
+-- ---- a course of requests
 
--- there is exactly one allowed cause for each request that takes one
-abbrev pub Fits : Route → ClientState → List (Option Request) → List Cause → Type 0
-Fits route state [] causes = causes ≡ []
-Fits route state (None ∷ others) causes = causes ≡ []
-Fits route state (Some request ∷ others) [] = is_in_place state request ≡ false
-Fits route state (Some request ∷ others) (cause ∷ causes) =
-    (is_in_place state request ≡ true) × IsAllowed (reached route request) cause cause.mark × MatchBool (is_close request) (causes ≡ []) (Fits route (state_after state request) others causes)
+-- where a run stops: it stands and waits for more units; it is over; or a request needs a cause and none is left
+pub data Stop : Type 0 where
+  standing : Progress → Stop
+  over : End → Stop
+  wanting : Stop
+
+-- a course under causes: replies, the causes that were taken, those that are left, the client, and where it stops
+pub record Run : Type 0 where
+  pub replies : List Reply
+  pub taken : List Taken
+  pub left : List Cause
+  pub client : ClientState
+  pub stop : Stop
+
+-- nothing more is answered
+abbrev pub stopped : List Reply → List Cause → ClientState → Stop → Run
+stopped replies left client stop = record { replies = replies; taken = []; left = left; client = client; stop = stop }
+
+-- replies and taken causes in front of a run
+abbrev pub in_front : List Reply → List Taken → Run → Run
+in_front replies taken run = record run { replies = replies ++ run.replies; taken = taken ++ run.taken }
+
+-- a course, answered under these causes
+abbrev pub run : {W : Type 0} → world.Ghosts W → Route → ClientState → Course → List Cause → Run
+run w route client (course.stands here) causes = stopped [] causes client (standing here)
+run w route client (course.ends last end) causes = stopped (option_to_list last) causes client (over end)
+run w route client (course.answers request more) [] = stopped [] [] client wanting
+run w route client (course.answers request more) (cause ∷ causes) =
+    in_front ((answered w route client request cause).reply ∷ [])
+    ((record { classes = reached w route client request; cause = cause }) ∷ [])
+    (run w route (answered w route client request cause).client more causes)
+
+-- a run that goes on by another where it stands, with the client and the causes that it leaves, and else is the whole
+abbrev pub goes_on : Stop → Run → (Progress → ClientState → List Cause → Run) → Run
+goes_on (standing here) first next = in_front first.replies first.taken (next here first.client first.left)
+goes_on (over end) first next = first
+goes_on wanting first next = first
+
+-- two runs, one behind another
+abbrev pub joined : Run → (Progress → ClientState → List Cause → Run) → Run
+joined first next = goes_on first.stop first next
+
+-- ---- the causes of a run
+
+-- no request wants a cause
+abbrev pub IsServed : Stop → Type 0
+IsServed (standing here) = Unit {0}
+IsServed (over end) = Unit {0}
+IsServed wanting = ⊥
+
+-- there is exactly one cause for each request that takes one, and it may come there
+pub record Fits (got : Run) : Type 0 where
+  pub allowed : AllByRecursion IsAllowed got.taken
+  pub served : IsServed got.stop
+  pub none_left : got.left ≡ []

@@ -1,37 +1,25 @@
--- What the gateway keeps of a client (this project's own): nothing of its sessions with targets, or of other clients.
-use Rattle.std.specs.Prelude.{Bool, true, false, not}
-use Rattle.z_types.specs.declared.requests.Request.{Request}
-use Rattle.z_types.specs.declared.requests.Request.TheVariants as request
-use Rattle.gateway_rules.specs.Init.{has_version}
+-- What the gateway keeps of a client (this project's own): nothing of its sessions with targets, or of other clients
+use Rattle.std.specs.Prelude.{ℕ, List, [], Bool, false}
+use Rattle.z_sets.specs.Sets.{StoredSet}
 
--- whether an Init was accepted
-pub record ClientState : Type 0 where
+-- How far a client's units have come: the offset of the next one, whether an Init was accepted, and how many were
+-- taken. The units alone decide it: no target's answer and no mark changes it.
+pub record Progress : Type 0 where
+  pub at : ℕ
   pub accepted : Bool
+  pub units : ℕ
 
--- a client that has sent nothing
-abbrev pub unknown_client : ClientState
-unknown_client = record { accepted = false }
+-- nothing was sent: the next unit is at offset 0, no Init was accepted, no unit was taken
+abbrev pub at_the_start : Progress
+at_the_start = record { at = 0; accepted = false; units = 0 }
 
--- an Init comes until one was accepted, and everything else after it (Z39.50, 4.2)
-abbrev pub is_in_place : ClientState → Request → Bool
-is_in_place state (request.Init init) = not state.accepted
-is_in_place state (request.Search search) = state.accepted
-is_in_place state (request.Present present) = state.accepted
-is_in_place state (request.Scan scan) = state.accepted
-is_in_place state (request.Close close) = state.accepted
+-- What the answers have left with a client: the searches and records that it has spent, and its result sets. Here
+-- will stand also the sizes that its Init was answered with, its login, and whose it is.
+pub record ClientState : Type 0 where
+  pub searches : ℕ
+  pub records : ℕ
+  pub sets : List StoredSet
 
--- the state after a request in its place: only an accepted Init changes it
-abbrev pub state_after : ClientState → Request → ClientState
-state_after state (request.Init init) = record { accepted = has_version init }
-state_after state (request.Search search) = state
-state_after state (request.Present present) = state
-state_after state (request.Scan scan) = state
-state_after state (request.Close close) = state
-
--- a Close ends the session
-abbrev pub is_close : Request → Bool
-is_close (request.Init init) = false
-is_close (request.Search search) = false
-is_close (request.Present present) = false
-is_close (request.Scan scan) = false
-is_close (request.Close close) = true
+-- a client that has asked nothing
+abbrev pub new_client : ClientState
+new_client = record { searches = 0; records = 0; sets = [] }

@@ -1,7 +1,7 @@
-//! The Init service (ANSI/NISO Z39.50-2003, 3.2.1.1).
+//! The Init service (ANSI/NISO Z39.50-2003, 3.2.1).
 
 ghost use Rattle.std.specs.Prelude.{◌≡◌, IfOk};
-ghost use Rattle.gateway_rules.specs.Init.{init_reply, has_version};
+ghost use Rattle.gateway_rules.specs.Replies.{init_reply, is_accepted};
 
 use z_types::{Init, MOST_UNIT_OCTETS, Memory, Reply, copy};
 
@@ -26,13 +26,13 @@ pub fn init_reply(init: &Init) -> Result<Reply, Memory>
             preferred: init.preferred.min(OWN_SIZE),
             exceptional: init.exceptional.min(OWN_SIZE),
         },
-        result: has_version(init),
+        result: is_accepted(init),
     })
 }
 
 /// Whether a version is common, so that the session is accepted.
-pub fn has_version(init: &Init) -> bool
-    ensures { result ≡ has_version init.now }
+pub fn is_accepted(init: &Init) -> bool
+    ensures { result ≡ is_accepted init.now }
 {
     init.versions & OWN_VERSIONS != 0
 }

@@ -1,8 +1,14 @@
 //! What is true of every answer. These functions do nothing; what they ensure is the law.
 
-ghost use Rattle.gateway_rules.specs.OneAnswer.{HasOneAnswer, HasOneEnd};
+ghost use Rattle.gateway_rules.specs.OneAnswer.{HasOneReading, HasOneAnswer, HasOneEnd};
+ghost use Rattle.gateway_rules.specs.Parts.{RunsGoOn, UnitsEndIt, RestEndsIt};
 
 use z_types::World;
+
+/// A client's octets are read as one request, or as none.
+pub fn one_reading()
+    ensures { HasOneReading }
+{}
 
 /// The answers to a client's octets are one where every mark is Plain: one list of marks, the same
 /// octets written, and one end.
@@ -10,8 +16,24 @@ pub fn one_answer<W: World>()
     ensures { HasOneAnswer W.World }
 {}
 
-/// How a client's connection ends follows from its octets alone, whatever the targets, the routes
-/// and the marks.
+/// How a client's connection ends follows from its octets and the limits of its route, whatever the
+/// targets and the marks.
 pub fn one_end<V: World, W: World>()
     ensures { HasOneEnd V.World W.World }
+{}
+
+/// Units, and others that come where the session stands behind them, are answered in one run.
+pub fn runs_go_on<W: World>()
+    ensures { RunsGoOn W.World }
+{}
+
+/// Where units end the session, their replies are the answers to a connection, whatever follows them.
+pub fn units_end<W: World>()
+    ensures { UnitsEndIt W.World }
+{}
+
+/// Where the session stands, and the rest of the octets ends it, these are the answers to the
+/// connection: the replies so far, and the last one if there is any.
+pub fn rest_ends<W: World>()
+    ensures { RestEndsIt W.World }
 {}

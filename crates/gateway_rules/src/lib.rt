@@ -5,8 +5,8 @@
 mod init;
 mod laws;
 
-pub use init::{has_version, init_reply};
-pub use laws::{one_answer, one_end};
+pub use init::{init_reply, is_accepted};
+pub use laws::{one_answer, one_end, one_reading, rest_ends, runs_go_on, units_end};
 
 #[cfg(test)]
 mod tests;

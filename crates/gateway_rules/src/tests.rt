@@ -59,7 +59,7 @@ fn an_init_is_answered_with_what_is_common(rt: HostRuntime) -> Result<(), Fail> 
                 init_reply(&init)? == expected,
                 "versions {versions}, size {asked}"
             );
-            assert_eq!(rt; has_version(&init), accepted);
+            assert_eq!(rt; is_accepted(&init), accepted);
         }
     }
     Ok(())
@@ -85,7 +85,11 @@ impl World for EmptyWorld {
 
 #[test]
 fn the_laws_hold_at_a_world_that_is_empty(_: HostRuntime) -> Result<(), Fail> {
+    one_reading();
     one_answer::<EmptyWorld>();
     one_end::<EmptyWorld, EmptyWorld>();
+    runs_go_on::<EmptyWorld>();
+    units_end::<EmptyWorld>();
+    rest_ends::<EmptyWorld>();
     Ok(())
 }

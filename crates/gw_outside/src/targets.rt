@@ -1,10 +1,11 @@
 //! Targets that can be asked directly.
 
 ghost use Rattle.std.specs.Prelude.{◌≡◌, MatchResult};
+ghost use Rattle.std.specs.Option.{option_copied};
 ghost use Rattle.gw_outside.specs.Targets.{AnswersAs};
 
 use std::alloc::Global;
-use z_types::{Address, Diag, List, Memory, RpnQuery, Text, World};
+use z_types::{Address, Diag, Item, List, Memory, Oid, RpnQuery, ScanAnswer, ScanAsk, Text, World};
 
 /// What a target answers.
 #[derive(Drop)]
@@ -53,4 +54,31 @@ pub trait Targets: World {
     ) -> TargetAnswer<u32>
         ensures { AnswersAs result
             (Self.search address.now (record { dbs = dbs.now; query = query.now })) };
+
+    /// The record at a position, counted from 1, of the result set of that query and those databases,
+    /// or the diagnostic in place of the whole present. Where no syntax or element set is named the
+    /// target takes its own.
+    fn record_(
+        &self,
+        alloc: Global,
+        address: &Address,
+        dbs: &List<Text>,
+        query: &RpnQuery,
+        position: u32,
+        syntax: Option<&Oid>,
+        element: Option<&Text>,
+    ) -> TargetAnswer<Item>
+        ensures { AnswersAs result
+            (Self.record_ address.now (record { dbs = dbs.now; query = query.now })
+            position (option_copied syntax.entry) (option_copied element.entry)) };
+
+    /// The entries of an index of the databases at an address.
+    fn scan(
+        &self,
+        alloc: Global,
+        address: &Address,
+        dbs: &List<Text>,
+        ask: &ScanAsk,
+    ) -> TargetAnswer<ScanAnswer>
+        ensures { AnswersAs result (Self.scan address.now dbs.now ask.now) };
 }

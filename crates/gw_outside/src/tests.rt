@@ -3,12 +3,17 @@
 ghost use Rattle.std.specs.Prelude.{[], ◌∷◌, Some, None, Ok, Err, refl, drop, if◌then◌else◌, ◌==◌};
 ghost use Rattle.std.proofs.Math.Nat.{min-le_right};
 ghost use Rattle.z_types.specs.Bounds.{most_number};
+ghost use Rattle.z_types.specs.Bib1.{bib1};
+ghost use Rattle.z_types.specs.declared.conditions.Condition.TheVariants.{PresentRequestOutOfRange};
 ghost use lib.Pointwise.{pointwise};
 
 use crate::*;
 use std::alloc::Global;
 use std::test::Fail;
-use z_types::{Address, List, Memory, Oid, Rpn, RpnQuery, Text, World, copy};
+use z_types::{
+    Address, Condition, Diag, Item, List, Memory, Oid, Rpn, RpnQuery, ScanAnswer, ScanAsk, Term,
+    Text, World, copy,
+};
 
 /// A sink that takes at most two octets at a call, and fails at the call of a number.
 #[derive(Drop)]
@@ -103,7 +108,7 @@ impl World for FakeTargets {
 
     ghost search = { λ _ _. Ok 0 };
 
-    ghost record_ = { λ _ _ _ _ _. Err (record { set = 1 ∷ 2 ∷ []; condition = 13; addinfo = [] }) };
+    ghost record_ = { λ _ _ _ _ _. Err (bib1 PresentRequestOutOfRange []) };
 
     ghost scan = { λ _ _ _. Ok (record { position = None; entries = [] }) };
 
@@ -115,6 +120,36 @@ impl World for FakeTargets {
 impl Targets for FakeTargets {
     fn search(&self, _: Global, _: &Address, _: &List<Text>, _: &RpnQuery) -> TargetAnswer<u32> {
         TargetAnswer::Good(0)
+    }
+
+    fn record_(
+        &self,
+        alloc: Global,
+        _: &Address,
+        _: &List<Text>,
+        _: &RpnQuery,
+        _: u32,
+        _: Option<&Oid>,
+        _: Option<&Text>,
+    ) -> TargetAnswer<Item> {
+        TargetAnswer::refused(Diag::bib1(
+            alloc,
+            Condition::PresentRequestOutOfRange,
+            Text::new(alloc),
+        ))
+    }
+
+    fn scan(
+        &self,
+        alloc: Global,
+        _: &Address,
+        _: &List<Text>,
+        _: &ScanAsk,
+    ) -> TargetAnswer<ScanAnswer> {
+        TargetAnswer::Good(ScanAnswer {
+            position: None,
+            entries: List::new(alloc),
+        })
     }
 }
 
@@ -174,7 +209,21 @@ fn fakes_meet_the_traits(rt: HostRuntime) -> Result<(), Fail> {
         attr_set: Oid::copy_of(alloc, &[1, 2])?,
         root: Rpn::operand(Text::new(alloc)),
     };
-    let answer = FakeTargets {}.search(alloc, &Address::Test(0), &List::new(alloc), &query);
+    let targets = FakeTargets {};
+    let (at, dbs) = (Address::Test(0), List::new(alloc));
+    let answer = targets.search(alloc, &at, &dbs, &query);
     assert!(rt; matches!(answer, TargetAnswer::Good(0)));
+    let answer = targets.record_(alloc, &at, &dbs, &query, 1, None, None);
+    assert!(rt; matches!(answer, TargetAnswer::Refused(_)));
+    let ask = ScanAsk {
+        attr_set: None,
+        attrs: List::new(alloc),
+        term: Term::Number(0),
+        step: None,
+        number: 0,
+        position: None,
+    };
+    let answer = targets.scan(alloc, &at, &dbs, &ask);
+    assert!(rt; matches!(answer, TargetAnswer::Good(_)));
     Ok(())
 }

@@ -1,5 +1,4 @@
-pub mod AnsweredLemmas
-pub mod ClientSteps
-pub mod Hits
 pub mod InputLemmas
 pub mod RunSteps
+pub mod Stepping
+pub mod Reported

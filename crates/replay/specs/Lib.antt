@@ -1,5 +1,4 @@
 pub mod Page
-pub mod Answered
+pub mod Connections
 pub mod Inputs
 pub mod Report
-pub mod Framed

@@ -3,13 +3,10 @@
 #![tactic(auto)]
 
 mod client;
-mod frames;
 mod inputs;
 mod page;
 mod reports;
 mod runs;
-mod search;
-mod units;
 
 pub use client::answer;
 pub use page::print;

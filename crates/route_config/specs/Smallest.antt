@@ -1,10 +1,8 @@
 -- The smallest configuration, and the route that it is (this project's own)
-use Rattle.std.specs.Prelude.{◌≡◌, ◌≢◌, ℕ, false, List, [], ◌∷◌, ◌++◌, codes, Result, Ok, Err}
+use Rattle.std.specs.Prelude.{ℕ, false, List, [], ◌∷◌, ◌++◌, codes}
 use Rattle.std.specs.List.{flat_map}
 use Rattle.z_types.specs.declared.address.Address.TheVariants.{Test}
 use Rattle.route_config.specs.declared.route.Route.{Route}
-use Rattle.route_config.specs.declared.faults.RouteFault.{RouteFault}
-use Rattle.route_config.specs.declared.faults.RouteFault.TheVariants.{Stage, Memory}
 
 -- the lines of the smallest configuration
 abbrev pub smallest_lines : List (List ℕ)
@@ -33,9 +31,3 @@ smallest_route = record {
       ∷ (record { name = codes "bath.issn"; value = 8 }) ∷ (record { name = codes "cql.anywhere"; value = 1016 }) ∷ [];
   schemas = (record { name = codes "dc"; uri = codes "info:srw/schema/1/dc-v1.1"; element = codes "dc" }) ∷ [];
 }
-
--- what a configuration's octets are read as: the smallest route from the smallest text, and nothing else
-abbrev pub IsConfiguration : List ℕ → Result Route RouteFault → Type 0
-IsConfiguration text (Ok route) = (text ≡ smallest_text) × (route ≡ smallest_route)
-IsConfiguration text (Err Stage) = text ≢ smallest_text
-IsConfiguration text (Err Memory) = Unit {0}

@@ -1,9 +1,9 @@
 //! The smallest configuration: one target, and one database that is the target's own.
 
-ghost use Rattle.std.specs.Prelude.{◌≡◌, ◌↔◌, IfOk, IsTrue, [], ◌∷◌};
-ghost use Rattle.route_config.specs.Smallest.{smallest_text, smallest_route, IsConfiguration};
+ghost use Rattle.std.specs.Prelude.{◌≡◌, IfOk, [], ◌∷◌};
+ghost use Rattle.route_config.specs.Smallest.{smallest_route};
 
-use crate::{Class, Database, Index, Members, PoolNumbers, Route, RouteFault, RouteLeg, Target};
+use crate::{Class, Database, Index, Members, PoolNumbers, Route, RouteLeg, Target};
 use std::alloc::Global;
 use z_types::{Address, Limits, List, Memory, Schema, Text};
 
@@ -16,25 +16,6 @@ name = \"Default\"\n\n\
 [[database.leg]]\n\
 via = \"alpha\"\n\
 databases = [\"Default\"]\n";
-
-/// The route of a configuration's octets. So far only the smallest configuration is read, and
-/// every other is refused as `Stage`.
-pub fn read_route(alloc: Global, text: &[u8]) -> Result<Route, RouteFault>
-    ensures { IsConfiguration text.now result }
-{
-    if is_smallest(text) {
-        Ok(Route::smallest(alloc)?)
-    } else {
-        Err(RouteFault::Stage)
-    }
-}
-
-/// Whether these are the octets of the smallest configuration.
-fn is_smallest(text: &[u8]) -> bool
-    ensures { IsTrue result ↔ (text.now ≡ smallest_text) }
-{
-    text == SMALLEST_TEXT
-}
 
 impl Route {
     /// The route of the smallest configuration.

@@ -11,7 +11,8 @@ use Rattle.z_types.specs.declared.scan.ScanAsk.{ScanAsk}
 use Rattle.z_types.specs.Bib1.{bib1}
 use Rattle.z_types.specs.declared.conditions.Condition.TheVariants.{TemporarySystemError, ElementSetNameNotValid, RecordSyntaxNotSupported}
 use Rattle.test_target.specs.Searches.{search_at}
-use Rattle.test_target.specs.Records.{record_at, xml, sutrs}
+use Rattle.test_target.specs.Records.{record_at}
+use Rattle.test_target.specs.Syntaxes.{xml, sutrs}
 use Rattle.test_target.specs.Scans.{first_term, position_among}
 
 -- title, for a word

@@ -1,2 +1,5 @@
 mod Examples
-mod FoundLemmas
+pub mod FoundLemmas
+pub mod PlacesLemmas
+pub mod Dotted
+pub mod ScansLemmas

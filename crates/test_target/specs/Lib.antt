@@ -1,6 +1,8 @@
 pub mod Databases
 pub mod Operands
 pub mod Searches
+pub mod Places
+pub mod Syntaxes
 pub mod Records
 pub mod Scans
 pub mod World

@@ -40,15 +40,22 @@ entry_of n names attrs letter =
 abbrev pub entries_of : ℕ → List (List ℕ) → ScanAsk → List ScanEntry
 entries_of n names ask = map (entry_of n names ask.attrs) (take ask.number (drop (first_term ask) letters))
 
--- the place of the asked term among the first entries, counted from 1, where it is one of them
+-- the place, counted from 1, of a term that has so many before it among so many entries, where it is one of them
+abbrev pub place_among : ℕ → ℕ → Option ℕ
+place_among before count = if nat_lt before count then Some (before + 1) else None
+
+-- the place of the asked term among the first entries, where it is one of them
 abbrev pub position_among : ScanAsk → ℕ → Option ℕ
-position_among ask count =
-    if nat_lt (terms_below ask.term - first_term ask) count then Some ((terms_below ask.term - first_term ask) + 1) else None
+position_among ask count = place_among (terms_below ask.term - first_term ask) count
+
+-- the entries, and the place of the asked term among them
+abbrev pub scan_answer : ℕ → List (List ℕ) → ScanAsk → ScanAnswer
+scan_answer n names ask = record {
+  position = position_among ask (length (entries_of n names ask));
+  entries = entries_of n names ask;
+}
 
 -- the entries of a scan, or the diagnostic of its databases, or else of its operand
 abbrev pub scan_at : ℕ → List (List ℕ) → ScanAsk → Result ScanAnswer Diag
 scan_at n names ask =
-    answer_unless (option_or (database_fault n names) (operand_fault (leaf ask.attrs ask.term))) (record {
-      position = position_among ask (length (entries_of n names ask));
-      entries = entries_of n names ask;
-    })
+    answer_unless (option_or (database_fault n names) (operand_fault (leaf ask.attrs ask.term))) (scan_answer n names ask)

@@ -7,10 +7,13 @@ use Rattle.z_types.specs.Bounds.{most_number}
 use Rattle.z_types.specs.World.{HitsAreCounts, WholeIsNotGone}
 use Rattle.z_types.specs.declared.address.Address.TheVariants.{Test, Tcp}
 use Rattle.z_types.specs.declared.diagnostic.Diag.{Diag}
-use Rattle.z_types.specs.declared.records.Item.{Item}
 use Rattle.test_target.specs.Databases.{same_name}
 use Rattle.test_target.specs.Searches.{answer_unless, database_fault, operand_fault}
-use Rattle.test_target.specs.Records.{Place, places, text_in, form_in, xml, sutrs, same_oid, written, record_in}
+use Rattle.test_target.specs.declared.places.Place.{Place}
+use Rattle.test_target.specs.declared.syntaxes.Syntax.{Syntax}
+use Rattle.test_target.specs.Places.{places}
+use Rattle.test_target.specs.Syntaxes.{syntax_in, xml, sutrs, same_oid}
+use Rattle.test_target.specs.Records.{text_in, written, record_in}
 use Rattle.test_target.specs.World.{search_of, record_of}
 
 hits_within : (fault : Option Diag) (sum : ℕ) → IfOk (answer_unless fault (min sum most_number)) (λ count. count ≤ most_number)
@@ -35,21 +38,21 @@ text_not_gone n place (Some element) =
     either_not_gone (same_name element (codes "F") || same_name element (codes "dc")) _ _ tt
     (either_not_gone (same_name element (codes "B")) _ _ tt refl)
 
-form_not_gone : (syntax : Option (List ℕ)) → NotGone (form_in syntax)
-form_not_gone None = tt
-form_not_gone (Some syntax) =
+syntax_not_gone : (syntax : Option (List ℕ)) → NotGone (syntax_in syntax)
+syntax_not_gone None = tt
+syntax_not_gone (Some syntax) =
     either_not_gone (same_oid syntax xml) _ _ tt (either_not_gone (same_oid syntax sutrs) _ _ tt refl)
 
-written_not_gone : (place : Place) (form : Result (List ℕ → Item) Diag) (text : Result (List ℕ) Diag) →
-    NotGone form → NotGone text → NotGone (written place form text)
+written_not_gone : (place : Place) (syntax : Result Syntax Diag) (text : Result (List ℕ) Diag) →
+    NotGone syntax → NotGone text → NotGone (written place syntax text)
 written_not_gone place (Err diag) text p q = p
-written_not_gone place (Ok form) (Err diag) p q = q
-written_not_gone place (Ok form) (Ok text) p q = tt
+written_not_gone place (Ok syntax) (Err diag) p q = q
+written_not_gone place (Ok syntax) (Ok text) p q = tt
 
 record_not_gone : (n : ℕ) (place : Option Place) (syntax element : Option (List ℕ)) → NotGone (record_in n place syntax element)
 record_not_gone n None syntax element = refl
 record_not_gone n (Some place) syntax element =
-    written_not_gone place (form_in syntax) (text_in n place element) (form_not_gone syntax) (text_not_gone n place element)
+    written_not_gone place (syntax_in syntax) (text_in n place element) (syntax_not_gone syntax) (text_not_gone n place element)
 
 pub whole_is_not_gone : WholeIsNotGone record_of
 whole_is_not_gone (Test n) key position syntax element = record_not_gone n (slice_get (places n key) (position - 1)) syntax element

@@ -1,10 +1,12 @@
 //! The databases of a test target.
 
-ghost use Rattle.std.specs.Prelude.{◌≡◌, ◌≤◌, IfSome};
+ghost use Rattle.std.specs.Prelude.{◌≡◌, ◌≤◌, IfOk, IfSome, length};
 ghost use Rattle.std.specs.Option.{option_copied};
 ghost use Rattle.test_target.specs.Databases.{size_of, missing_name};
+ghost use Rattle.test_target.specs.Searches.{database_fault};
 
-use z_types::{List, Text};
+use std::alloc::Global;
+use z_types::{Condition, Diag, List, Memory, Text, copy};
 
 /// The most records that a database of a test target has.
 pub(crate) const MOST_RECORDS: u32 = 99;
@@ -13,6 +15,7 @@ pub(crate) const MOST_RECORDS: u32 = 99;
 pub(crate) fn size_of(target: u32, name: &Text) -> Option<u32>
     ensures value { result ≡ size_of target name.now }
     ensures bound { IfSome result (λ size. size ≤ MOST_RECORDS) }
+    ensures short { IfSome result (λ size. length name.now ≤ 7) }
 {
     let name = name.as_slice();
     if name == b"Default".as_slice() {
@@ -27,9 +30,23 @@ pub(crate) fn size_of(target: u32, name: &Text) -> Option<u32>
 }
 
 /// The first name of no database.
-pub(crate) fn find_missing(target: u32, names: &List<Text>) -> Option<&Text>
+fn find_missing(target: u32, names: &List<Text>) -> Option<&Text>
     ensures { option_copied result ≡ missing_name target names.now }
 {
     let mut names = names.as_slice().iter();
     names.find(|name| size_of(target, name).is_none())
+}
+
+/// The diagnostic of the first name of no database, if there is one.
+pub(crate) fn database_fault(
+    alloc: Global,
+    target: u32,
+    names: &List<Text>,
+) -> Result<Option<Diag>, Memory>
+    ensures { IfOk result (λ fault. fault ≡ database_fault target names.now) }
+{
+    match find_missing(target, names) {
+        Some(name) => Ok(Some(Diag::bib1(alloc, Condition::DatabaseDoesNotExist, copy(name)?)?)),
+        None => Ok(None),
+    }
 }

@@ -1,14 +1,16 @@
 //! What a query finds at a test target.
 
-ghost use Rattle.std.specs.Prelude.{◌≡◌, ◌+◌, ◌%◌, ◌<◌, ◌≤◌, ◌==◌, ◌&&◌, ◌||◌, not, length, map, filter, take, sum_by, min, IfOk, false};
+ghost use Rattle.std.specs.Prelude.{◌≡◌, ◌+◌, ◌%◌, ◌<◌, ◌≤◌, ◌==◌, ◌&&◌, ◌||◌, not, length, map, filter, take, sum_by, min, IfOk, false, [], ◌∷◌};
 ghost use Rattle.std.specs.List.{range_with_len, zip};
 ghost use Rattle.z_types.specs.Bounds.{most_number};
+ghost use Rattle.z_types.specs.Tree.{leaf};
+ghost use Rattle.z_types.specs.declared.query.Term.TheVariants.{General};
 ghost use Rattle.test_target.specs.Searches.{finds, use_fault, operand_fault, found_of, hits};
 
 use crate::databases::{MOST_RECORDS, size_of};
-use crate::operands::{is_use, modulus, use_of};
+use crate::operands::{is_use, letter_modulus, modulus, use_of};
 use std::alloc::Global;
-use z_types::{Condition, Diag, List, MOST_NUMBER, Memory, Node, Rpn, Text, copy};
+use z_types::{Attr, Condition, Diag, List, MOST_NUMBER, Memory, Node, Rpn, Text, copy};
 
 /// The first operand from the left that cannot be answered, as its diagnostic.
 pub(crate) fn find_fault(alloc: Global, query: &Rpn) -> Result<Option<Diag>, Memory>
@@ -37,7 +39,7 @@ pub(crate) fn find_fault(alloc: Global, query: &Rpn) -> Result<Option<Diag>, Mem
 }
 
 /// The fault of a Use attribute, if the targets do not have it.
-fn use_fault(alloc: Global, value: u32) -> Result<Option<Diag>, Memory>
+pub(crate) fn use_fault(alloc: Global, value: u32) -> Result<Option<Diag>, Memory>
     ensures { IfOk result (λ fault. fault ≡ use_fault value) }
 {
     if is_use(value) {
@@ -48,7 +50,7 @@ fn use_fault(alloc: Global, value: u32) -> Result<Option<Diag>, Memory>
 }
 
 /// Which of the records 1 to `MOST_RECORDS` a query finds.
-fn found(alloc: Global, target: u32, query: &Rpn) -> Result<Vec<bool>, Memory>
+pub(crate) fn found(alloc: Global, target: u32, query: &Rpn) -> Result<Vec<bool>, Memory>
     ensures { IfOk result
         (λ found. found.items ≡ map (finds target query.now) (range_with_len 1 MOST_RECORDS)) }
 {
@@ -147,6 +149,36 @@ pub(crate) fn hits(
 {
     let found = found(alloc, target, query)?;
     Ok(count_hits(target, found.as_slice(), names))
+}
+
+/// How many records the word of one letter finds in databases, at most `MOST_NUMBER`.
+pub(crate) fn letter_hits(
+    alloc: Global,
+    target: u32,
+    attrs: &List<Attr>,
+    letter: u8,
+    names: &List<Text>,
+) -> Result<u32, Memory>
+    ensures { IfOk result
+        (λ count. count ≡ hits target (leaf attrs.now (General (letter ∷ []))) names.now) }
+{
+    let found = found_by_letter(alloc, target, attrs, letter)?;
+    Ok(count_hits(target, found.as_slice(), names))
+}
+
+/// Which records the word of one letter finds.
+fn found_by_letter(
+    alloc: Global,
+    target: u32,
+    attrs: &List<Attr>,
+    letter: u8,
+) -> Result<Vec<bool>, Memory>
+    ensures { IfOk result
+        (λ found. found.items
+        ≡ map (finds target (leaf attrs.now (General (letter ∷ []))))
+        (range_with_len 1 MOST_RECORDS)) }
+{
+    found_by_operand(alloc, target, use_of(attrs), letter_modulus(letter))
 }
 
 /// How many records of databases are found, at most `MOST_NUMBER`.

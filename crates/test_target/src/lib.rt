@@ -4,6 +4,10 @@
 mod databases;
 mod hits;
 mod operands;
+mod places;
+mod records;
+mod scans;
+mod syntaxes;
 #[cfg(test)]
 mod tests;
 mod worlds;

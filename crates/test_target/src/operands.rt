@@ -1,6 +1,7 @@
 //! What an operand asks a test target for: its Use attribute, and the modulus of its term.
 
-ghost use Rattle.std.specs.Prelude.{◌≡◌, ◌<◌, ◌%◌, ◌==◌, IfOk, find, sum};
+ghost use Rattle.std.specs.Prelude.{◌≡◌, ◌<◌, ◌%◌, ◌==◌, IfOk, find, sum, [], ◌∷◌};
+ghost use Rattle.z_types.specs.declared.query.Term.TheVariants.{General};
 ghost use Rattle.std.specs.Option.{option_copied};
 ghost use Rattle.test_target.specs.Operands.{use_of, is_use, modulus};
 
@@ -10,7 +11,22 @@ use z_types::{Attr, List, Memory, Term};
 /// The attribute type of Use (bib-1).
 const USE: u32 = 1;
 
-/// The Use attribute where none is named: any.
+/// Title (bib-1 Use).
+const TITLE: u32 = 4;
+
+/// ISBN (bib-1 Use).
+const ISBN: u32 = 7;
+
+/// ISSN (bib-1 Use).
+const ISSN: u32 = 8;
+
+/// Subject (bib-1 Use).
+const SUBJECT: u32 = 21;
+
+/// Author (bib-1 Use).
+const AUTHOR: u32 = 1003;
+
+/// Any (bib-1 Use), which an operand is of where it names no Use.
 const ANY: u32 = 1016;
 
 /// The Use attribute of an operand: the first that is named.
@@ -35,7 +51,7 @@ fn first_use(attrs: &List<Attr>) -> Option<&Attr>
 pub(crate) fn is_use(value: u32) -> bool
     ensures { result ≡ is_use value }
 {
-    matches!(value, 4 | 7 | 8 | 21 | 1003 | 1016)
+    matches!(value, TITLE | ISBN | ISSN | SUBJECT | AUTHOR | ANY)
 }
 
 /// The n of a term that is found at every n-th record, 2 to 8.
@@ -50,6 +66,13 @@ pub(crate) fn modulus(alloc: Global, term: &Term) -> Result<u32, Memory>
             Ok(2 + sum_mod7(text.as_bytes()))
         }
     }
+}
+
+/// The same of a word of one letter.
+pub(crate) fn letter_modulus(letter: u8) -> u32
+    ensures { result ≡ modulus (General (letter ∷ [])) }
+{
+    2 + sum_mod7(&[letter])
 }
 
 /// The sum of octets modulo 7.

@@ -1,11 +1,13 @@
-//! Searches of the test targets whose answers were worked out by hand from their meaning: `a` is
+//! Searches, records and scans of the test targets whose answers were worked out by hand from their meaning: `a` is
 //! found at every eighth record, `b` at every second, `c` at every third, `-1` at every fifth.
 
 use crate::TestWorld;
 use gw_outside::{TargetAnswer, Targets};
 use std::alloc::Global;
 use std::test::Fail;
-use z_types::{Address, Attr, List, Memory, Oid, Rpn, RpnQuery, Term, Text};
+use z_types::{
+    Address, Attr, Item, List, Memory, Oid, Rpn, RpnQuery, ScanAnswer, ScanAsk, Term, Text,
+};
 
 /// An operand of these attributes, each a type and a value.
 fn operand(alloc: Global, attrs: &[(u32, u32)], term: Term) -> Result<Rpn, Memory> {
@@ -152,5 +154,79 @@ fn refusals_name_what_is_not_there(rt: HostRuntime) -> Result<(), Fail> {
     assert!(rt; refuses(alloc, &there, tree, 30, "s")?, "from the left");
     let far = Address::Tcp(Text::copy_of(alloc, b"a")?, 210);
     assert_eq!(rt; answer(alloc, &far, &there, word(alloc, 4, "a")?)?.0, 109);
+    Ok(())
+}
+
+/// The octets of a record that `b` finds in `Default` of target 5, or those of its diagnostic.
+fn octets(
+    alloc: Global,
+    position: u32,
+    syntax: Option<&Oid>,
+    element: Option<&Text>,
+) -> Result<Text, Memory> {
+    let query = RpnQuery {
+        attr_set: Oid::copy_of(alloc, &[1, 2, 840, 10003, 3, 1])?,
+        root: word(alloc, 4, "b")?,
+    };
+    let names = databases(alloc, &["Default"])?;
+    let at = Address::Test(5);
+    match TestWorld.record_(alloc, &at, &names, &query, position, syntax, element) {
+        TargetAnswer::Good(Item::Record { bytes, .. }) => Ok(bytes),
+        TargetAnswer::Good(Item::Surrogate(diag)) => Ok(diag.addinfo),
+        TargetAnswer::Refused(diag) => Ok(diag.addinfo),
+        TargetAnswer::Memory => Err(Memory),
+    }
+}
+
+#[test]
+fn a_record_has_its_form(rt: HostRuntime) -> Result<(), Fail> {
+    let alloc = rt.alloc();
+    let sutrs = Oid::copy_of(alloc, &[1, 2, 840, 10003, 5, 101])?;
+    let other = Oid::copy_of(alloc, &[1, 2, 840, 10003, 5, 10])?;
+    let number = Text::copy_of(alloc, b"B")?;
+    assert!(rt; octets(alloc, 1, None, None)?.as_slice() == b"<r>5.Default.1</r>".as_slice());
+    let brief = octets(alloc, 2, Some(&sutrs), Some(&number))?;
+    assert!(rt; brief.as_slice() == b"\x1b\x013".as_slice(), "SUTRS");
+    assert!(rt;
+        octets(alloc, 7, None, None)?.as_slice() == b"13".as_slice(),
+        "broken"
+    );
+    let refused = octets(alloc, 1, Some(&other), None)?;
+    assert!(rt; refused.as_slice() == b"1.2.840.10003.5.10".as_slice());
+    Ok(())
+}
+
+/// A scan of `Default` of target 0 by any Use, for five entries with the asked term second.
+fn scan(alloc: Global, term: Term) -> Result<ScanAnswer, Memory> {
+    let ask = ScanAsk {
+        attr_set: None,
+        attrs: List::new(alloc),
+        term,
+        step: None,
+        number: 5,
+        position: Some(2),
+    };
+    match TestWorld.scan(
+        alloc,
+        &Address::Test(0),
+        &databases(alloc, &["Default"])?,
+        &ask,
+    ) {
+        TargetAnswer::Good(answer) => Ok(answer),
+        TargetAnswer::Refused(_) => Err(Memory),
+        TargetAnswer::Memory => Err(Memory),
+    }
+}
+
+#[test]
+fn a_scan_begins_before_its_term(rt: HostRuntime) -> Result<(), Fail> {
+    let alloc = rt.alloc();
+    let answer = scan(alloc, Term::General(Text::copy_of(alloc, b"c")?))?;
+    assert!(rt; answer.position == Some(2));
+    let hits = [10, 7, 5, 4, 3];
+    assert!(rt; answer.entries.len() == 5);
+    for (entry, hits) in answer.entries.as_slice().iter().zip(hits.iter()) {
+        assert!(rt; entry.occurrences == Some(*hits), "{hits}");
+    }
     Ok(())
 }

@@ -5,13 +5,21 @@ ghost use Rattle.std.specs.Option.{option_or};
 ghost use Rattle.z_types.specs.Bib1.{bib1};
 ghost use Rattle.z_types.specs.declared.conditions.Condition.TheVariants.{DatabaseUnavailable};
 ghost use Rattle.gw_outside.specs.Targets.{AnswersAs};
-ghost use Rattle.test_target.specs.Searches.{search_at, database_fault, operand_fault};
+ghost use Rattle.test_target.specs.Operands.{use_of};
+ghost use Rattle.test_target.specs.Searches.{search_at, database_fault, operand_fault, use_fault};
+ghost use Rattle.test_target.specs.Scans.{scan_at};
 
-use crate::databases::find_missing;
-use crate::hits::{find_fault, hits};
+use crate::databases::database_fault;
+use crate::hits::{find_fault, hits, use_fault};
+use crate::operands::use_of;
+use crate::records::record_at;
+use crate::scans::scan_answer;
 use gw_outside::{TargetAnswer, Targets};
 use std::alloc::Global;
-use z_types::{Address, Condition, Diag, List, Memory, Rpn, RpnQuery, Text, World, copy};
+use z_types::{
+    Address, Attr, Condition, Diag, Item, List, Memory, Oid, Rpn, RpnQuery, ScanAnswer, ScanAsk,
+    Text, World,
+};
 
 /// The built-in test targets, each an unchanging database. No other target can be asked here: its
 /// databases are unavailable.
@@ -48,6 +56,37 @@ impl Targets for TestWorld {
             Address::Tcp(_, _) => TargetAnswer::refused(unavailable(alloc)),
         }
     }
+
+    fn record_(
+        &self,
+        alloc: Global,
+        address: &Address,
+        dbs: &List<Text>,
+        query: &RpnQuery,
+        position: u32,
+        syntax: Option<&Oid>,
+        element: Option<&Text>,
+    ) -> TargetAnswer<Item> {
+        match address {
+            Address::Test(target) => {
+                record_at(alloc, *target, dbs, query, position, syntax, element)
+            }
+            Address::Tcp(_, _) => TargetAnswer::refused(unavailable(alloc)),
+        }
+    }
+
+    fn scan(
+        &self,
+        alloc: Global,
+        address: &Address,
+        dbs: &List<Text>,
+        ask: &ScanAsk,
+    ) -> TargetAnswer<ScanAnswer> {
+        match address {
+            Address::Test(target) => scan_at(alloc, *target, dbs, ask),
+            Address::Tcp(_, _) => TargetAnswer::refused(unavailable(alloc)),
+        }
+    }
 }
 
 /// The answer of a test target to a search.
@@ -72,9 +111,36 @@ fn search_fault(
     ensures { IfOk result
         (λ fault. fault ≡ option_or (database_fault target dbs.now) (operand_fault query.now)) }
 {
-    match find_missing(target, dbs) {
-        Some(name) => Ok(Some(Diag::bib1(alloc, Condition::DatabaseDoesNotExist, copy(name)?)?)),
+    match database_fault(alloc, target, dbs)? {
+        Some(fault) => Ok(Some(fault)),
         None => find_fault(alloc, query),
+    }
+}
+
+/// The answer of a test target to a scan.
+fn scan_at(alloc: Global, target: u32, dbs: &List<Text>, ask: &ScanAsk) -> TargetAnswer<ScanAnswer>
+    ensures { AnswersAs result (scan_at target dbs.now ask.now) }
+{
+    match scan_fault(alloc, target, dbs, &ask.attrs) {
+        Ok(Some(fault)) => TargetAnswer::Refused(fault),
+        Ok(None) => TargetAnswer::good(scan_answer(alloc, target, dbs, ask)),
+        Err(_) => TargetAnswer::Memory,
+    }
+}
+
+/// The fault of a scan: first of its databases, then of its Use.
+fn scan_fault(
+    alloc: Global,
+    target: u32,
+    dbs: &List<Text>,
+    attrs: &List<Attr>,
+) -> Result<Option<Diag>, Memory>
+    ensures { IfOk result
+        (λ fault. fault ≡ option_or (database_fault target dbs.now) (use_fault (use_of attrs.now))) }
+{
+    match database_fault(alloc, target, dbs)? {
+        Some(fault) => Ok(Some(fault)),
+        None => use_fault(alloc, use_of(attrs)),
     }
 }
 

@@ -1,6 +1,6 @@
 //! The framer: it keeps the octets that have not been handed out, and where the scan stands in them.
 
-ghost use Rattle.std.specs.Prelude.{◌≡◌, [], OnOk, OnErr};
+ghost use Rattle.std.specs.Prelude.{◌≡◌, [], length, OnOk, OnErr};
 ghost use Rattle.z_ber.specs.Header.{IsBadFor};
 ghost use Rattle.z_ber.specs.Frames.{IsFrame};
 ghost use Rattle.z_ber.specs.Due.{Stands};
@@ -134,5 +134,26 @@ impl Framer {
         ensures { result.now ≡ self.now.unit }
     {
         &self.buffer.as_slice()[..self.given]
+    }
+
+    /// Lends the octets behind the unit that was given last.
+    pub fn rest(&self) -> &[u8]
+        ensures { result.now ≡ self.now.rest }
+    {
+        &self.buffer.as_slice()[self.given..]
+    }
+
+    /// How many octets stand behind the unit that was given last.
+    pub fn rest_len(&self) -> usize
+        ensures { result ≡ length self.now.rest }
+    {
+        self.rest().len()
+    }
+
+    /// The offset of the octets behind the unit that was given last.
+    pub fn offset(&self) -> u64
+        ensures { result ≡ self.now.end }
+    {
+        self.end
     }
 }

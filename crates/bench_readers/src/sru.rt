@@ -1,0 +1,112 @@
+//! Replies to SRU clients, and parameters of their requests.
+
+ghost use Rattle.std.specs.Prelude.{◌≡◌, IfOk};
+
+use sru_reply::reply_text;
+use sru_request::{Get, query_of};
+use std::alloc::Global;
+use z_types::{List, Memory, Schema, SruAnswer, SruItem, Text};
+
+/// What is written or read.
+#[derive(Clone, Copy)]
+pub enum Shape {
+    /// A reply of ten records as they are, which have all octets.
+    Reply,
+    /// The same with packed records.
+    Packed,
+    /// A query of names without values, which have all octets.
+    Names,
+}
+
+/// Ten records that have these octets each.
+fn records(alloc: Global, octets: usize) -> Result<List<SruItem>, Memory> {
+    let mut items = List::new(alloc);
+    for _ in 0..10 {
+        let record = vec![in alloc; b'a'; octets]?;
+        items.push(SruItem::Data(Text::from_vec(record)))?;
+    }
+    Ok(items)
+}
+
+/// An answer of ten records.
+fn answer(alloc: Global, escaped: bool, size: usize) -> Result<SruAnswer, Memory> {
+    Ok(SruAnswer {
+        version: Text::copy_of(alloc, b"1.2")?,
+        escaped,
+        count: 11,
+        start: 1,
+        uri: Text::copy_of(alloc, b"info:srw/schema/1/dc-v1.1")?,
+        items: records(alloc, size / 10)?,
+        refused: None,
+    })
+}
+
+/// A query of names without values, in about so many octets.
+fn query(alloc: Global, size: usize) -> Result<Text, Memory> {
+    let mut query = Text::copy_of(alloc, b"operation=searchRetrieve&version=1.2&query=a")?;
+    for number in 0..size / 8 {
+        let name = format!(in alloc; "&y{number:06}")?;
+        query.append(name.as_bytes())?;
+    }
+    Ok(query)
+}
+
+/// One schema.
+fn schemas(alloc: Global) -> Result<List<Schema>, Memory> {
+    let mut schemas = List::new(alloc);
+    schemas.push(Schema {
+        name: Text::copy_of(alloc, b"dc")?,
+        uri: Text::copy_of(alloc, b"info:srw/schema/1/dc-v1.1")?,
+        element: Text::copy_of(alloc, b"F")?,
+    })?;
+    Ok(schemas)
+}
+
+/// Writes an answer so many times, and answers its octets and how often it was written.
+fn write(alloc: Global, answer: &SruAnswer, times: u32) -> Result<(usize, u64), Memory>
+    ensures { times ≡ 0 → IfOk result (λ written. written.1 ≡ 0) }
+{
+    let octets = reply_text(alloc, answer)?.len();
+    let mut written = 0u64;
+    for _ in 0..times {
+        if reply_text(alloc, answer)?.len() == octets {
+            written = written.saturating_add(1);
+        }
+    }
+    Ok((octets, written))
+}
+
+/// Reads a query so many times, and answers its octets and how often it was taken.
+fn read(alloc: Global, get: &Get, times: u32) -> Result<(usize, u64), Memory>
+    ensures { times ≡ 0 → IfOk result (λ taken. taken.1 ≡ 0) }
+{
+    let schemas = schemas(alloc)?;
+    let mut taken = 0u64;
+    for _ in 0..times {
+        if query_of(alloc, get, &schemas).is_ok() {
+            taken = taken.saturating_add(1);
+        }
+    }
+    Ok((get.query.len(), taken))
+}
+
+/// Writes or reads a shape of about so many octets so many times, and answers its octets and how
+/// often that was done.
+pub(crate) fn run(
+    alloc: Global,
+    shape: Shape,
+    size: usize,
+    times: u32,
+) -> Result<(usize, u64), Memory>
+    ensures { times ≡ 0 → IfOk result (λ done. done.1 ≡ 0) }
+{
+    match shape {
+        Shape::Reply => write(alloc, &answer(alloc, false, size)?, times),
+        Shape::Packed => write(alloc, &answer(alloc, true, size)?, times),
+        Shape::Names => {
+            let path = Text::new(alloc);
+            let query = query(alloc, size)?;
+            read(alloc, &Get { path, query }, times)
+        }
+    }
+}

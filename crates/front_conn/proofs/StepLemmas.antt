@@ -1,0 +1,156 @@
+-- A step of a connection does what its contract says, by what the connection goes on with.
+use Rattle.std.proofs.Common.{◌≡◌, ℕ, Bool, false, List, ◌++◌, Option, Some, None, Result, Ok, Err, refl, sym, ◌∙◌, subst, inl, inr}
+use Rattle.std.specs.Prelude.{is_some, IsSome, OnOk, option_to_list}
+use Rattle.z_types.specs.declared.marks.End.{End}
+use Rattle.z_types.specs.declared.marks.End.TheVariants.{Malformed}
+use Rattle.z_types.specs.declared.marks.Mark.{Mark}
+use Rattle.z_types.specs.declared.memory.Memory as memory
+use Rattle.z_types.specs.declared.world.World as world
+use Rattle.route_config.specs.declared.route.Route.{Route}
+use Rattle.unit_forms.specs.Replies.{spell_reply}
+use Rattle.z_frame.specs.Framing.{Framing}
+use Rattle.gateway_rules.specs.Replies.{bad_unit_reply}
+use Rattle.front_session.specs.Sessions.{SessionState}
+use Rattle.front_conn.specs.Places.{Place}
+use Rattle.front_conn.specs.Steps.{IsIdle, IsStepped, KeepsPlace, UnlessMemory, IsEndAfter}
+use Rattle.front_conn.specs.Ahead.{AreAhead}
+use Rattle.front_conn.specs.Answering.{AnswersUnit}
+use Rattle.front_conn.specs.declared.answer.Told.{Told}
+use Rattle.front_conn.specs.declared.ahead.Ahead.TheVariants.{Nothing, Ended, Bad, Whole}
+use Rattle.front_conn.specs.declared.stepped.Stepped.{Stepped}
+use Rattle.front_conn.proofs.PlaceLemmas.{unit-keeps, served}
+use Rattle.front_conn.proofs.EndLemmas.{end-keeps, refuse-keeps, frame-octets}
+use Rattle.front_conn.proofs.AheadLemmas.{ahead-nothing, ahead-ended, ahead-bad, ahead-whole, busy-bad, busy-whole}
+
+-- the place of a connection with such parts
+abbrev pub place_of : Framing → SessionState → List ℕ → List Mark → Option End → Bool → Place
+place_of f session out marks end has_ended =
+    record { session = session; at = f.end; left = f.rest; has_ended = has_ended; marks = marks; out = out; end = end }
+
+-- a connection that has not ended
+pub none-of : (end : Option End) → is_some end ≡ false → end ≡ None
+none-of None h = refl
+none-of (Some end) h = absurd cc
+
+-- ---- nothing
+
+pub step-nothing : (f g : Framing) (session : SessionState) (out : List ℕ) (marks : List Mark) (end : Option End)
+    (has_ended : Bool) (old : Place) → place_of f session out marks end has_ended ≡ old
+    → AreAhead f.rest has_ended f g Nothing → IsIdle old × (place_of g session out marks end has_ended ≡ old)
+step-nothing f g session out marks end has_ended old e h =
+    let here : Place = place_of f session out marks end has_ended in
+    let a = ahead-nothing f.rest has_ended f g here refl refl h in
+    let at = a.2.stays.place in
+    let left = a.2.stays.rest in
+    let same : place_of g session out marks end has_ended ≡ here = λ i. record here { at = at i; left = left i } in
+    (subst IsIdle e (inr (record { goes_on = a.0; unfinished = a.1 })), same ∙ e)
+
+-- ---- the end of the input
+
+pub step-ended : {W : Type 0} (w : world.Ghosts W) (route : Route) (f g : Framing) (session : SessionState)
+    (out : List ℕ) (marks : List Mark) (end : Option End) (has_ended : Bool) (old : Place) (how : End)
+    → place_of f session out marks end has_ended ≡ old → end ≡ None → AreAhead f.rest has_ended f g (Ended how)
+    → KeepsPlace w route old (place_of g session out marks (Some how) has_ended)
+step-ended w route f g session out marks end has_ended old how e goes h =
+    let here : Place = place_of f session out marks end has_ended in
+    let new : Place = place_of g session out marks (Some how) has_ended in
+    let a = ahead-ended f.rest has_ended f g how refl h in
+    subst (λ (o : Place). KeepsPlace w route o new) e
+    (end-keeps w route here new how
+    (record { goes = goes; ended = refl; input = a.0; marks = refl; out = refl }) a.1)
+
+-- ---- octets that are no unit
+
+pub step-bad : (f g : Framing) (session : SessionState) (out new_out : List ℕ) (marks : List Mark)
+    (end new_end : Option End) (has_ended : Bool) (old : Place) (at : ℕ) (done : Result (Unit {0}) memory.Memory)
+    (answer : Stepped) → place_of f session out marks end has_ended ≡ old → end ≡ None
+    → AreAhead f.rest has_ended f g (Bad at) → IsEndAfter done (Some (Malformed at)) new_end answer
+    → IsStepped old (place_of g session new_out marks new_end has_ended) answer
+step-bad f g session out new_out marks end new_end has_ended old at (Ok nothing) answer e goes h done =
+    let here : Place = place_of f session out marks end has_ended in
+    let new : Place = place_of g session new_out marks new_end has_ended in
+    let a = ahead-bad f.rest has_ended f g at refl h in
+    let some : IsSome new_end = subst (λ (o : Option End). IsSome o) (sym done.0) refl in
+    subst (λ (o : Place). IsStepped o new answer) e
+    (subst (λ (s : Stepped). IsStepped here new s) (sym done.1) (busy-bad here at goes a.0, (goes, refl, inr some)))
+step-bad f g session out new_out marks end new_end has_ended old at (Err want) answer e goes h done =
+    let new : Place = place_of g session new_out marks new_end has_ended in
+    subst (λ (s : Stepped). IsStepped old new s) (sym done.1) done.0
+
+pub keeps-bad : {W : Type 0} (w : world.Ghosts W) (route : Route) (f g : Framing) (session : SessionState)
+    (out new_out : List ℕ) (marks : List Mark) (end new_end : Option End) (has_ended : Bool) (old : Place) (at : ℕ)
+    (done : Result (Unit {0}) memory.Memory) (answer : Stepped) → place_of f session out marks end has_ended ≡ old
+    → end ≡ None → AreAhead f.rest has_ended f g (Bad at) → IsEndAfter done (Some (Malformed at)) new_end answer
+    → OnOk done (new_out ≡ out ++ spell_reply bad_unit_reply)
+    → UnlessMemory answer (KeepsPlace w route old (place_of g session new_out marks new_end has_ended))
+keeps-bad w route f g session out new_out marks end new_end has_ended old at (Ok nothing) answer e goes h done written =
+    let here : Place = place_of f session out marks end has_ended in
+    let new : Place = place_of g session new_out marks new_end has_ended in
+    let a = ahead-bad f.rest has_ended f g at refl h in
+    let keeps = refuse-keeps w route here new at
+    (record { goes = goes; ended = done.0; marks = refl; out = written }) a.0 in
+    subst (λ (s : Stepped). UnlessMemory s (KeepsPlace w route old new)) (sym done.1)
+    (subst (λ (o : Place). KeepsPlace w route o new) e keeps)
+keeps-bad w route f g session out new_out marks end new_end has_ended old at (Err want) answer e goes h done written =
+    let new : Place = place_of g session new_out marks new_end has_ended in
+    subst (λ (s : Stepped). UnlessMemory s (KeepsPlace w route old new)) (sym done.1) tt
+
+-- ---- a unit
+
+pub step-whole : (f g : Framing) (session new_session : SessionState) (out new_out : List ℕ) (marks new_marks : List Mark)
+    (end new_end ended : Option End) (has_ended : Bool) (old : Place) (from to : ℕ)
+    (done : Result (Unit {0}) memory.Memory) (answer : Stepped)
+    → place_of f session out marks end has_ended ≡ old → end ≡ None → AreAhead f.rest has_ended f g (Whole from to)
+    → IsEndAfter done ended new_end answer
+    → IsStepped old (place_of g new_session new_out new_marks new_end has_ended) answer
+step-whole f g session new_session out new_out marks new_marks end new_end ended has_ended old from to (Ok nothing) answer e goes h done =
+    let here : Place = place_of f session out marks end has_ended in
+    let new : Place = place_of g new_session new_out new_marks new_end has_ended in
+    let a = ahead-whole f.rest has_ended f g from to h in
+    subst (λ (o : Place). IsStepped o new answer) e
+    (subst (λ (s : Stepped). IsStepped here new s) (sym done.1) (
+      busy-whole here g.unit g.rest goes a.given.frame a.given.spelled,
+      (
+        goes,
+        refl,
+        inl (record {
+          unit = g.unit;
+          whole = a.given.frame;
+          filled = frame-octets g.unit a.given.frame;
+          taken = a.given.spelled;
+        }),
+      ),
+    ))
+step-whole f g session new_session out new_out marks new_marks end new_end ended has_ended old from to (Err want) answer e goes h done =
+    let new : Place = place_of g new_session new_out new_marks new_end has_ended in
+    subst (λ (s : Stepped). IsStepped old new s) (sym done.1) done.0
+
+pub keeps-whole : {W : Type 0} (w : world.Ghosts W) (route : Route) (f g : Framing) (session new_session : SessionState)
+    (out new_out : List ℕ) (marks new_marks : List Mark) (end new_end : Option End) (has_ended : Bool) (old : Place)
+    (from to : ℕ) (unit : List ℕ) (told : Told) (done : Result (Unit {0}) memory.Memory) (answer : Stepped)
+    → place_of f session out marks end has_ended ≡ old → end ≡ None → AreAhead f.rest has_ended f g (Whole from to)
+    → unit ≡ g.unit
+    → AnswersUnit w route from unit (record { session = session; out = out }) (record { session = new_session; out = new_out }) told
+    → OnOk done (new_marks ≡ marks ++ option_to_list told.mark) → IsEndAfter done told.end new_end answer
+    → UnlessMemory answer (KeepsPlace w route old (place_of g new_session new_out new_marks new_end has_ended))
+keeps-whole w route f g session new_session out new_out marks new_marks end new_end has_ended old from to unit told (Ok nothing) answer e goes h is answers put done =
+    let here : Place = place_of f session out marks end has_ended in
+    let new : Place = place_of g new_session new_out new_marks new_end has_ended in
+    let a = ahead-whole f.rest has_ended f g from to h in
+    let at_unit = subst (λ (u : List ℕ). AnswersUnit w route from u (served here) (served new) told) is answers in
+    let at_place = subst (λ (p : ℕ). AnswersUnit w route p g.unit (served here) (served new) told) a.from at_unit in
+    let keeps = unit-keeps w route here new g.unit told (record {
+      goes = goes;
+      frame = a.given.frame;
+      taken = a.given.spelled;
+      first = a.first;
+      place = a.given.ends;
+      answers = at_place;
+      marks = put;
+      ended = done.0;
+    }) in
+    subst (λ (s : Stepped). UnlessMemory s (KeepsPlace w route old new)) (sym done.1)
+    (subst (λ (o : Place). KeepsPlace w route o new) e keeps)
+keeps-whole w route f g session new_session out new_out marks new_marks end new_end has_ended old from to unit told (Err want) answer e goes h is answers put done =
+    let new : Place = place_of g new_session new_out new_marks new_end has_ended in
+    subst (λ (s : Stepped). UnlessMemory s (KeepsPlace w route old new)) (sym done.1) tt

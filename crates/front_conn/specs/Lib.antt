@@ -1,0 +1,5 @@
+pub mod Places
+pub mod Steps
+pub mod Feeding
+pub mod Ahead
+pub mod Answering

@@ -1,0 +1,190 @@
+//! A connection.
+
+ghost use Rattle.std.specs.Prelude.{◌≡◌, ◌++◌, [], Some, None, false, OnOk, OnErr, option_to_list};
+ghost use Rattle.front_session.specs.Sessions.{new_session};
+ghost use Rattle.front_conn.specs.Places.{nothing_yet};
+ghost use Rattle.front_conn.specs.Feeding.{with_piece, with_end, without_out};
+ghost use Rattle.front_conn.specs.Steps.{IsEndAfter, IsStepped, KeepsPlace, UnlessMemory};
+
+use crate::Stepped;
+use crate::ahead::{Ahead, look};
+use crate::answer::{Told, answer_unit, put_bad_unit};
+use front_session::FrontSession;
+use gw_outside::Targets;
+use route_config::Route;
+use std::alloc::Global;
+use std::marker::Model;
+use z_frame::Framer;
+use z_types::{End, List, Mark, Memory, Text};
+
+/// A connection of one client: the octets that were not taken yet, its session, and what was answered.
+#[derive(Drop)]
+pub struct Conn {
+    framer: Framer,
+    session: FrontSession,
+    out: Text,
+    marks: List<Mark>,
+    end: Option<End>,
+    has_ended: bool,
+}
+
+impl Model for Conn {
+    ghost use Rattle.std.specs.Prelude.{◌≡◌, None};
+    ghost use Rattle.std.specs.Coded.{codes};
+    ghost use Rattle.z_types.specs.Tree.{tree_code};
+    ghost use Rattle.front_conn.specs.Places.{Place};
+
+    ghost Value = { Place };
+
+    ghost coded = { Prim.hlevel (codes, tree_code) };
+
+    ghost view = { λ c. record {
+      session = c.session;
+      at = c.framer.end;
+      left = c.framer.rest;
+      has_ended = c.has_ended;
+      marks = c.marks;
+      out = c.out;
+      end = c.end;
+    } };
+
+    ghost invariant = { λ c. c.end ≡ None → c.framer.refused ≡ None };
+}
+
+impl Conn {
+    /// A connection of which nothing has come.
+    pub fn new(alloc: Global) -> Conn
+        ensures { result ≡ nothing_yet new_session }
+    {
+        Conn {
+            framer: Framer::new(alloc),
+            session: FrontSession::new(alloc),
+            out: Text::new(alloc),
+            marks: List::new(alloc),
+            end: None,
+            has_ended: false,
+        }
+    }
+
+    /// Takes the next piece of the input; a connection that has ended takes no more. Without memory
+    /// nothing is changed.
+    pub fn feed(&mut self, piece: &[u8]) -> Result<(), Memory>
+        requires { self.old.has_ended ≡ false }
+        ensures ok { OnOk result (self.new ≡ with_piece self.old piece.now) }
+        ensures err { OnErr result (self.new ≡ self.old) }
+    {
+        if self.end.is_some() {
+            return Ok(());
+        }
+        self.framer.feed(piece)
+    }
+
+    /// The input has ended.
+    pub fn end_input(&mut self)
+        ensures { self.new ≡ with_end self.old }
+    {
+        self.has_ended = true;
+    }
+
+    /// What is to be written to the client.
+    pub fn out(&self) -> &[u8]
+        ensures { result.now ≡ self.now.out }
+    {
+        self.out.as_slice()
+    }
+
+    /// All that was to be written has been written.
+    pub fn clear_out(&mut self)
+        ensures { self.new ≡ without_out self.old }
+    {
+        self.out.truncate(0);
+    }
+
+    /// Under which mark each request was answered, in their order.
+    pub fn marks(&self) -> &List<Mark>
+        ensures { result.now ≡ self.now.marks }
+    {
+        &self.marks
+    }
+
+    /// How the connection has ended, if it did.
+    pub fn end(&self) -> Option<End>
+        ensures { result ≡ self.now.end }
+    {
+        self.end
+    }
+
+    /// What is to be written, and the marks.
+    pub fn into_parts(self) -> (Text, List<Mark>)
+        ensures out { result.0 ≡ self.out }
+        ensures marks { result.1 ≡ self.marks }
+    {
+        (self.out, self.marks)
+    }
+
+    /// Answers the next unit of the client, or ends the connection: by its end, or by octets that are
+    /// no unit.
+    pub fn step<T: Targets>(&mut self, alloc: Global, route: &Route, targets: &T) -> Stepped
+        ensures stepped { IsStepped self.old self.new result }
+        ensures keeps { UnlessMemory result (KeepsPlace T.World route.now self.old self.new) }
+    {
+        if self.end.is_some() {
+            return Stepped::Idle;
+        }
+        match look(&mut self.framer, self.has_ended) {
+            Ahead::Nothing => Stepped::Idle,
+            Ahead::Ended(end) => {
+                self.end = Some(end);
+                Stepped::Went
+            }
+            Ahead::Bad(at) => {
+                let put = put_bad_unit(&mut self.out);
+                stepped(&mut self.end, put, Some(End::Malformed(at)))
+            }
+            Ahead::Whole(start, end) => {
+                let unit = self.framer.unit(start, end);
+                match answer_unit(
+                    alloc,
+                    &mut self.session,
+                    route,
+                    unit,
+                    start,
+                    &mut self.out,
+                    targets,
+                ) {
+                    Ok(told) => {
+                        let put = put_mark(&mut self.marks, told.mark);
+                        stepped(&mut self.end, put, told.end)
+                    }
+                    Err(memory) => stepped(&mut self.end, Err(memory), None),
+                }
+            }
+        }
+    }
+}
+
+/// Puts the mark of a request at the end of the marks, where it has one.
+fn put_mark(marks: &mut List<Mark>, mark: Option<Mark>) -> Result<(), Memory>
+    ensures { OnOk result (marks.new ≡ marks.old ++ option_to_list mark) }
+{
+    match mark {
+        Some(mark) => marks.push(mark),
+        None => Ok(()),
+    }
+}
+
+/// How the connection stands behind a step: without memory it has ended so.
+fn stepped(end: &mut Option<End>, done: Result<(), Memory>, ended: Option<End>) -> Stepped
+    ensures { IsEndAfter done ended end.new result }
+{
+    match done {
+        Ok(()) => {
+            *end = ended;
+            Stepped::Went
+        }
+        Err(_) => {
+            *end = Some(End::Memory);
+            Stepped::Memory
+        }
+    }
+}

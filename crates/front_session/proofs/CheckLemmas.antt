@@ -1,0 +1,77 @@
+-- What checks answer, one behind another
+use Rattle.std.proofs.Common.{◌≡◌, ◌≤◌, refl, ℕ, Bool, true, false, cond, List, [], ◌∷◌, length, Option, None, Some, Result, Ok, Err, ◌==◌, nat_lt}
+use Rattle.std.proofs.lemmas.Bool.{ltb-false}
+use Rattle.z_types.specs.declared.diagnostic.Diag.{Diag}
+use Rattle.route_config.specs.declared.route.Route.{Route}
+use Rattle.virt_db.specs.Legs.{found_legs, known_legs, few_legs, legs_of, distinct, first_unknown, most_legs, most_databases}
+use Rattle.virt_db.specs.declared.fault.DbFault.{DbFault}
+use Rattle.virt_db.specs.declared.fault.DbFault.TheVariants.{Unknown, TooMany}
+use Rattle.gateway_rules.specs.Asking as asking
+use Rattle.gateway_rules.specs.Checks.{checked, refused_where}
+use Rattle.front_session.specs.Refusals.{IsRefusal, FailsWith, first_refusal}
+use Rattle.front_session.specs.declared.refusal.Refusal.{Refusal}
+use Rattle.front_session.specs.declared.refusal.Refusal.TheVariants.{Refused, Memory}
+
+-- the first check refuses
+pub refused : (c : Option Diag) (cs : List (Option Diag)) (e : Refusal) → IsRefusal c e → IsRefusal (first_refusal (c ∷ cs)) e
+refused c cs (Refused diag) h = rw h refl
+refused c cs Memory h = tt
+
+-- the first check passes, and a later one refuses
+pub later : (c : Option Diag) (cs : List (Option Diag)) (e : Refusal) → c ≡ None → IsRefusal (first_refusal cs) e → IsRefusal (first_refusal (c ∷ cs)) e
+later c cs e none h = rw none h
+
+-- all checks pass
+pub none_first : (c : Option Diag) (cs : List (Option Diag)) → c ≡ None → first_refusal cs ≡ None → first_refusal (c ∷ cs) ≡ None
+none_first c cs none h = rw none h
+
+-- where all checks pass, what comes behind them
+pub checked_passes : {A : Type 0} (cs : List (Option Diag)) (behind : Result A Diag) → first_refusal cs ≡ None → checked cs behind ≡ behind
+checked_passes [] behind h = refl
+checked_passes (None ∷ cs) behind h = checked_passes cs behind h
+checked_passes (Some diag ∷ cs) behind h = cc
+
+-- the first refusal is the answer
+pub checked_first : {A : Type 0} (cs : List (Option Diag)) (behind : Result A Diag) (diag : Diag) → first_refusal cs ≡ Some diag → checked cs behind ≡ Err diag
+checked_first [] behind diag h = cc
+checked_first (None ∷ cs) behind diag h = checked_first cs behind diag h
+checked_first (Some other ∷ cs) behind diag h = cc
+
+-- the same, of what is due
+pub due_refused : (cs : List (Option Diag)) (behind : Result asking.Due Diag) (e : Refusal) → IsRefusal (first_refusal cs) e → FailsWith (checked cs behind) e
+due_refused cs behind (Refused diag) h = checked_first cs behind diag h
+due_refused cs behind Memory h = tt
+
+-- a test that does not refuse
+pub is_false : (b : Bool) (diag : Diag) → refused_where b diag ≡ None → b ≡ false
+is_false true diag h = cc
+is_false false diag h = refl
+
+few : (b : Bool) (xs legs : List ℕ) (fault : DbFault) → cond b (Err fault) (Ok xs) ≡ Ok legs → (b ≡ false) × (xs ≡ legs)
+few true xs legs fault h = (cc, cc)
+few false xs legs fault h = (refl, cc)
+
+-- legs that are not too many
+few_are : (xs legs : List ℕ) → few_legs xs ≡ Ok legs → (xs ≡ legs) × (length xs ≤ most_legs)
+few_are xs legs h =
+    let both = few (nat_lt most_legs (length xs)) xs legs _ h in
+    (both.1, ltb-false most_legs (length xs) both.0)
+
+known : (route : Route) (names : List (List ℕ)) (unknown : Option (List ℕ)) (legs : List ℕ) → known_legs route names unknown ≡ Ok legs → few_legs (legs_of route names) ≡ Ok legs
+known route names None legs h = h
+known route names (Some unknown) legs h = cc
+
+found : (a b : Bool) (one two : DbFault) (known : Result (List ℕ) DbFault) (legs : List ℕ) → cond a (Err one) (cond b (Err two) known) ≡ Ok legs → known ≡ Ok legs
+found true b one two known legs h = cc
+found false true one two known legs h = cc
+found false false one two known legs h = h
+
+-- the legs that were found are those of the databases
+pub legs_found : (route : Route) (names : List (List ℕ)) (legs : List ℕ) → found_legs route names ≡ Ok legs → (legs_of route names ≡ legs) × (length (legs_of route names) ≤ most_legs)
+legs_found route names legs h =
+    let databases = length (distinct names) in
+    let some : known_legs route names (first_unknown route names) ≡ Ok legs =
+    found (databases == 0) (nat_lt most_databases databases) (Unknown []) (TooMany databases)
+    (known_legs route names (first_unknown route names)) legs h in
+    let both = few_are (legs_of route names) legs (known route names (first_unknown route names) legs some) in
+    both

@@ -1,0 +1,5 @@
+pub mod CheckLemmas
+pub mod PresentLemmas
+pub mod SearchLemmas
+pub mod WaitLemmas
+pub mod SettleLemmas

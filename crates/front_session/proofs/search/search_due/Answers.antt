@@ -1,0 +1,27 @@
+use Rattle.std.proofs.lemmas.Result.{err_from_is_err_and}
+use Rattle.gateway_rules.specs.Asking.{query_work}
+use Rattle.gateway_rules.specs.Checks.{search_checks}
+use Rattle.front_session.specs.Refusals.{client_with}
+use Rattle.front_session.proofs.CheckLemmas.{due_refused}
+use Rattle.front_session.proofs.SearchLemmas.{search_fails, search_works}
+use Rattle.front_session.proofs.search.search_due.Goals as goal
+
+pub returns-in_err-legs-clause-due : goal.returns-in_err-legs-clause-due
+returns-in_err-legs-clause-due c =
+    let p = err_from_is_err_and c.from_residual.result c.from_residual.ensures.1 in
+    let client = client_with c.args.spent.now c.args.sets.now in
+    let route = c.args.route.now in
+    let search = c.args.search.now in
+    rw (p.1, p.2) (due_refused (search_checks route client search) (query_work route client search search.query) c.in_err-legs.field-0.0 c.in_err-legs.ensures)
+
+pub returns-in_err-query-clause-due : goal.returns-in_err-query-clause-due
+returns-in_err-query-clause-due c =
+    let p = err_from_is_err_and c.from_residual-in_err-query.result c.from_residual-in_err-query.ensures.1 in
+    let client = client_with c.args.spent.now c.args.sets.now in
+    rw (p.1, p.2) (search_fails c.args.route.now client c.args.search.now c.in_ok-legs.legs c.in_err-query.field-0.0 c.in_ok-legs.ensures.0 c.in_ok-legs.ensures.1 c.in_err-query.ensures)
+
+pub returns-clause-due : goal.returns-clause-due
+returns-clause-due c =
+    let client = client_with c.args.spent.now c.args.sets.now in
+    let works = search_works c.args.route.now client c.args.search.now c.in_ok-legs.legs c.in_ok-query.query c.in_ok-legs.ensures.0 c.in_ok-legs.ensures.1 c.in_ok-query.ensures in
+    rw (c.in_ok-search_work.ensures, c.room_left-room.ensures.room) works

@@ -1,0 +1,9 @@
+pub mod Sessions
+pub mod Refusals
+pub mod Searches
+pub mod Presents
+pub mod Scans
+pub mod Admitting
+pub mod Settling
+pub mod WaitingOf
+pub mod SessionView

@@ -1,0 +1,60 @@
+-- The parts of what a Search is due (this project's own)
+use Rattle.std.specs.Prelude.{◌≡◌, ℕ, ◌&&◌, ◌||◌, not, List, [], ◌∷◌, length, codes, is_some, Option, None, Result, Ok, Err}
+use Rattle.z_types.specs.Bib1.{bib1}
+use Rattle.z_types.specs.declared.conditions.Condition.TheVariants as condition
+use Rattle.z_types.specs.declared.diagnostic.Diag.{Diag}
+use Rattle.z_types.specs.declared.limits.Limits.{Limits}
+use Rattle.z_types.specs.declared.query.RpnQuery.{RpnQuery}
+use Rattle.z_types.specs.declared.requests.Asked.{Asked}
+use Rattle.z_types.specs.declared.requests.Asked.TheVariants.{Good, Bad}
+use Rattle.z_types.specs.declared.requests.Search.{Search}
+use Rattle.z_types.specs.declared.work.Work.{Work}
+use Rattle.z_types.specs.declared.work.Work.TheVariants as work
+use Rattle.limit_rules.specs.Limits.{are_searches_spent, are_sets_full}
+use Rattle.z_sets.specs.Sets.{StoredSet, set_named}
+use Rattle.z_sets.specs.Expansion.{expanded}
+use Rattle.z_sets.specs.declared.fault.ExpandFault.{ExpandFault}
+use Rattle.z_sets.specs.declared.fault.ExpandFault.TheVariants as fault
+use Rattle.gateway_rules.specs.Checks.{refused_where, is_too_long, no_expansion}
+use Rattle.front_session.specs.declared.refusal.Refusal.{Refusal}
+use Rattle.front_session.specs.declared.refusal.Refusal.TheVariants.{Refused, Memory}
+
+-- no Search may be asked after so many
+abbrev pub searches_check : Limits → ℕ → Option Diag
+searches_check limits searches =
+    refused_where (are_searches_spent limits searches) (bib1 condition.ResourcesExhausted (codes "searches"))
+
+-- an element set name is too long
+abbrev pub elements_check : Search → Option Diag
+elements_check search =
+    refused_where (is_too_long search.small_element || is_too_long search.medium_element)
+    (bib1 condition.ElementSetNameNotValid (codes "long"))
+
+-- the name of the result set is in use and is not to be replaced, or is one too many
+abbrev pub name_checks : Limits → List StoredSet → Search → List (Option Diag)
+name_checks limits sets search =
+    let in_use = is_some (set_named search.set_name sets) in
+    refused_where (in_use && not search.replace) (bib1 condition.ResultSetExists search.set_name)
+    ∷ refused_where (not in_use && are_sets_full limits (length sets)) (bib1 condition.TooManyResultSets [])
+    ∷ []
+
+-- an expansion, or the diagnostic of its fault
+abbrev pub or_fault : Result RpnQuery ExpandFault → Result RpnQuery Diag
+or_fault (Ok query) = Ok query
+or_fault (Err fault) = Err (no_expansion fault)
+
+-- the query of a Search without operand sets, or why there is none
+abbrev pub expansion_of : Asked RpnQuery → List ℕ → List StoredSet → Result RpnQuery Diag
+expansion_of (Bad diag) legs sets = Err diag
+expansion_of (Good query) legs sets = or_fault (expanded query legs sets)
+
+-- a fault as a refusal; want of memory has no cause
+abbrev pub IsNoExpansion : ExpandFault → Refusal → Type 0
+IsNoExpansion fault.Memory refusal = refusal ≡ Memory
+IsNoExpansion why refusal = refusal ≡ Refused (no_expansion why)
+
+-- what a Search asks of these legs
+abbrev pub search_work : Search → List ℕ → RpnQuery → ℕ → Work
+search_work search legs query room =
+    work.Search None legs query search.small search.large search.medium search.small_element search.medium_element
+    search.syntax room

@@ -1,0 +1,20 @@
+//! A client's session (ANSI/NISO Z39.50-2003, 4.2): requests are admitted, and settled by what came of
+//! their work. No target is asked here.
+#![tactic(auto)]
+
+mod admitted;
+mod check;
+mod due;
+mod kept;
+mod limited;
+mod present;
+mod refusal;
+mod replies;
+mod scan;
+mod search;
+mod session;
+mod settle;
+
+pub use admitted::Admitted;
+pub use replies::close_reply;
+pub use session::FrontSession;

@@ -1,0 +1,160 @@
+//! What a Present asks, once its checks have passed (ANSI/NISO Z39.50-2003, 3.2.3.1).
+
+ghost use Rattle.std.specs.Prelude.{◌≡◌, ◌<◌, ◌^◌, nat_abs, false, Some, All, IfOk, map};
+ghost use Rattle.z_types.specs.MergedOrder as merged_order;
+ghost use Rattle.z_sets.specs.Sets.{stored, set_named};
+ghost use Rattle.limit_rules.specs.Limits.{are_too_many};
+ghost use Rattle.gateway_rules.specs.Asking as asking;
+ghost use Rattle.gateway_rules.specs.Checks.{is_out_of_range, present_checks};
+ghost use Rattle.front_session.specs.Admitting.{hits_named};
+ghost use Rattle.front_session.specs.Presents.{AnswersSet, MayFetch, fetch_work, range_check, number_check};
+ghost use Rattle.front_session.specs.Refusals.{AnswersCheck, AnswersChecks, AnswersDue, IsReady, client_with, due_of};
+ghost use Rattle.front_session.specs.Sessions.{HasHitsOfLegs};
+
+use crate::check::{is_too_long, refuse_where, served};
+use crate::due::Due;
+use crate::limited::are_too_many;
+use crate::refusal::Refusal;
+use crate::replies::present_reply;
+use limit_rules::Spent;
+use multi_merge::total;
+use route_config::Route;
+use std::alloc::Global;
+use z_sets::find_set;
+use z_types::{
+    Asked, Condition, Diag, Fetched, KnownSet, Limits, List, Memory, Present, Text, Work, copy,
+};
+
+/// What a Present asks of the targets, the reply where it asks for no record, or why it fails.
+pub(crate) fn present_due(
+    alloc: Global,
+    route: &Route,
+    spent: &Spent,
+    sets: &List<KnownSet>,
+    present: &Present,
+) -> Result<Due, Refusal>
+    requires kept { All HasHitsOfLegs sets.now }
+    ensures due { AnswersDue (asking.present_due route.now (client_with spent.now sets.now) present.now
+        (set_named present.now.set_name (map stored sets.now)) (hits_named sets.now present.now.set_name)) result }
+    ensures ready { IfOk result (IsReady spent.now) }
+{
+    let set = check_present(alloc, route, spent, sets, present)?;
+    Ok(fetch_due(&route.limits, spent, present, set)?)
+}
+
+/// The set that a Present names, where no check refuses.
+fn check_present<'a>(
+    alloc: Global,
+    route: &Route,
+    spent: &Spent,
+    sets: &'a List<KnownSet>,
+    present: &Present,
+) -> Result<&'a KnownSet, Refusal>
+    ensures { AnswersChecks (present_checks route.now (client_with spent.now sets.now) present.now
+        (hits_named sets.now present.now.set_name))
+        (λ set. MayFetch route.now.limits spent.now sets.now present.now set.now) result }
+{
+    let element = served(&present.element)?;
+    let is_long = is_too_long(element);
+    refuse_where(alloc, is_long, Condition::ElementSetNameNotValid, b"long")?;
+    let set = check_set(alloc, sets, &present.set_name)?;
+    check_range(alloc, present, set)?;
+    check_number(alloc, &route.limits, spent, present)?;
+    Ok(set)
+}
+
+/// The set of a name, where there is one.
+fn check_set<'a>(
+    alloc: Global,
+    sets: &'a List<KnownSet>,
+    name: &Text,
+) -> Result<&'a KnownSet, Refusal>
+    ensures { AnswersSet sets.now name.now result }
+{
+    match find_set(sets, name.as_slice()) {
+        Some(set) => Ok(set),
+        None => {
+            let name = copy(name)?;
+            Err(Refusal::Refused(Diag::bib1(alloc, Condition::ResultSetDoesNotExist, name)?))
+        }
+    }
+}
+
+/// Refuses where records do not lie within their set.
+fn check_range(alloc: Global, present: &Present, set: &KnownSet) -> Result<(), Refusal>
+    ensures { AnswersCheck (range_check present.now set.now.hits) result }
+{
+    let is_out = is_out_of_range(present, total(set.hits.as_slice()));
+    refuse_where(alloc, is_out, Condition::PresentRequestOutOfRange, b"")
+}
+
+/// Whether records do not lie within a result set of this count.
+fn is_out_of_range(present: &Present, count: u32) -> bool
+    ensures { result ≡ is_out_of_range present.now count }
+{
+    let behind = present.start.unsigned_abs() + u64::from(present.number);
+    present.start < 1 || u64::from(count) < behind.saturating_sub(1)
+}
+
+/// Refuses where records are too many for one request, or after those that were given.
+fn check_number(
+    alloc: Global,
+    limits: &Limits,
+    spent: &Spent,
+    present: &Present,
+) -> Result<(), Refusal>
+    ensures { AnswersCheck (number_check limits.now spent.now.records present.now) result }
+{
+    let is_beyond = are_too_many(limits, spent, present.number);
+    refuse_where(alloc, is_beyond, Condition::TooManyRecordsRetrieved, b"")
+}
+
+/// What a Present asks of its set, or its reply where it asks for no record.
+fn fetch_due(
+    limits: &Limits,
+    spent: &Spent,
+    present: &Present,
+    set: &KnownSet,
+) -> Result<Due, Memory>
+    requires range { is_out_of_range present.now (merged_order.total set.now.hits) ≡ false }
+    requires number { are_too_many limits.now spent.now.records present.now.number ≡ false }
+    requires each { HasHitsOfLegs set.now }
+    ensures due { IfOk result (λ due. due_of due
+        ≡ asking.fetch_work present.now set.now.hits (Some (stored set.now))) }
+    ensures ready { IfOk result (IsReady spent.now) }
+{
+    let _most = limits.records;
+    let _given = spent.records;
+    if present.number == 0 {
+        let reply = present_reply(present, set.hits.as_slice(), Fetched::None)?;
+        return Ok(Due::AtOnce(reply));
+    }
+    Ok(Due::Works(fetch_work(present, set)?))
+}
+
+/// The work of a Present from its set.
+fn fetch_work(present: &Present, set: &KnownSet) -> Result<Work, Memory>
+    requires { nat_abs present.now.start < 2 ^ 32 }
+    ensures { IfOk result (λ work. work ≡ fetch_work present.now set.now) }
+{
+    Ok(Work::Fetch {
+        login: None,
+        legs: copy(&set.legs)?,
+        query: copy(&set.query)?,
+        hits: copy(&set.hits)?,
+        first: present.start.unsigned_abs() as u32,
+        count: present.number,
+        syntax: copy(&present.syntax)?,
+        element: element_of(&present.element)?,
+    })
+}
+
+/// The element set name of a Present.
+fn element_of(asked: &Asked<Option<Text>>) -> Result<Option<Text>, Memory>
+    ensures { IfOk result (λ element. element ≡ asking.element_of asked.now) }
+{
+    match asked {
+        Asked::Good(element) => copy(element),
+        Asked::Bad(_) => Ok(None),
+    }
+}

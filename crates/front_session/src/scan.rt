@@ -1,0 +1,97 @@
+//! What a Scan asks, once its checks have passed (ANSI/NISO Z39.50-2003, 3.2.8.1).
+
+ghost use Rattle.std.specs.Prelude.{◌≡◌, IfOk, nat_lt};
+ghost use Rattle.z_types.specs.QueryMeasures.{leaf_cost, most_cost};
+ghost use Rattle.gateway_rules.specs.Asking as asking;
+ghost use Rattle.gateway_rules.specs.Checks.{ask_checks, scan_checks};
+ghost use Rattle.front_session.specs.Refusals.{AnswersCheck, AnswersChecks, AnswersDue, Passes};
+ghost use Rattle.front_session.specs.Scans.{IsAskedOf, IsScan, terms_check, cost_check};
+
+use crate::check::{check_databases, refuse_where, served};
+use crate::due::Due;
+use crate::refusal::Refusal;
+use route_config::Route;
+use std::alloc::Global;
+use z_types::{Attr, Condition, List, Scan, ScanAsk, Term, Work, copy};
+
+/// The most terms of a Scan.
+const MOST_TERMS: u32 = 1000;
+
+/// The most that the attributes and the term of a Scan may cost.
+const MOST_COST: u64 = 900_000;
+
+/// What an operand costs, before its attributes and its term.
+const NODE_COST: u64 = 64;
+
+/// What an attribute costs.
+const ATTRIBUTE_COST: u64 = 192;
+
+/// What a number costs as a term.
+const NUMBER_COST: u64 = 8;
+
+/// What a Scan asks of its leg, or why it fails.
+pub(crate) fn scan_due(alloc: Global, route: &Route, scan: &Scan) -> Result<Due, Refusal>
+    ensures due { AnswersDue (asking.scan_due route.now scan.now) result }
+    ensures scans { IfOk result IsScan }
+{
+    let (ask, leg) = check_scan(alloc, route, scan)?;
+    Ok(Due::Works(Work::Scan {
+        login: None,
+        leg,
+        ask: copy(ask)?,
+    }))
+}
+
+/// What a Scan asks, and of which leg, where no check refuses.
+fn check_scan<'a>(
+    alloc: Global,
+    route: &Route,
+    scan: &'a Scan,
+) -> Result<(&'a ScanAsk, u32), Refusal>
+    ensures { AnswersChecks (scan_checks route.now scan.now)
+        (λ both. IsAskedOf route.now scan.now both.0.now both.1) result }
+{
+    let ask = served(&scan.ask)?;
+    let legs = check_databases(alloc, route, &scan.dbs)?;
+    let is_other = legs.len() != 1;
+    refuse_where(
+        alloc,
+        is_other,
+        Condition::CombinationOfDatabasesNotSupported,
+        b"",
+    )?;
+    check_terms(alloc, ask)?;
+    check_cost(alloc, ask)?;
+    Ok((ask, legs.as_slice()[0]))
+}
+
+/// Refuses where a Scan asks for too many terms.
+fn check_terms(alloc: Global, ask: &ScanAsk) -> Result<(), Refusal>
+    ensures { AnswersCheck (terms_check ask.now) result }
+{
+    let are_many = ask.number > MOST_TERMS;
+    refuse_where(alloc, are_many, Condition::ResourcesExhausted, b"terms")
+}
+
+/// Refuses where the attributes and the term of a Scan cost too much.
+fn check_cost(alloc: Global, ask: &ScanAsk) -> Result<(), Refusal>
+    ensures { AnswersCheck (cost_check ask.now) result }
+{
+    let is_costly = is_costly(&ask.attrs, &ask.term);
+    refuse_where(alloc, is_costly, Condition::ResourcesExhausted, b"query")
+}
+
+/// Whether attributes and a term cost too much as one operand.
+fn is_costly(attrs: &List<Attr>, term: &Term) -> bool
+    ensures { result ≡ nat_lt most_cost (leaf_cost attrs.now term.now) }
+{
+    let of_term = match term {
+        Term::General(text) | Term::Words(text) => text.len() as u64,
+        Term::Number(_) => NUMBER_COST,
+    };
+    let of_attributes = (attrs.len() as u64).saturating_mul(ATTRIBUTE_COST);
+    let cost = NODE_COST
+        .saturating_add(of_attributes)
+        .saturating_add(of_term);
+    cost > MOST_COST
+}

@@ -1,0 +1,155 @@
+//! What a Search asks, once its checks have passed (ANSI/NISO Z39.50-2003, 3.2.2.1).
+
+ghost use Rattle.std.specs.Prelude.{◌≡◌, ◌+◌, ◌<◌, ◌^◌, Ok, length, map, IfOk};
+ghost use Rattle.z_sets.specs.Sets.{stored};
+ghost use Rattle.limit_rules.specs.Limits as limits_of;
+ghost use Rattle.virt_db.specs.Legs.{found_legs};
+ghost use Rattle.gateway_rules.specs.Asking as asking;
+ghost use Rattle.gateway_rules.specs.Checks.{search_checks};
+ghost use Rattle.front_session.specs.Refusals.{AnswersCheck, AnswersChecks, AnswersDue, AnswersResult, IsReady, Passes, client_with};
+ghost use Rattle.front_session.specs.Searches.{IsNoExpansion, elements_check, expansion_of, name_checks, search_work, searches_check};
+
+use crate::check::{check_databases, is_too_long, refuse_where, served};
+use crate::due::Due;
+use crate::limited::{are_searches_spent, are_sets_full};
+use crate::refusal::Refusal;
+use limit_rules::{Spent, room};
+use route_config::Route;
+use std::alloc::Global;
+use z_sets::{ExpandFault, expand, find_set};
+use z_types::{
+    Asked, Condition, Diag, KnownSet, Limits, List, Memory, RpnQuery, Search, Text, Work, copy,
+};
+
+/// What a Search asks of the targets, or why it fails.
+pub(crate) fn search_due(
+    alloc: Global,
+    route: &Route,
+    spent: &Spent,
+    sets: &List<KnownSet>,
+    search: &Search,
+) -> Result<Due, Refusal>
+    requires counted { spent.now.sets ≡ length sets.now }
+    ensures due { AnswersDue (asking.search_due route.now (client_with spent.now sets.now) search.now) result }
+    ensures ready { IfOk result (IsReady spent.now) }
+{
+    let legs = check_search(alloc, route, spent, sets, search)?;
+    let query = expanded(alloc, &search.query, &legs, sets)?;
+    let room = room_left(&route.limits, spent);
+    Ok(Due::Works(search_work(search, legs, query, room)?))
+}
+
+/// The legs of a Search, where no check up to its query refuses.
+fn check_search(
+    alloc: Global,
+    route: &Route,
+    spent: &Spent,
+    sets: &List<KnownSet>,
+    search: &Search,
+) -> Result<List<u32>, Refusal>
+    requires counted { spent.now.sets ≡ length sets.now }
+    ensures { AnswersChecks (search_checks route.now (client_with spent.now sets.now) search.now)
+        (λ legs. found_legs route.now search.now.dbs ≡ Ok legs) result }
+{
+    check_searches(alloc, &route.limits, spent)?;
+    let _query = served(&search.query)?;
+    check_elements(alloc, search)?;
+    let legs = check_databases(alloc, route, &search.dbs)?;
+    check_name(alloc, &route.limits, spent, sets, search)?;
+    Ok(legs)
+}
+
+/// Refuses where no Search may be asked after those that were.
+fn check_searches(alloc: Global, limits: &Limits, spent: &Spent) -> Result<(), Refusal>
+    ensures { AnswersCheck (searches_check limits.now spent.now.searches) result }
+{
+    let are_spent = are_searches_spent(limits, spent);
+    refuse_where(alloc, are_spent, Condition::ResourcesExhausted, b"searches")
+}
+
+/// Refuses where an element set name is too long.
+fn check_elements(alloc: Global, search: &Search) -> Result<(), Refusal>
+    ensures { AnswersCheck (elements_check search.now) result }
+{
+    let is_long = is_too_long(&search.small_element) || is_too_long(&search.medium_element);
+    refuse_where(alloc, is_long, Condition::ElementSetNameNotValid, b"long")
+}
+
+/// Refuses where the name of the result set is in use and is not to be replaced, or is one too many.
+fn check_name(
+    alloc: Global,
+    limits: &Limits,
+    spent: &Spent,
+    sets: &List<KnownSet>,
+    search: &Search,
+) -> Result<(), Refusal>
+    requires counted { spent.now.sets ≡ length sets.now }
+    ensures { AnswersChecks (name_checks limits.now (map stored sets.now) search.now) Passes result }
+{
+    let name = search.set_name.as_slice();
+    let in_use = find_set(sets, name).is_some();
+    let is_kept = in_use && !search.replace;
+    refuse_where(alloc, is_kept, Condition::ResultSetExists, name)?;
+    let is_beyond = !in_use && are_sets_full(limits, spent);
+    refuse_where(alloc, is_beyond, Condition::TooManyResultSets, b"")
+}
+
+/// A query with the client's result sets in place of its operands, or why there is none.
+fn expanded(
+    alloc: Global,
+    query: &Asked<RpnQuery>,
+    legs: &List<u32>,
+    sets: &List<KnownSet>,
+) -> Result<RpnQuery, Refusal>
+    ensures { AnswersResult (expansion_of query.now legs.now (map stored sets.now)) result }
+{
+    let query = served(query)?;
+    match expand(alloc, query, legs, sets) {
+        Ok(query) => Ok(query),
+        Err(fault) => Err(no_expansion(alloc, fault)?),
+    }
+}
+
+/// Why a query has no expansion, as a diagnostic.
+fn no_expansion(alloc: Global, fault: ExpandFault) -> Result<Refusal, Memory>
+    ensures { IfOk result (IsNoExpansion fault) }
+{
+    let (condition, addinfo) = match fault {
+        ExpandFault::UnknownSet(name) => (Condition::ResultSetDoesNotExist, name),
+        ExpandFault::OtherLegs(name) => { (Condition::CombinationOfDatabasesNotSupported, name) }
+        ExpandFault::Memory => return Ok(Refusal::Memory),
+        _ => (
+            Condition::ResourcesExhausted,
+            Text::copy_of(alloc, b"query")?,
+        ),
+    };
+    Ok(Refusal::Refused(Diag::bib1(alloc, condition, addinfo)?))
+}
+
+/// How many records a client may have at its next request.
+fn room_left(limits: &Limits, spent: &Spent) -> u32
+    ensures room { result ≡ limits_of.room limits.now spent.now.records }
+    ensures fits { spent.now.records + result < 2 ^ 32 }
+{
+    let _most = limits.records;
+    let given = spent.records;
+    room(limits, given)
+}
+
+/// The work of a Search over these legs.
+fn search_work(search: &Search, legs: List<u32>, query: RpnQuery, room: u32) -> Result<Work, Memory>
+    ensures { IfOk result (λ work. work ≡ search_work search.now legs query room) }
+{
+    Ok(Work::Search {
+        login: None,
+        legs,
+        query,
+        small: search.small,
+        large: search.large,
+        medium: search.medium,
+        small_element: copy(&search.small_element)?,
+        medium_element: copy(&search.medium_element)?,
+        syntax: copy(&search.syntax)?,
+        room,
+    })
+}

@@ -1,0 +1,232 @@
+//! A client's session.
+
+ghost use Rattle.std.specs.Prelude.{◌≡◌, ◌+◌, ◌<◌, ◌≤◌, ◌^◌, Some, None, length, All, IfOk, OnOk};
+ghost use Rattle.gateway_rules.specs.Course.{accepts};
+ghost use Rattle.gateway_rules.specs.Works.{CanBegin, FitsWork};
+ghost use Rattle.front_session.specs.Admitting.{IsAdmitted, IsGivenAdmitted, IsWorkAdmitted, counted, is_in_place_after, waits};
+ghost use Rattle.front_session.specs.Refusals.{IsReady};
+ghost use Rattle.front_session.specs.WaitingOf.{waiting_of};
+ghost use Rattle.front_session.specs.Sessions.{CanWait, HasHitsOfLegs, HasRoomFor, IsKept, new_session, spent_of};
+ghost use Rattle.front_session.specs.Settling.{FitsWaiting, IsSettledBy, IsSettledWith, ended, sets_ended};
+
+use crate::Admitted;
+use crate::due::{Due, due_for};
+use crate::kept::end_sets;
+use crate::limited::are_units_spent;
+use crate::settle::{Pending, answer_to, searches_behind};
+use gateway_rules::is_accepted;
+use limit_rules::Spent;
+use route_config::Route;
+use std::alloc::Global;
+use std::marker::Model;
+use z_types::{KnownSet, List, Memory, Outcome, Reply, Request, Work};
+
+/// What is kept of a client between its requests.
+#[derive(Drop)]
+pub struct FrontSession {
+    accepted: bool,
+    units: u32,
+    searches: u32,
+    records: u32,
+    sets: List<KnownSet>,
+    pending: Option<Pending>,
+}
+
+impl Model for FrontSession {
+    ghost use Rattle.std.specs.Coded.{codes};
+    ghost use Rattle.z_types.specs.Tree.{tree_code};
+    ghost use Rattle.front_session.specs.Sessions.{SessionState, IsKept};
+
+    ghost Value = { SessionState };
+
+    ghost coded = { Prim.hlevel (codes, tree_code) };
+
+    ghost use Rattle.front_session.specs.SessionView.{state_of};
+
+    ghost view = { state_of };
+
+    ghost invariant = { λ s. IsKept (state_of s) };
+}
+
+impl FrontSession {
+    /// The session of a client that has sent nothing. It takes no memory.
+    pub fn new(alloc: Global) -> FrontSession
+        ensures { result ≡ new_session }
+    {
+        FrontSession {
+            accepted: false,
+            units: 0,
+            searches: 0,
+            records: 0,
+            sets: List::new(alloc),
+            pending: None,
+        }
+    }
+
+    /// What a request is admitted as, after what its client has sent before, under one route for all of
+    /// its calls. It is `Memory` also where a number of 32 bits would not count the units.
+    pub fn admit(&mut self, alloc: Global, route: &Route, request: &Request) -> Admitted
+        ensures { IsAdmitted route.now request.now self.old self.new result }
+    {
+        let spent = self.spent();
+        if are_units_spent(&route.limits, &spent) {
+            return Admitted::Limited;
+        }
+        if !is_in_place(self.accepted, request) {
+            return Admitted::Bad;
+        }
+        match due_for(alloc, route, &spent, &self.sets, request) {
+            Ok(due) => self.admit_due(request, due),
+            Err(_) => Admitted::Memory,
+        }
+    }
+
+    /// What its client has used of the limits.
+    fn spent(&self) -> Spent
+        ensures spent { result ≡ spent_of self.now }
+        ensures kept { IsKept self.now }
+    {
+        Spent {
+            units: self.units,
+            searches: self.searches,
+            records: self.records,
+            sets: self.sets.len() as u32,
+        }
+    }
+
+    /// Counts a unit more, which may be an Init that is accepted.
+    fn count(&mut self, units: u32, request: &Request)
+        requires { units ≡ self.old.units + 1 }
+        ensures { self.new ≡ counted self.old request.now }
+    {
+        self.units = units;
+        self.accepted = self.accepted || accepts(request);
+    }
+
+    /// Admits a request that is in its place.
+    fn admit_due(&mut self, request: &Request, due: Due) -> Admitted
+        requires kept { IsKept self.old }
+        requires ready { IsReady (spent_of self.old) due }
+        ensures { IsGivenAdmitted due request.now self.old self.new result }
+    {
+        let Some(units) = self.units.checked_add(1) else {
+            return Admitted::Memory;
+        };
+        match due {
+            Due::AtOnce(reply) => {
+                self.count(units, request);
+                Admitted::Reply(reply)
+            }
+            Due::Works(work) => self.admit_work(units, request, work),
+        }
+    }
+
+    /// Lets a request wait for its work.
+    fn admit_work(&mut self, units: u32, request: &Request, work: Work) -> Admitted
+        requires kept { IsKept self.old }
+        requires units { units ≡ self.old.units + 1 }
+        requires begins { CanBegin work }
+        requires records { HasRoomFor self.old.records work }
+        ensures { IsWorkAdmitted work request.now self.old self.new result }
+    {
+        match Pending::of(request, &work) {
+            Ok(pending) => {
+                self.wait(units, request, pending);
+                Admitted::Work(work)
+            }
+            Err(_) => Admitted::Memory,
+        }
+    }
+
+    /// Counts a unit more, whose request waits.
+    fn wait(&mut self, units: u32, request: &Request, pending: Pending)
+        requires kept { IsKept self.old }
+        requires units { units ≡ self.old.units + 1 }
+        requires begins { CanBegin pending.work }
+        requires records { HasRoomFor self.old.records pending.work }
+        ensures { self.new ≡ waits self.old request.now (waiting_of pending) }
+    {
+        self.count(units, request);
+        put(&mut self.pending, pending);
+    }
+
+    /// What an outcome of the work that waits leaves: the reply to its request, and what is kept of the
+    /// client. Only want of memory fails; the session is then of no more use.
+    pub fn settle(&mut self, alloc: Global, outcome: Outcome) -> Result<Reply, Memory>
+        requires { FitsWaiting self.old.waiting outcome }
+        ensures { IfOk result (IsSettledBy self.old.waiting self.old self.new outcome) }
+    {
+        let Some(pending) = self.pending.take() else {
+            unreachable!()
+        };
+        self.settle_for(alloc, pending, outcome)
+    }
+
+    /// The reply to a request that waited for its work, and what is kept behind it.
+    fn settle_for(
+        &mut self,
+        alloc: Global,
+        pending: Pending,
+        outcome: Outcome,
+    ) -> Result<Reply, Memory>
+        requires kept { IsKept self.old }
+        requires none { self.old.waiting ≡ None }
+        requires waits { CanWait self.old (waiting_of pending) }
+        requires fits { FitsWork pending.work outcome }
+        ensures { IfOk result (IsSettledWith self.old self.new pending outcome) }
+    {
+        let answer = answer_to(alloc, &pending, outcome)?;
+        let given = answer.given;
+        self.end(alloc, pending, answer.is_good, answer.hits, given)?;
+        Ok(answer.reply)
+    }
+
+    /// Keeps what a request has left that was settled.
+    fn end(
+        &mut self,
+        alloc: Global,
+        pending: Pending,
+        is_good: bool,
+        hits: List<u32>,
+        given: u32,
+    ) -> Result<(), Memory>
+        requires none { self.old.waiting ≡ None }
+        requires searches { self.old.searches < self.old.units }
+        requires records { self.old.records + given < 2 ^ 32 }
+        requires sets { length self.old.sets ≤ self.old.searches }
+        requires each { All HasHitsOfLegs self.old.sets }
+        requires after { All HasHitsOfLegs (sets_ended pending is_good hits self.old.sets) }
+        ensures { OnOk result (self.new ≡ ended self.old pending is_good hits given) }
+    {
+        self.records += given;
+        self.searches = searches_behind(&pending.request, self.searches);
+        end_sets(alloc, &mut self.sets, pending, is_good, hits)
+    }
+}
+
+/// Puts what waits in its place.
+fn put(place: &mut Option<Pending>, pending: Pending)
+    ensures { place.new ≡ Some pending }
+{
+    *place = Some(pending);
+}
+
+/// Whether a request is in its place: an Init until one was accepted, and another after it.
+fn is_in_place(accepted: bool, request: &Request) -> bool
+    ensures { result ≡ is_in_place_after accepted request.now }
+{
+    match request {
+        Request::Init(_) => !accepted,
+        _ => accepted,
+    }
+}
+
+/// Whether a request is an Init that is accepted.
+fn accepts(request: &Request) -> bool
+    ensures { result ≡ accepts (Some request.now) }
+{
+    match request {
+        Request::Init(init) => is_accepted(init),
+        _ => false,
+    }
+}

@@ -1,0 +1,219 @@
+//! What an outcome leaves of a request that waits (ANSI/NISO Z39.50-2003, 3.2.2.1, 3.2.3.1 and 3.2.8.1).
+
+ghost use Rattle.std.specs.Prelude.{◌≡◌, ◌≤◌, ◌<◌, ◌+◌, ◌^◌, [], None, IfOk};
+ghost use Rattle.limit_rules.specs.Limits.{most_records};
+ghost use Rattle.gateway_rules.specs.Given.{returned};
+ghost use Rattle.gateway_rules.specs.Marks.{marked_diag};
+ghost use Rattle.gateway_rules.specs.Settling as settling;
+ghost use Rattle.gateway_rules.specs.Works.{CanBegin, FitsWork};
+ghost use Rattle.front_session.specs.WaitingOf.{waiting_of};
+ghost use Rattle.front_session.specs.Settling.{ArePartsOf, IsAnswered, good_reply_by, only_why, reply_by_parts, searches_behind};
+
+use crate::replies::{
+    FINISHED, close_reply, failed, present_reply, returned, scan_reply, search_reply,
+};
+use gateway_rules::init_reply;
+use std::alloc::Global;
+use z_types::{
+    Condition, Diag, Fetched, List, Mark, Memory, Outcome, Reply, Request, ScanAnswer, Text, Work,
+    copy,
+};
+
+/// A request that waits for what comes of its work.
+#[derive(Drop)]
+pub(crate) struct Pending {
+    pub(crate) request: Request,
+    pub(crate) work: Work,
+}
+
+impl Pending {
+    /// A request and its work, copied.
+    pub(crate) fn of(request: &Request, work: &Work) -> Result<Pending, Memory>
+        ensures { IfOk result (λ pending. waiting_of pending ≡ record { request = request.now; work = work.now }) }
+    {
+        Ok(Pending {
+            request: copy(request)?,
+            work: copy(work)?,
+        })
+    }
+}
+
+/// The parts of an outcome, each empty where it has no such part.
+#[derive(Drop)]
+struct Parts {
+    /// Why the request fails.
+    why: Option<Diag>,
+    /// The hits that a Search found.
+    hits: List<u32>,
+    /// The records that were fetched.
+    fetched: Fetched,
+    /// The entries that a Scan found.
+    scanned: ScanAnswer,
+}
+
+/// What is answered to a request that waited, and what is kept of its outcome.
+#[derive(Drop)]
+pub(crate) struct Answer {
+    /// The reply.
+    pub(crate) reply: Reply,
+    /// Whether the request did not fail.
+    pub(crate) is_good: bool,
+    /// The hits that a Search found.
+    pub(crate) hits: List<u32>,
+    /// How many records are given.
+    pub(crate) given: u32,
+}
+
+/// What is answered to a request that waited, and what is kept of its outcome.
+pub(crate) fn answer_to(
+    alloc: Global,
+    pending: &Pending,
+    outcome: Outcome,
+) -> Result<Answer, Memory>
+    requires begins { CanBegin pending.now.work }
+    requires fits { FitsWork pending.now.work outcome }
+    ensures { IfOk result (IsAnswered pending.now outcome) }
+{
+    let parts = parts_of(alloc, outcome)?;
+    let is_good = parts.why.is_none();
+    let given = returned(&parts.fetched);
+    let (reply, hits) = reply_to(alloc, pending, parts)?;
+    Ok(Answer {
+        reply,
+        is_good,
+        hits,
+        given,
+    })
+}
+
+/// The parts of an outcome.
+fn parts_of(alloc: Global, outcome: Outcome) -> Result<Parts, Memory>
+    ensures { IfOk result (ArePartsOf outcome) }
+{
+    match outcome {
+        Outcome::Found { hits, fetched } => Ok(Parts {
+            why: None,
+            hits,
+            fetched,
+            scanned: no_entries(alloc),
+        }),
+        Outcome::Fetched(fetched) => Ok(Parts {
+            why: None,
+            hits: List::new(alloc),
+            fetched,
+            scanned: no_entries(alloc),
+        }),
+        Outcome::Scanned(scanned) => Ok(Parts {
+            why: None,
+            hits: List::new(alloc),
+            fetched: Fetched::None,
+            scanned,
+        }),
+        Outcome::Refused(diag) => Ok(only_why(alloc, Some(diag))),
+        Outcome::Marked { mark, class } => Ok(only_why(alloc, marked_diag(alloc, mark, class)?)),
+    }
+}
+
+/// The parts of an outcome that is none but why the request fails.
+fn only_why(alloc: Global, why: Option<Diag>) -> Parts
+    ensures { result ≡ only_why why }
+{
+    Parts {
+        why,
+        hits: List::new(alloc),
+        fetched: Fetched::None,
+        scanned: no_entries(alloc),
+    }
+}
+
+/// No entries of a Scan.
+fn no_entries(alloc: Global) -> ScanAnswer
+    ensures { result ≡ record { position = None; entries = [] } }
+{
+    ScanAnswer {
+        position: None,
+        entries: List::new(alloc),
+    }
+}
+
+/// The diagnostic that a mark gives.
+fn marked_diag(alloc: Global, mark: Mark, class: Text) -> Result<Option<Diag>, Memory>
+    ensures { IfOk result (λ diag. diag ≡ marked_diag mark class) }
+{
+    let (condition, addinfo) = match mark {
+        Mark::Plain => return Ok(None),
+        Mark::Link => (Condition::DatabaseUnavailable, class),
+        Mark::Silent(_) => (
+            Condition::TemporarySystemError,
+            Text::copy_of(alloc, b"patience")?,
+        ),
+        Mark::Gone => (Condition::ResultSetNoLongerExists, Text::new(alloc)),
+        Mark::Full(_) => (
+            Condition::TemporarySystemError,
+            Text::copy_of(alloc, b"sessions")?,
+        ),
+    };
+    Ok(Some(Diag::bib1(alloc, condition, addinfo)?))
+}
+
+/// The reply to the request that waits, and the hits that a Search found.
+fn reply_to(alloc: Global, pending: &Pending, parts: Parts) -> Result<(Reply, List<u32>), Memory>
+    requires few { returned parts.fetched ≤ most_records }
+    ensures reply { IfOk result (λ both. both.0 ≡ reply_by_parts pending.now.request pending.now.work parts) }
+    ensures hits { IfOk result (λ both. both.1 ≡ parts.hits) }
+{
+    let Parts {
+        why,
+        hits,
+        fetched,
+        scanned,
+    } = parts;
+    let reply = match why {
+        Some(diag) => failed(alloc, &pending.request, diag)?,
+        None => good_reply(alloc, pending, &hits, fetched, scanned)?,
+    };
+    Ok((reply, hits))
+}
+
+/// The reply to a request that did not fail.
+fn good_reply(
+    alloc: Global,
+    pending: &Pending,
+    hits: &List<u32>,
+    fetched: Fetched,
+    scanned: ScanAnswer,
+) -> Result<Reply, Memory>
+    requires few { returned fetched ≤ most_records }
+    ensures { IfOk result (λ reply. reply ≡ good_reply_by pending.now.request pending.now.work hits.now fetched scanned) }
+{
+    match &pending.request {
+        Request::Init(init) => init_reply(init),
+        Request::Search(search) => search_reply(search, hits, fetched),
+        Request::Present(present) => {
+            present_reply(present, fetched_from(&pending.work), fetched)
+        }
+        Request::Scan(scan) => scan_reply(alloc, scan, scanned),
+        Request::Close(close) => close_reply(&close.ref_id, FINISHED),
+    }
+}
+
+/// The hits of the set that a Present fetches from.
+fn fetched_from(work: &Work) -> &[u32]
+    ensures { result.now ≡ settling.fetched_from work.now }
+{
+    match work {
+        Work::Fetch { hits, .. } => hits.as_slice(),
+        Work::Search { .. } | Work::Scan { .. } => &[],
+    }
+}
+
+/// How many searches are spent behind a request.
+pub(crate) fn searches_behind(request: &Request, searches: u32) -> u32
+    requires { searches + 1 < 2 ^ 32 }
+    ensures { result ≡ searches_behind request.now searches }
+{
+    match request {
+        Request::Search(_) => searches + 1,
+        _ => searches,
+    }
+}

@@ -1,0 +1,5 @@
+use Rattle.gateway_rules.proofs.Parts.{rest-ends}
+use Rattle.gateway_rules.proofs.laws.rest_ends.Goals as goal
+
+pub returns : goal.returns
+returns g c = rest-ends g.W.World

@@ -1,0 +1,121 @@
+-- What a request is refused for before any target is asked, in order (ANSI/NISO Z39.50-2003, Appendix 4 ERR; the order
+-- and the bounds are this project's own)
+use Rattle.std.specs.Prelude.{ℕ, pos, ◌+◌, ◌-◌, ◌==◌, ◌&&◌, ◌||◌, Bool, false, not, List, [], ◌∷◌, length}
+use Rattle.std.specs.Prelude.{codes, Option, None, Some, is_some, is_none, Result, Ok, Err, if◌then◌else◌}
+use Rattle.std.specs.Prelude.{nat_lt, nat_abs, int_lt}
+use Rattle.std.specs.Fmt.{decimal}
+use Rattle.z_types.specs.Bib1.{bib1}
+use Rattle.z_types.specs.declared.conditions.Condition.TheVariants as condition
+use Rattle.z_types.specs.declared.diagnostic.Diag.{Diag}
+use Rattle.z_types.specs.declared.requests.Asked.{Asked}
+use Rattle.z_types.specs.declared.requests.Asked.TheVariants.{Good, Bad}
+use Rattle.z_types.specs.declared.requests.Search.{Search}
+use Rattle.z_types.specs.declared.scan.ScanAsk.{ScanAsk}
+use Rattle.route_config.specs.declared.route.Route.{Route}
+use Rattle.z_sets.specs.declared.fault.ExpandFault.TheVariants as fault
+use Rattle.z_sets.specs.declared.fault.ExpandFault.{ExpandFault}
+use Rattle.virt_db.specs.declared.fault.DbFault.TheVariants as names
+use Rattle.virt_db.specs.declared.fault.DbFault.{DbFault}
+use Rattle.virt_db.specs.Legs.{legs_of, found_legs}
+use Rattle.limit_rules.specs.Limits.{are_searches_spent, are_sets_full, are_too_many}
+use Rattle.z_types.specs.MergedOrder.{total}
+use Rattle.z_types.specs.QueryMeasures.{leaf_cost, most_cost}
+use Rattle.z_sets.specs.Sets.{set_named}
+use Rattle.gateway_rules.specs.State.{ClientState}
+use Rattle.z_types.specs.declared.requests.Present.{Present}
+use Rattle.z_types.specs.declared.requests.Scan.{Scan}
+
+-- the most terms of a Scan
+abbrev pub most_terms : ℕ
+most_terms = 1000
+
+-- the most octets of an element set name
+abbrev pub longest_element_set_name : ℕ
+longest_element_set_name = 4096
+
+-- a check: its diagnostic, where it refuses
+abbrev pub refused_where : Bool → Diag → Option Diag
+refused_where test diag = if test then Some diag else None
+
+-- a form that was read and is not served refuses with its own diagnostic
+abbrev pub not_served : {A : Type 0} → Asked A → Option Diag
+not_served (Good asked) = None
+not_served (Bad diag) = Some diag
+
+-- the diagnostic of the first check that refuses, or else what comes behind them
+abbrev pub checked : {A : Type 0} → List (Option Diag) → Result A Diag → Result A Diag
+checked [] behind = behind
+checked (None ∷ checks) behind = checked checks behind
+checked (Some diag ∷ checks) behind = Err diag
+
+-- an element set name is too long
+abbrev pub is_too_long : Option (List ℕ) → Bool
+is_too_long None = false
+is_too_long (Some name) = nat_lt longest_element_set_name (length name)
+
+-- database names that stand for no legs
+abbrev pub no_legs : DbFault → Option Diag
+no_legs (names.Unknown name) = Some (bib1 condition.DatabaseDoesNotExist name)
+no_legs (names.TooMany count) = Some (bib1 condition.TooManyDatabases (decimal count))
+no_legs names.Memory = None
+
+-- databases: some, not too many, each of them there, with not too many legs
+abbrev pub not_found : Result (List ℕ) DbFault → Option Diag
+not_found (Ok legs) = None
+not_found (Err fault) = no_legs fault
+
+-- a Search, up to its query
+abbrev pub search_checks : Route → ClientState → Search → List (Option Diag)
+search_checks route client search =
+    let in_use = is_some (set_named search.set_name client.sets) in
+    refused_where (are_searches_spent route.limits client.searches) (bib1 condition.ResourcesExhausted (codes "searches"))
+    ∷ not_served search.query
+    ∷ refused_where (is_too_long search.small_element || is_too_long search.medium_element)
+    (bib1 condition.ElementSetNameNotValid (codes "long"))
+    ∷ not_found (found_legs route search.dbs)
+    ∷ refused_where (in_use && not search.replace) (bib1 condition.ResultSetExists search.set_name)
+    ∷ refused_where (not in_use && are_sets_full route.limits (length client.sets)) (bib1 condition.TooManyResultSets [])
+    ∷ []
+
+-- a query that has no expansion
+abbrev pub no_expansion : ExpandFault → Diag
+no_expansion (fault.UnknownSet name) = bib1 condition.ResultSetDoesNotExist name
+no_expansion (fault.OtherLegs name) = bib1 condition.CombinationOfDatabasesNotSupported name
+no_expansion too_much = bib1 condition.ResourcesExhausted (codes "query")
+
+-- the element set name of a Present is too long
+abbrev pub is_asked_too_long : Asked (Option (List ℕ)) → Bool
+is_asked_too_long (Good element) = is_too_long element
+is_asked_too_long (Bad diag) = false
+
+-- a Present does not lie within a result set of this count: its start is below 1, or its last record beyond the count
+abbrev pub is_out_of_range : Present → ℕ → Bool
+is_out_of_range present count =
+    int_lt present.start (pos 1) || nat_lt count (nat_abs present.start + present.number - 1)
+
+-- a Present, where its set has these hits
+abbrev pub present_checks : Route → ClientState → Present → List ℕ → List (Option Diag)
+present_checks route client present hits =
+    not_served present.element
+    ∷ refused_where (is_asked_too_long present.element) (bib1 condition.ElementSetNameNotValid (codes "long"))
+    ∷ refused_where (is_none (set_named present.set_name client.sets))
+    (bib1 condition.ResultSetDoesNotExist present.set_name)
+    ∷ refused_where (is_out_of_range present (total hits)) (bib1 condition.PresentRequestOutOfRange [])
+    ∷ refused_where (are_too_many route.limits client.records present.number) (bib1 condition.TooManyRecordsRetrieved [])
+    ∷ []
+
+-- a Scan asks for too many terms, or its attributes and term cost too much
+abbrev pub ask_checks : Asked ScanAsk → List (Option Diag)
+ask_checks (Bad diag) = []
+ask_checks (Good ask) =
+    refused_where (nat_lt most_terms ask.number) (bib1 condition.ResourcesExhausted (codes "terms"))
+    ∷ refused_where (nat_lt most_cost (leaf_cost ask.attrs ask.term)) (bib1 condition.ResourcesExhausted (codes "query"))
+    ∷ []
+
+-- a Scan
+abbrev pub scan_checks : Route → Scan → List (Option Diag)
+scan_checks route scan =
+    not_served scan.ask
+    ∷ not_found (found_legs route scan.dbs)
+    ∷ refused_where (not (length (legs_of route scan.dbs) == 1)) (bib1 condition.CombinationOfDatabasesNotSupported [])
+    ∷ ask_checks scan.ask

@@ -1,0 +1,95 @@
+-- What an outcome leaves: the reply, and what is kept of the client (ANSI/NISO Z39.50-2003, 3.2.2.1, 3.2.3.1 and
+-- 3.2.8.1)
+use Rattle.std.specs.Prelude.{ℕ, ◌+◌, List, [], Option, None, Some}
+use Rattle.z_types.specs.declared.diagnostic.Diag.{Diag}
+use Rattle.z_types.specs.declared.scan.ScanAnswer.{ScanAnswer}
+use Rattle.gateway_rules.specs.Given.{search_reply, present_reply, returned}
+use Rattle.gateway_rules.specs.Marks.{marked_diag}
+use Rattle.gateway_rules.specs.Replies.{failed, init_reply, close_reply}
+use Rattle.z_sets.specs.Sets.{StoredSet, with_set, without_set}
+use Rattle.gateway_rules.specs.State.{ClientState}
+use Rattle.gateway_rules.specs.Statuses.{scan_success, finished}
+use Rattle.z_types.specs.declared.outcome.Fetched.TheVariants as fetched
+use Rattle.z_types.specs.declared.outcome.Fetched.{Fetched}
+use Rattle.z_types.specs.declared.outcome.Outcome.TheVariants as outcome
+use Rattle.z_types.specs.declared.outcome.Outcome.{Outcome}
+use Rattle.z_types.specs.declared.replies.Reply.TheVariants as reply
+use Rattle.z_types.specs.declared.replies.Reply.{Reply}
+use Rattle.z_types.specs.declared.requests.Request.TheVariants as request
+use Rattle.z_types.specs.declared.requests.Request.{Request}
+use Rattle.z_types.specs.declared.work.Work.TheVariants as work
+use Rattle.z_types.specs.declared.work.Work.{Work}
+
+-- ---- the parts of an outcome, each empty where the outcome has no such part
+
+-- why the request fails: a target refused, or a leg was marked
+abbrev pub why_failed : Outcome → Option Diag
+why_failed (outcome.Refused diag) = Some diag
+why_failed (outcome.Marked mark class) = marked_diag mark class
+why_failed good = None
+
+-- the hits that a Search found
+abbrev pub found_hits : Outcome → List ℕ
+found_hits (outcome.Found hits records) = hits
+found_hits other = []
+
+-- the records that were fetched
+abbrev pub fetched_of : Outcome → Fetched
+fetched_of (outcome.Found hits records) = records
+fetched_of (outcome.Fetched records) = records
+fetched_of other = fetched.None
+
+-- the entries that a Scan found
+abbrev pub scanned_of : Outcome → ScanAnswer
+scanned_of (outcome.Scanned answer) = answer
+scanned_of other = record { position = None; entries = [] }
+
+-- the hits of the set that a Present fetches from
+abbrev pub fetched_from : Work → List ℕ
+fetched_from (work.Fetch login legs query hits first count syntax element) = hits
+fetched_from other = []
+
+-- ---- the reply
+
+-- the reply to a request that did not fail; an Init and a Close have no outcome
+abbrev pub good_reply : Request → Work → Outcome → Reply
+good_reply (request.Init init) work got = init_reply init
+good_reply (request.Search search) work got = search_reply search.ref_id (found_hits got) (fetched_of got)
+good_reply (request.Present present) work got = present_reply present (fetched_from work) (fetched_of got)
+good_reply (request.Scan scan) work got = reply.Scan scan.ref_id scan_success (scanned_of got) []
+good_reply (request.Close close) work got = close_reply close.ref_id finished
+
+-- the reply to a request
+abbrev pub reply_by : Option Diag → Request → Work → Outcome → Reply
+reply_by (Some diag) request work got = failed request diag
+reply_by None request work got = good_reply request work got
+
+-- ---- what is kept of the client
+
+-- the sets after a Search: a good one sets its name, and one that failed removes it
+abbrev pub sets_after : Option Diag → List ℕ → Work → List StoredSet → List StoredSet
+sets_after None name (work.Search login legs query small large medium small_element medium_element syntax room) sets =
+    with_set (record { name = name; legs = legs; query = query }) sets
+sets_after None name other sets = sets
+sets_after (Some diag) name work sets = without_set name sets
+
+-- the client after a request: a Search is spent, and so are the records given
+abbrev pub client_after : ClientState → Request → Work → Outcome → ClientState
+client_after client (request.Search search) work got = record {
+  searches = client.searches + 1;
+  records = client.records + returned (fetched_of got);
+  sets = sets_after (why_failed got) search.set_name work client.sets;
+}
+client_after client request work got = record client { records = client.records + returned (fetched_of got) }
+
+-- ---- both
+
+-- a reply, and the client after it
+pub record Settled : Type 0 where
+  pub reply : Reply
+  pub client : ClientState
+
+-- what an outcome of a request's work leaves
+abbrev pub settled : ClientState → Request → Work → Outcome → Settled
+settled client request work got =
+    record { reply = reply_by (why_failed got) request work got; client = client_after client request work got }

@@ -1,0 +1,30 @@
+-- Which works are begun, and which outcomes fit them (this project's own)
+use Rattle.std.specs.Prelude.{◌≡◌, ◌≢◌, ◌+◌, ◌≤◌, length}
+use Rattle.z_types.specs.MergedOrder.{total}
+use Rattle.z_types.specs.declared.marks.Mark.TheVariants.{Plain}
+use Rattle.z_types.specs.declared.outcome.Outcome.{Outcome}
+use Rattle.z_types.specs.declared.outcome.Outcome.TheVariants as outcome
+use Rattle.z_types.specs.declared.work.Work.{Work}
+use Rattle.z_types.specs.declared.work.Work.TheVariants as work
+use Rattle.limit_rules.specs.Limits.{most_records}
+use Rattle.virt_db.specs.Legs.{most_legs}
+use Rattle.gateway_rules.specs.Given.{returned}
+
+-- legs are not too many; a fetch is of one record at least and not too many, within the hits, of which each leg has its own
+abbrev pub CanBegin : Work → Type 0
+CanBegin (work.Search login legs query small large medium small_element medium_element syntax room) =
+    (length legs ≤ most_legs) × (room ≤ most_records)
+CanBegin (work.Fetch login legs query hits first count syntax element) =
+    (length legs ≤ most_legs) × (length hits ≡ length legs) × (1 ≤ first) × (1 ≤ count) × (count ≤ most_records)
+    × (first + count ≤ total hits + 1)
+CanBegin (work.Scan login leg ask) = Unit {0}
+
+-- an outcome of the kind of the work, with hits of each leg and no more records than there is room for, or were asked for; or a diagnostic, or a mark other than Plain
+abbrev pub FitsWork : Work → Outcome → Type 0
+FitsWork (work.Search login legs query small large medium small_element medium_element syntax room) (outcome.Found hits fetched) =
+    (length hits ≡ length legs) × (returned fetched ≤ room)
+FitsWork (work.Fetch login legs query hits first count syntax element) (outcome.Fetched fetched) = returned fetched ≤ count
+FitsWork (work.Scan login leg ask) (outcome.Scanned answer) = Unit {0}
+FitsWork work (outcome.Refused diag) = Unit {0}
+FitsWork work (outcome.Marked mark class) = mark ≢ Plain
+FitsWork work other = ⊥

@@ -1,0 +1,3 @@
+pub mod AllOrFirst
+pub mod Taken
+pub mod Rooms
