@@ -1,10 +1,7 @@
 #!/bin/bash
 # Times a hundred Presents of 1000 records over one leg and over 16 legs. Prints medians of 5 runs with their ratio, and
 # ends with status 1 where 16 legs take more than 1.5 times as long as one.
-here=$(cd "$(dirname "$0")/.." && pwd) || exit 1
-program=$here/crates/gateway_program/out/gateway_program
-room=$(mktemp -d) || exit 1
-trap 'rm -rf "$room"' EXIT
+. "$(dirname "$0")/runs.sh"
 
 init=b413830205e0840301fffe85031000008603100000
 present=b8169f1f01319e01019d0203e89f68082a8648ce13056d0a
@@ -21,21 +18,10 @@ route() {
     printf '\n[limit]\nrecords = 1000000\n'
 }
 
-# The median of 5 runs by a route, in seconds.
-median() {
-    for _ in 1 2 3 4 5; do
-        begun=$(date +%s%N)
-        "$program" replay "$room/$1" "$room/script" >"$room/page" || exit 1
-        ended=$(date +%s%N)
-        echo $((ended - begun))
-    done | sort -n | awk 'NR == 3 { printf "%.4f", $1 / 1e9 }'
-}
-
-"$here/gateway" --version >/dev/null || exit 1
 { echo "feed 1 $init$search"; yes "feed 1 $present" | head -n 100; } >"$room/script"
 route 1 16 >"$room/one"
 route 16 16 >"$room/sixteen"
-one=$(median one)
-sixteen=$(median sixteen)
+one=$(median replay "$room/one" "$room/script")
+sixteen=$(median replay "$room/sixteen" "$room/script")
 echo "100 Presents of 1000 records: $one s over one leg, $sixteen s over 16"
 awk -v a="$one" -v b="$sixteen" 'BEGIN { printf "16 legs take %.2f times as long\n", b / a; exit b > 1.5 * a }'

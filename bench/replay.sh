@@ -2,24 +2,11 @@
 # Times replays of 1,000 and of 10,000 clients of one Init, Search and Close each, fed in turns, with the peak
 # of memory; and how fast scripts are read: one line of hexadecimal digits that fills a script, eight lines of
 # the longest feeds, and a million events. Prints medians of 5 runs and their ratios. Needs GNU time.
-here=$(cd "$(dirname "$0")/.." && pwd) || exit 1
-program=$here/crates/gateway_program/out/gateway_program
-room=$(mktemp -d) || exit 1
-trap 'rm -rf "$room"' EXIT
+. "$(dirname "$0")/runs.sh"
 
 init=b413830205e0840301fffe85031000008603100000
 search=b63e8d01008e01018f01009001ff910131b20a9f690744656661756c74b521a11f06072a8648ce130301a014bf6611bf2c0a30089f7801019f7901049f2d0161
 close=bf30059f81530100
-
-# The median of 5 runs of a script, in seconds.
-median() {
-    for _ in 1 2 3 4 5; do
-        begun=$(date +%s%N)
-        "$program" replay "$here/examples/first.toml" "$room/$1" >/dev/null
-        ended=$(date +%s%N)
-        echo $((ended - begun))
-    done | sort -n | awk 'NR == 3 { printf "%.4f", $1 / 1e9 }'
-}
 
 # Plays a number of clients, and prints what that cost.
 clients() {
@@ -27,23 +14,22 @@ clients() {
         for ((client = 1; client <= $1; client++)); do echo "feed $client $piece"; done
     done >"$room/clients"
     peak=$(/usr/bin/time -f %M "$program" replay "$here/examples/first.toml" "$room/clients" 2>&1 >/dev/null)
-    last=$(median clients)
+    last=$(median replay "$here/examples/first.toml" "$room/clients")
     echo "$1 clients: $last s, peak $peak KB"
 }
 
 # Reads a script, and prints how fast.
 reads() {
     size=$(stat -c %s "$room/$2")
-    awk -v n="$1" -v s="$size" -v t="$(median "$2")" 'BEGIN { printf "%s: %d octets in %s s, %.0f MB/s\n", n, s, t, s / t / 1e6 }'
+    awk -v n="$1" -v s="$size" -v t="$(median replay "$here/examples/first.toml" "$room/$2")" 'BEGIN { printf "%s: %d octets in %s s, %.0f MB/s\n", n, s, t, s / t / 1e6 }'
 }
 
-"$here/gateway" --version >/dev/null || exit 1
 clients 1000
 thousand=$last
 clients 10000
 awk -v a="$thousand" -v b="$last" 'BEGIN { printf "10000 clients take %.1f times the time of 1000\n", b / a }'
 { printf 'feed 1 '; head -c 16777208 /dev/zero | tr '\0' 0; echo; } >"$room/line"
-reads 'a line of digits' line
+wanted=4 reads 'a line of digits' line
 for _ in 1 2 3 4 5 6 7; do printf 'feed 1 '; head -c 2097152 /dev/zero | tr '\0' 0; echo; done >"$room/feeds"
 reads 'the longest feeds' feeds
 yes 'run 1' | head -n 1000000 >"$room/runs"

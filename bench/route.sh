@@ -2,10 +2,7 @@
 # Times how a configuration is checked that is as large as a file may be, with each array of it as long as it may be:
 # 64 targets, 64 groups of 16, 64 databases of 16 legs. Prints the median of 5 runs with the start of the program, and
 # ends with status 1 where that is 50 ms or more.
-here=$(cd "$(dirname "$0")/.." && pwd) || exit 1
-program=$here/crates/gateway_program/out/gateway_program
-room=$(mktemp -d) || exit 1
-trap 'rm -rf "$room"' EXIT
+. "$(dirname "$0")/runs.sh"
 
 # The route, whose legs name this many databases each.
 route() {
@@ -27,7 +24,6 @@ route() {
     }'
 }
 
-"$here/gateway" --version >/dev/null || exit 1
 for databases in 16 15 14 13 12 11 10; do
     route $databases >"$room/route"
     [ "$(wc -c <"$room/route")" -le 262144 ] && break
@@ -37,9 +33,4 @@ printf '%*s' $((262144 - octets)) '' | tr ' ' '#' >>"$room/route"
 
 told=$("$program" check "$room/route") || { echo "$told"; exit 1; }
 [ "$told" = 'ok databases 64 classes 64' ] || { echo "$told"; exit 1; }
-for _ in 1 2 3 4 5; do
-    begun=$(date +%s%N)
-    "$program" check "$room/route" >/dev/null || exit 1
-    ended=$(date +%s%N)
-    echo $((ended - begun))
-done | sort -n | awk 'NR == 3 { printf "1024 legs in 262144 octets: %.1f ms, under 50 are asked\n", $1 / 1e6; exit $1 >= 50e6 }'
+median check "$room/route" | awk '{ printf "1024 legs in 262144 octets: %.1f ms, under 50 are asked\n", $1 * 1e3; exit $1 >= 0.05 }'

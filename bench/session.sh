@@ -2,10 +2,7 @@
 # Times one client that sends Searches and Presents in turns: 10,000 of them, and ten times as many; a Search of 4,000
 # nodes over a stored set, and one that names 32 sets of 125 nodes each, beside one of as many nodes that names none.
 # Prints medians of 5 runs, and ends with status 1 where ten times as many take more than 12 times as long.
-here=$(cd "$(dirname "$0")/.." && pwd) || exit 1
-program=$here/crates/gateway_program/out/gateway_program
-room=$(mktemp -d) || exit 1
-trap 'rm -rf "$room"' EXIT
+. "$(dirname "$0")/runs.sh"
 
 init=b413830205e0840301fffe85031000008603100000
 search=b63e8d01008e01018f01009001ff910131b20a9f690744656661756c74b521a11f06072a8648ce130301a014bf6611bf2c0a30089f7801019f7901049f2d0161
@@ -13,16 +10,6 @@ present=b8159f1f01319e01019d01019f68082a8648ce13056d0a
 
 # The smallest configuration, with limits that the scripts do not meet.
 { cat "$here/examples/first.toml"; printf '\n[limit]\nunits = 1000000\nsearches = 1000000\nrecords = 1000000\n'; } >"$room/route"
-
-# The median of 5 runs of a script, in seconds.
-median() {
-    for _ in 1 2 3 4 5; do
-        begun=$(date +%s%N)
-        "$program" replay "$room/route" "$room/$1" >/dev/null || exit 1
-        ended=$(date +%s%N)
-        echo $((ended - begun))
-    done | sort -n | awk 'NR == 3 { printf "%.4f", $1 / 1e9 }'
-}
 
 # The length octets of so many octets (X.690, 8.1.3), in hexadecimal.
 length_of() {
@@ -45,10 +32,9 @@ search_of() {
     element b6 "8d01008e01018f01009001ff$(element 91 "$1")b20a9f690744656661756c74$query"
 }
 
-"$here/gateway" --version >/dev/null || exit 1
 for pairs in 5000 50000; do
     { echo "feed 1 $init"; yes "feed 1 $search$present" | head -n "$pairs"; } >"$room/turns"
-    last=$(median turns)
+    last=$(median replay "$room/route" "$room/turns")
     awk -v n=$((2 * pairs)) -v t="$last" 'BEGIN { printf "%d Searches and Presents: %s s, %.0f a second\n", n, t, n / t }'
     [ "$pairs" = 5000 ] && first=$last
 done
@@ -72,6 +58,6 @@ operands=(); for name in "${all[@]}"; do operands+=("$(set_named "$name")"); don
 { echo "feed 1 $init"; for name in "${all[@]}"; do stored "$name" "$small"; done
   for _ in 1 2 3 4 5 6 7 8 9 10; do stored 3030 "$small"; echo "feed 1 $(search_of 3030 "$(joined "${operands[@]}")")"; done; } >"$room/many"
 for what in 'plain:10 Searches of 4,095 nodes' 'one:10 Searches of one set of 4,095 nodes' 'many:10 Searches of 32 sets of 127 nodes, and 42 to make them'; do
-    echo "${what#*:}: $(median "${what%%:*}") s"
+    echo "${what#*:}: $(median replay "$room/route" "$room/${what%%:*}") s"
 done
 exit "${failed:-0}"
