@@ -25,8 +25,6 @@ mod scan;
 mod schemas;
 mod sitting;
 mod sru;
-#[cfg(test)]
-mod tests;
 mod text;
 mod work;
 mod world;

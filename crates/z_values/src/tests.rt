@@ -1,9 +1,9 @@
-//! Each shared type at two values: a copy equals its source and not the other, with ample memory. What
-//! the values are compared by is proved.
+//! Shared types at two values: a copy equals its source and not the other, with ample memory. What the
+//! values are compared by is proved of every type.
 
-use crate::*;
 use std::alloc::Global;
 use std::test::Fail;
+use z_types::*;
 
 /// Whether a value's copy equals the value and not the other.
 fn differ<T: Exact + Drop>(value: T, other: T) -> Result<bool, Memory> {
@@ -39,38 +39,6 @@ fn diag(alloc: Global, condition: Condition) -> Result<Diag, Memory> {
     Diag::bib1(alloc, condition, text(alloc, b"a")?)
 }
 
-fn ask(alloc: Global, number: u32) -> ScanAsk {
-    ScanAsk {
-        attr_set: None,
-        attrs: List::new(alloc),
-        term: Term::Number(1),
-        step: None,
-        number,
-        position: Some(1),
-    }
-}
-
-fn answer(alloc: Global, number: i64) -> Result<ScanAnswer, Memory> {
-    let entry = ScanEntry {
-        term: Term::Number(number),
-        occurrences: Some(1),
-    };
-    Ok(ScanAnswer {
-        position: None,
-        entries: only(alloc, entry)?,
-    })
-}
-
-fn records(alloc: Global, form: Form) -> Result<List<NamedRecord>, Memory> {
-    let item = Item::Record {
-        syntax: Oid::copy_of(alloc, &[1, 2, 840, 10003, 5, 109, 10])?,
-        form,
-        bytes: Text::new(alloc),
-    };
-    let name = Some(text(alloc, b"n")?);
-    only(alloc, NamedRecord { name, item })
-}
-
 fn init(preferred: u32) -> Init {
     Init {
         ref_id: None,
@@ -81,59 +49,11 @@ fn init(preferred: u32) -> Init {
     }
 }
 
-fn search(alloc: Global, query: Asked<RpnQuery>) -> Result<Search, Memory> {
-    Ok(Search {
-        ref_id: None,
-        small: 0,
-        large: 1,
-        medium: 0,
-        replace: true,
-        set_name: text(alloc, b"1")?,
-        dbs: only(alloc, text(alloc, b"a")?)?,
-        small_element: None,
-        medium_element: None,
-        syntax: None,
-        query,
-    })
-}
-
-fn present(alloc: Global, start: i64) -> Result<Present, Memory> {
-    Ok(Present {
-        ref_id: None,
-        set_name: text(alloc, b"1")?,
-        start,
-        number: 1,
-        element: Asked::Good(None),
-        syntax: None,
-    })
-}
-
-fn scan(alloc: Global, asked: Asked<ScanAsk>) -> Scan {
-    Scan {
-        ref_id: None,
-        dbs: List::new(alloc),
-        ask: asked,
-    }
-}
-
 fn close(reason: u32) -> Close {
     Close {
         ref_id: None,
         reason,
         info: None,
-    }
-}
-
-/// A SearchResponse that found this many.
-fn found(count: u32, body: Body) -> Reply {
-    Reply::Search {
-        ref_id: None,
-        count,
-        returned: 1,
-        next: 1,
-        ok: true,
-        status: None,
-        body,
     }
 }
 
@@ -148,37 +68,12 @@ fn presented(status: u32) -> Reply {
     }
 }
 
-/// A ScanResponse of these entries.
-fn scanned(alloc: Global, answer: ScanAnswer) -> Reply {
-    Reply::Scan {
-        ref_id: None,
-        status: 0,
-        answer,
-        diags: List::new(alloc),
-    }
-}
-
 fn known_set(alloc: Global, hits: u32) -> Result<KnownSet, Memory> {
     Ok(KnownSet {
         name: text(alloc, b"1")?,
         legs: only(alloc, 0)?,
         query: query(alloc, 1)?,
         hits: only(alloc, hits)?,
-    })
-}
-
-fn work(alloc: Global, room: u32) -> Result<Work, Memory> {
-    Ok(Work::Search {
-        login: None,
-        legs: only(alloc, 0)?,
-        query: query(alloc, 1)?,
-        small: 0,
-        large: 1,
-        medium: 0,
-        small_element: None,
-        medium_element: None,
-        syntax: None,
-        room,
     })
 }
 
@@ -192,26 +87,6 @@ fn fetch(alloc: Global, first: u32) -> Result<Work, Memory> {
         count: 1,
         syntax: None,
         element: None,
-    })
-}
-
-fn sru_answer(alloc: Global, item: SruItem) -> Result<SruAnswer, Memory> {
-    Ok(SruAnswer {
-        version: text(alloc, b"1.2")?,
-        escaped: false,
-        count: 1,
-        start: 1,
-        uri: text(alloc, b"dc")?,
-        items: only(alloc, item)?,
-        refused: None,
-    })
-}
-
-fn sru_diag(alloc: Global) -> Result<SruDiag, Memory> {
-    Ok(SruDiag {
-        version: text(alloc, b"1.2")?,
-        number: 10,
-        details: Text::new(alloc),
     })
 }
 
@@ -258,65 +133,20 @@ fn keys_and_sets_equal_their_copies_alone(rt: HostRuntime) -> Result<(), Fail> {
 
 #[test]
 fn requests_and_replies_equal_their_copies_alone(rt: HostRuntime) -> Result<(), Fail> {
-    let alloc = rt.alloc();
-    assert!(rt;
-        differ(Request::Init(init(1)), Request::Init(init(2)))?,
-        "inits"
-    );
-    let good = search(alloc, Asked::Good(query(alloc, 1)?))?;
-    let bad = search(alloc, Asked::Bad(diag(alloc, Condition::MalformedQuery)?))?;
-    assert!(rt;
-        differ(Request::Search(good), Request::Search(bad))?,
-        "searches"
-    );
-    let first = Request::Present(present(alloc, 1)?);
-    assert!(rt;
-        differ(first, Request::Present(present(alloc, -1)?))?,
-        "presents"
-    );
-    let wide = Request::Scan(scan(alloc, Asked::Good(ask(alloc, 2))));
-    let narrow = Request::Scan(scan(alloc, Asked::Good(ask(alloc, 1))));
-    assert!(rt; differ(wide, narrow)?, "scans");
-    assert!(rt;
-        differ(Request::Close(close(0)), Request::Close(close(6)))?,
-        "closes"
-    );
-    let body = Body::Records(records(alloc, Form::Octets)?);
-    assert!(rt;
-        differ(found(1, Body::None), found(1, body))?,
-        "replies to a search"
-    );
-    assert!(rt; differ(presented(0), presented(5))?, "replies to a present");
-    let scanned_one = scanned(alloc, answer(alloc, 1)?);
-    let scanned_two = scanned(alloc, answer(alloc, 2)?);
-    assert!(rt; differ(scanned_one, scanned_two)?, "replies to a scan");
+    let (one, other) = (Request::Init(init(1)), Request::Init(init(2)));
+    assert!(rt; differ(one, other)?, "requests of a session");
+    let (one, other) = (Request::Close(close(0)), Request::Close(close(6)));
+    assert!(rt; differ(one, other)?, "closes");
+    assert!(rt; differ(presented(0), presented(5))?, "replies");
     Ok(())
 }
 
 #[test]
-fn works_and_outcomes_equal_their_copies_alone(rt: HostRuntime) -> Result<(), Fail> {
+fn works_and_ends_equal_their_copies_alone(rt: HostRuntime) -> Result<(), Fail> {
     let alloc = rt.alloc();
-    assert!(rt; differ(work(alloc, 1)?, work(alloc, 2)?)?, "searches");
     assert!(rt; differ(fetch(alloc, 1)?, fetch(alloc, 2)?)?, "fetches");
-    let whole = Fetched::Whole(diag(alloc, Condition::PresentRequestOutOfRange)?);
-    let some = Fetched::Records(records(alloc, Form::Single)?);
-    assert!(rt;
-        differ(Outcome::Fetched(whole), Outcome::Fetched(some))?,
-        "outcomes"
-    );
-    let silent = Outcome::Marked {
-        mark: Mark::Silent(1),
-        class: text(alloc, b"a")?,
-    };
-    let full = Outcome::Marked {
-        mark: Mark::Full(1),
-        class: text(alloc, b"a")?,
-    };
-    assert!(rt; differ(silent, full)?, "marks");
+    assert!(rt; differ(Mark::Silent(1), Mark::Full(1))?, "marks");
     assert!(rt; differ(End::Cut(1), End::Cut(2))?, "ends");
-    let data = sru_answer(alloc, SruItem::Data(text(alloc, b"a")?))?;
-    let fault = sru_answer(alloc, SruItem::Fault(sru_diag(alloc)?))?;
-    assert!(rt; differ(data, fault)?, "answers to SRU clients");
     Ok(())
 }
 
