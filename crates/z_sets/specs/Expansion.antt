@@ -46,6 +46,10 @@ substituted arcs legs sets (and l r) = under and (substituted arcs legs sets l) 
 substituted arcs legs sets (or l r) = under or (substituted arcs legs sets l) (substituted arcs legs sets r)
 substituted arcs legs sets (and_not l r) = under and_not (substituted arcs legs sets l) (substituted arcs legs sets r)
 
+-- the same, with the sets that the gateway keeps
+abbrev pub substituted_among : List ℕ → List ℕ → List KnownSet → Tree → Result Tree ExpandFault
+substituted_among arcs legs sets tree = substituted arcs legs (map stored sets) tree
+
 -- a structure within the bounds, as a query of this attribute set; a number past its type's end is told as that end
 abbrev pub bounded : List ℕ → Tree → Result RpnQuery ExpandFault
 bounded arcs root =

@@ -1,10 +1,10 @@
 -- The measures of a query's expansion, which are known before it is built (this project's own)
-use Rattle.std.specs.Prelude.{◌≡◌, ℕ, ◌+◌, max, List, [], map, Result, Ok, Err, Bool, true, false, ◌||◌, if◌then◌else◌, nat_lt}
+use Rattle.std.specs.Prelude.{◌≡◌, ℕ, ◌+◌, max, List, [], map, Option, option_map, Result, Ok, Err, Bool, true, false, ◌||◌, if◌then◌else◌, nat_lt}
 use Rattle.z_types.specs.Bounds.{most_query_depth}
 use Rattle.z_types.specs.Tree.{Tree, tree_size, leaf, operand, and, or, and_not}
 use Rattle.z_types.specs.QueryMeasures.{tree_depth, tree_cost, most_nodes, most_cost, node_cost, within32, within64}
 use Rattle.z_types.specs.declared.known_set.KnownSet.{KnownSet}
-use Rattle.z_sets.specs.Sets.{stored}
+use Rattle.z_sets.specs.Sets.{stored, known_set_named}
 use Rattle.z_sets.specs.Expansion.{substituted}
 use Rattle.z_sets.specs.declared.fault.ExpandFault.{ExpandFault}
 use Rattle.z_sets.specs.declared.fault.ExpandFault.TheVariants.{TooLarge, TooDeep, TooCostly, Memory}
@@ -35,12 +35,17 @@ joined l r = record {
 abbrev pub measures_of_sets : List KnownSet → List Measures
 measures_of_sets = map (λ set. measures_of set.query.root)
 
+-- those of the query that the set of a name stands for
+abbrev pub measures_named : List ℕ → List KnownSet → Option Measures
+measures_named name sets = option_map (λ set. measures_of set.query.root) (known_set_named name sets)
+
 -- the measures of a structure, or why there is none
 abbrev pub measures_in : Result Tree ExpandFault → Result Measures ExpandFault
 measures_in (Ok tree) = Ok (measures_of tree)
 measures_in (Err fault) = Err fault
 
--- the measures of a structure with stored queries in place of its operand sets, or the fault of the first; they are the same under each attribute set
+-- the measures of a structure with stored queries in place of its operand sets, or the fault of the first; they are the
+-- same under each attribute set
 abbrev pub expansion_measures : List ℕ → List KnownSet → Tree → Result Measures ExpandFault
 expansion_measures legs sets tree = measures_in (substituted [] legs (map stored sets) tree)
 

@@ -1,5 +1,5 @@
 -- A client's result sets (ANSI/NISO Z39.50-2003, 3.2.2 Search, Result-set-name; that a set stands for legs and a query is this project's own)
-use Rattle.std.specs.Prelude.{ℕ, ◌==◌, Bool, not, List, [], ◌∷◌, ◌++◌, Option, find, filter}
+use Rattle.std.specs.Prelude.{◌≡◌, ℕ, ◌==◌, Bool, not, List, [], ◌∷◌, ◌++◌, Option, find, filter, map}
 use lib.Pointwise.{pointwise}
 use Rattle.z_types.specs.declared.query.RpnQuery.{RpnQuery}
 use Rattle.z_types.specs.declared.known_set.KnownSet.{KnownSet}
@@ -14,6 +14,10 @@ pub record StoredSet : Type 0 where
 abbrev pub stored : KnownSet → StoredSet
 stored known = record { name = known.name; legs = known.legs; query = known.query }
 
+-- sets that the gateway keeps, without their hits
+abbrev pub without_hits : List KnownSet → List StoredSet
+without_hits = map stored
+
 -- two texts, lists of places or object identifiers are the same
 abbrev pub is_same : List ℕ → List ℕ → Bool
 is_same = pointwise ◌==◌
@@ -22,6 +26,14 @@ is_same = pointwise ◌==◌
 abbrev pub set_named : List ℕ → List StoredSet → Option StoredSet
 set_named name sets = find (λ set. is_same set.name name) sets
 
+-- the set of a name, of those that the gateway keeps
+abbrev pub known_set_named : List ℕ → List KnownSet → Option KnownSet
+known_set_named name sets = find (λ set. is_same set.name name) sets
+
+-- the same, without its hits
+abbrev pub stored_set_named : List ℕ → List KnownSet → Option StoredSet
+stored_set_named name sets = set_named name (without_hits sets)
+
 -- the sets without the one of a name
 abbrev pub without_set : List ℕ → List StoredSet → List StoredSet
 without_set name sets = filter (λ set. not (is_same set.name name)) sets
@@ -29,3 +41,7 @@ without_set name sets = filter (λ set. not (is_same set.name name)) sets
 -- the sets with this one, in place of any of its name
 abbrev pub with_set : StoredSet → List StoredSet → List StoredSet
 with_set set sets = without_set set.name sets ++ set ∷ []
+
+-- a set was put among those that the gateway keeps, in place of any of its name
+abbrev pub IsPut : KnownSet → (old new : List KnownSet) → Type 0
+IsPut set old new = without_hits new ≡ with_set (stored set) (without_hits old)

@@ -2,9 +2,8 @@
 
 ghost use Rattle.std.specs.Prelude.{◌≡◌, IfOk, map};
 ghost use Rattle.z_types.specs.Tree.{operand};
-ghost use Rattle.z_sets.specs.Expansion.{IsExpansion, all_in_set, in_set, inside, substituted, then_bounded};
+ghost use Rattle.z_sets.specs.Expansion.{IsExpansion, all_in_set, in_set, inside, substituted_among};
 ghost use Rattle.z_sets.specs.Measured.{IsOrMemory, tested_expansion};
-ghost use Rattle.z_sets.specs.Sets.{stored};
 
 use crate::ExpandFault;
 use crate::measures::{measure_expansion, measure_sets, names_a_set, test_bounds};
@@ -72,7 +71,7 @@ fn build(
     legs: &List<u32>,
     sets: &[KnownSet],
 ) -> Result<Rpn, ExpandFault>
-    ensures { IsOrMemory (substituted arcs.now legs.now (map stored sets.now) query.now) result }
+    ensures { IsOrMemory (substituted_among arcs.now legs.now sets.now query.now) result }
 {
     match &query.node {
         Node::Leaf(attrs, term) => Ok(Rpn::leaf(copy(attrs)?, copy(term)?)),
@@ -103,7 +102,7 @@ fn build_operand(
     legs: &List<u32>,
     sets: &[KnownSet],
 ) -> Result<Rpn, ExpandFault>
-    ensures { IsOrMemory (substituted arcs.now legs.now (map stored sets.now) (operand name.now)) result }
+    ensures { IsOrMemory (substituted_among arcs.now legs.now sets.now (operand name.now)) result }
 {
     let set = set_for(name, legs, sets)?;
     Ok(put_inside(alloc, &set.query, arcs)?)

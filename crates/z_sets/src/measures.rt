@@ -1,10 +1,9 @@
 //! How large, how deep and how costly a query's expansion would be, before it is built. A number that
 //! would pass its type's end is given as that end.
 
-ghost use Rattle.std.specs.Prelude.{◌≡◌, IfOk, find, option_map, slice_get};
+ghost use Rattle.std.specs.Prelude.{◌≡◌, IfOk, slice_get};
 ghost use Rattle.z_types.specs.Tree.{leaf, operand};
-ghost use Rattle.z_sets.specs.Sets.{is_same};
-ghost use Rattle.z_sets.specs.Measured.{IsOrMemory, measures_of, measures_of_sets, expansion_measures, joined, names_a_set, tested};
+ghost use Rattle.z_sets.specs.Measured.{IsOrMemory, measures_of, measures_of_sets, measures_named, expansion_measures, joined, names_a_set, tested};
 
 use crate::ExpandFault;
 use crate::sets::{place_of, set_for};
@@ -150,7 +149,7 @@ fn measure_operand(
 /// The measures of the query of the first of the sets that has this name.
 fn measures_named(name: &Text, sets: &[KnownSet], sizes: &[Measures]) -> Option<Measures>
     requires sizes { sizes.now ≡ measures_of_sets sets.now }
-    ensures { result ≡ option_map (λ set. measures_of set.query.root) (find (λ set. is_same set.name name.now) sets.now) }
+    ensures { result ≡ measures_named name.now sets.now }
 {
     let place = place_of(sets, name)?;
     item_at(sizes, place)

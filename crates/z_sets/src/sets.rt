@@ -1,10 +1,10 @@
 //! A client's result sets by their names.
 
-ghost use Rattle.std.specs.Prelude.{◌≡◌, ◌≤◌, [], ◌∷◌, ◌++◌, find, map, option_map, not, OnOk, OnErr, vec_len, vec_capacity};
+ghost use Rattle.std.specs.Prelude.{◌≡◌, ◌≤◌, [], ◌∷◌, ◌++◌, option_map, not, OnOk, OnErr, vec_len, vec_capacity};
 ghost use Rattle.std.specs.List.{position};
 ghost use Rattle.std.specs.Option.{option_copied};
-ghost use Rattle.z_sets.specs.Sets.{is_same, stored, set_named, with_set, without_set};
-ghost use Rattle.z_sets.specs.Operands.{set_for, IsLentOrMemory, others_than};
+ghost use Rattle.z_sets.specs.Sets.{is_same, stored, without_hits, known_set_named, stored_set_named, without_set, IsPut};
+ghost use Rattle.z_sets.specs.Operands.{set_among, IsLentOrMemory, others_than};
 
 use crate::ExpandFault;
 use std::alloc::Global;
@@ -13,15 +13,15 @@ use z_types::{KnownSet, List, Memory, Text, copy};
 
 /// The first of the sets that has this name.
 pub fn find_set<'a>(sets: &'a List<KnownSet>, name: &[u8]) -> Option<&'a KnownSet>
-    ensures first { option_copied result ≡ find (λ set. is_same set.name name.now) sets.now }
-    ensures named { option_map stored (option_copied result) ≡ set_named name.now (map stored sets.now) }
+    ensures first { option_copied result ≡ known_set_named name.now sets.now }
+    ensures named { option_map stored (option_copied result) ≡ stored_set_named name.now sets.now }
 {
     set_in(sets.as_slice(), name)
 }
 
 /// The first of the sets that has this name.
 pub(crate) fn set_in<'a>(sets: &'a [KnownSet], name: &[u8]) -> Option<&'a KnownSet>
-    ensures first { option_copied result ≡ find (λ set. is_same set.name name.now) sets.now }
+    ensures first { option_copied result ≡ known_set_named name.now sets.now }
 {
     sets.iter().find(|set| set.name.as_slice() == name)
 }
@@ -39,7 +39,7 @@ pub(crate) fn set_for<'a>(
     legs: &List<u32>,
     sets: &'a [KnownSet],
 ) -> Result<&'a KnownSet, ExpandFault>
-    ensures { IsLentOrMemory (set_for name.now legs.now (find (λ set. is_same set.name name.now) sets.now)) result }
+    ensures { IsLentOrMemory (set_among name.now legs.now sets.now) result }
 {
     match set_in(sets, name.as_slice()) {
         None => Err(ExpandFault::UnknownSet(copy(name)?)),
@@ -56,7 +56,7 @@ pub(crate) fn set_for<'a>(
 /// Puts a set behind the others, in place of any of its name. Without memory nothing is changed.
 pub fn put_set(alloc: Global, sets: &mut List<KnownSet>, set: KnownSet) -> Result<(), Memory>
     ensures ok { OnOk result (sets.new ≡ others_than set.name sets.old ++ set ∷ []) }
-    ensures stored { OnOk result (map stored sets.new ≡ with_set (stored set) (map stored sets.old)) }
+    ensures stored { OnOk result (IsPut set sets.old sets.new) }
     ensures err { OnErr result (sets.new ≡ sets.old) }
 {
     let mut items = replace(sets, List::new(alloc)).into_vec();
@@ -68,7 +68,7 @@ pub fn put_set(alloc: Global, sets: &mut List<KnownSet>, set: KnownSet) -> Resul
 /// Removes each set of this name.
 pub fn remove_set(alloc: Global, sets: &mut List<KnownSet>, name: &[u8])
     ensures others { sets.new ≡ others_than name.now sets.old }
-    ensures stored { map stored sets.new ≡ without_set name.now (map stored sets.old) }
+    ensures stored { without_hits sets.new ≡ without_set name.now (without_hits sets.old) }
 {
     let mut items = replace(sets, List::new(alloc)).into_vec();
     remove_in(&mut items, name);
