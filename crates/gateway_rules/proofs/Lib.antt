@@ -3,3 +3,4 @@ pub mod Composition
 pub mod OneEnding
 pub mod OneAnswer
 pub mod Parts
+pub mod SomeAnswer

@@ -1,4 +1,4 @@
--- The answers to a client's octets (ANSI/NISO Z39.50-2003; X.690:2021, 8.1): those of a route with private sessions and
+-- The answers to a client's octets (ANSI/NISO Z39.50-2003, 4.2; X.690:2021, 8.1): those of a route with private sessions and
 -- no pool, under the marks that are listed; and how the connection ends, whatever the marks
 use Rattle.std.specs.Prelude.{◌≡◌, ◌⊎◌, ℕ, List, [], ◌∷◌, ◌++◌, length, Option, None, Some, Ok, map, flat_map}
 use Rattle.std.specs.Prelude.{if◌then◌else◌, IfSome}
@@ -107,12 +107,6 @@ pub record Ended {W : Type 0} (w : world.Ghosts W) (route : Route) (client : Cli
   pub answered : Answered w route client IsWhole marks out
   pub fits : Fits (run w route client answered.whole answered.causes)
   pub ended : end_of answered.whole ≡ Some end
-
--- the answers to the octets that come where a session stands, with such a client
-abbrev pub AnswersFrom : {W : Type 0} → world.Ghosts W → Route → Progress → ClientState
-    → List ℕ → List Mark → List ℕ → End → Type 0
-AnswersFrom w route here client bytes marks out end =
-    Ended w route client (IsCourse route here bytes) marks out end
 
 -- the answers to all the octets of a connection: these marks fit, these octets are written, and it ends so
 abbrev pub Answers : {W : Type 0} → world.Ghosts W → Route → List ℕ → List Mark → List ℕ → End → Type 0

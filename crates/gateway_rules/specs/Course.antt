@@ -69,7 +69,8 @@ pub data Course : Type 0 where
   ends : (last : Option Reply) (end : End) → Course
   answers : Request → (more : Course) → Course
 
--- what a unit that begins at this offset leads to, in front of what comes behind it; an offset past its type's end is told as that end
+-- what a unit that begins at this offset leads to, in front of what comes behind it; an offset past its type's end is
+-- told as that end
 abbrev pub leads_to : Meeting → ℕ → Course → Course
 leads_to bad at more = ends (Some bad_unit_reply) (Malformed (within64 at))
 leads_to (beyond request) at more = ends (Some (limit_reply request)) Limited

@@ -11,7 +11,7 @@ use Rattle.z_types.specs.declared.requests.Present.{Present}
 use Rattle.z_types.specs.declared.replies.Reply.TheVariants as reply
 use Rattle.z_types.specs.declared.replies.Reply.{Reply}
 
--- how many records are given; once the sizes that Init agreed count, a reply tells the records of their cut
+-- how many records are given
 abbrev pub returned : Fetched → ℕ
 returned fetched.None = 0
 returned (fetched.Records records) = length records

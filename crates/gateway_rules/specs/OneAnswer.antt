@@ -18,6 +18,12 @@ HasOneReading =
 abbrev pub AreMarksPlain : List Mark → Type 0
 AreMarksPlain marks = AllByRecursion (λ mark. mark ≡ Plain) marks
 
+-- no octets are without an answer with every mark Plain
+abbrev pub HasSomeAnswer : {W : Type 0} → world.Ghosts W → Type 0
+HasSomeAnswer w =
+    (route : Route) (bytes : List ℕ)
+    → ¬ ((marks : List Mark) (out : List ℕ) (end : End) → AreMarksPlain marks → ¬ Answers w route bytes marks out end)
+
 -- the same octets, twice answered with every mark Plain, have the same marks, the same octets written and the same end
 abbrev pub HasOneAnswer : {W : Type 0} → world.Ghosts W → Type 0
 HasOneAnswer w =

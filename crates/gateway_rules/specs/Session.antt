@@ -18,8 +18,7 @@ use Rattle.z_types.specs.declared.requests.Request.{Request}
 
 -- ---- one request
 
--- what a request is answered, where this is due: a reply at once leaves the client as it was, until an accepted Init
--- sets the sizes and the login
+-- what a request is answered, where this is due: a reply at once leaves the client as it was
 abbrev pub answer_to : {W : Type 0} → world.Ghosts W → Route → ClientState → Request → Cause → Due → Settled
 answer_to w route client request cause (asking.at_once reply) = record { reply = reply; client = client }
 answer_to w route client request cause (asking.works work) =

@@ -10,7 +10,8 @@ use Rattle.limit_rules.specs.Limits.{most_records}
 use Rattle.virt_db.specs.Legs.{most_legs}
 use Rattle.gateway_rules.specs.Given.{returned}
 
--- legs are not too many; a fetch is of one record at least and not too many, within the hits, of which each leg has its own
+-- a work can begin: its legs are not too many; a fetch has the hits of each leg, and asks for one record at least, for
+-- not too many, and for none past the hits
 abbrev pub CanBegin : Work → Type 0
 CanBegin (work.Search login legs query small large medium small_element medium_element syntax room) =
     (length legs ≤ most_legs) × (room ≤ most_records)
@@ -19,7 +20,8 @@ CanBegin (work.Fetch login legs query hits first count syntax element) =
     × (first + count ≤ total hits + 1)
 CanBegin (work.Scan login leg ask) = Unit {0}
 
--- an outcome of the kind of the work, with hits of each leg and no more records than there is room for, or were asked for; or a diagnostic, or a mark other than Plain
+-- an outcome fits its work: it is of the same kind, with the hits of each leg and no more records than there is room for
+-- or were asked for; or it is a diagnostic, or a mark other than Plain
 abbrev pub FitsWork : Work → Outcome → Type 0
 FitsWork (work.Search login legs query small large medium small_element medium_element syntax room) (outcome.Found hits fetched) =
     (length hits ≡ length legs) × (returned fetched ≤ room)

@@ -1,6 +1,6 @@
 //! What is true of every answer. These functions do nothing; what they ensure is the law.
 
-ghost use Rattle.gateway_rules.specs.OneAnswer.{HasOneReading, HasOneAnswer, HasOneEnd};
+ghost use Rattle.gateway_rules.specs.OneAnswer.{HasOneReading, HasSomeAnswer, HasOneAnswer, HasOneEnd};
 ghost use Rattle.gateway_rules.specs.Parts.{RunsGoOn, UnitsEndIt, RestEndsIt};
 
 use z_types::World;
@@ -8,6 +8,11 @@ use z_types::World;
 /// A client's octets are read as one request, or as none.
 pub fn one_reading()
     ensures { HasOneReading }
+{}
+
+/// No client's octets are without an answer where every mark is Plain.
+pub fn some_answer<W: World>()
+    ensures { HasSomeAnswer W.World }
 {}
 
 /// The answers to a client's octets are one where every mark is Plain: one list of marks, the same

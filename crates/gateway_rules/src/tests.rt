@@ -86,6 +86,7 @@ impl World for EmptyWorld {
 #[test]
 fn the_laws_hold_at_a_world_that_is_empty(_: HostRuntime) -> Result<(), Fail> {
     one_reading();
+    some_answer::<EmptyWorld>();
     one_answer::<EmptyWorld>();
     one_end::<EmptyWorld, EmptyWorld>();
     runs_go_on::<EmptyWorld>();
