@@ -124,7 +124,8 @@ fn put_each(
     answer: &SruAnswer,
     items: &[SruItem],
 ) -> Result<(), Memory>
-    ensures { OnOk result (out.new ≡ out.old ++ records_from answer.now answer.now.start items.now) }
+    ensures { OnOk result (out.new ≡ out.old
+        ++ records_from answer.now answer.now.start items.now) }
 {
     let mut position = u128::from(answer.start);
     for item in items {

@@ -1,9 +1,9 @@
 //! The head of a request.
 
-ghost use Rattle.std.specs.Prelude.{◌≡◌, ◌≢◌, ◌≤◌, take, length, IfSome, IfNone};
+ghost use Rattle.std.specs.Prelude.{◌≡◌, take, IfSome, IfNone};
 ghost use Rattle.httparse.specs.Grammar.{RequestHead};
 ghost use Rattle.sru_request.specs.Head.{head_length};
-ghost use Rattle.sru_request.specs.Request.{most_head_octets, most_fields, IsHead, IsAnswerTo, IsAnswerIn, IsHeadAnswer};
+ghost use Rattle.sru_request.specs.Request.{most_head_octets, IsHead, IsAnswerTo, IsAnswerIn, IsHeadAnswer};
 
 use crate::HeadFault;
 use crate::end::head_length;
