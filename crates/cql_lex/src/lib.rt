@@ -7,8 +7,6 @@ mod fault;
 mod laws;
 mod lexer;
 mod next_token;
-#[cfg(test)]
-mod tests;
 mod token;
 
 pub use characters::is_word;

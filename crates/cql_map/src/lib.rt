@@ -9,6 +9,10 @@ mod index;
 mod leaf;
 mod map;
 mod operator;
+#[cfg(test)]
+mod reading_tokens;
+#[cfg(test)]
+mod reading_trees;
 mod relation;
 mod term;
 #[cfg(test)]

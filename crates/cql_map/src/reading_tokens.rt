@@ -1,11 +1,11 @@
 //! Texts and their tokens. The expected places are counted by hand on the text; which octets make a
 //! token is CQL 1.2's BNF.
 
-use crate::Kind::{
+use cql_lex::Kind::{
     Close, Equal, Exact, Greater, GreaterOrEqual, Less, LessOrEqual, LessOrGreater, Open, Quoted,
     Slash, Word,
 };
-use crate::{Kind, LexFault, Token, tokens};
+use cql_lex::{Kind, LexFault, Token, tokens};
 use std::process::Abort;
 use std::test::Fail;
 

@@ -5,8 +5,8 @@ ghost use Rattle.std.specs.Prelude.{◌≤◌, IfOk};
 ghost use Rattle.cql_parse.specs.Tree.{depth};
 ghost use Rattle.z_types.specs.Bounds.{most_query_depth};
 
-use crate::{Cql, Node, ParseFault, parse, write};
 use cql_lex::tokens;
+use cql_parse::{Cql, Node, ParseFault, parse, write};
 use std::alloc::Global;
 use std::process::Abort;
 use std::test::Fail;

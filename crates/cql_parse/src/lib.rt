@@ -13,8 +13,6 @@ mod laws;
 mod lexeme;
 mod parser;
 mod stack;
-#[cfg(test)]
-mod tests;
 mod tree;
 mod writer;
 
