@@ -5,6 +5,8 @@ mod command;
 mod config;
 mod descriptors;
 mod files;
+#[cfg(test)]
+mod limits;
 mod output;
 mod play;
 mod program;

@@ -8,7 +8,7 @@ use crate::say::USAGE;
 use crate::status::Status;
 use crate::top::top;
 use crate::words::words;
-use crate::{recorded, worked};
+use crate::{limits, recorded, worked};
 use gw_memory::{MemoryFiles, MemorySink};
 use route_config::SMALLEST_TEXT;
 use std::alloc::Global;
@@ -157,6 +157,13 @@ fn has_page(alloc: Global, config: &[u8], script: &[u8], page: &[u8]) -> Result<
 #[test]
 fn worked_sessions_have_their_pages(rt: HostRuntime) -> Result<(), Fail> {
     let wrong = first_wrong(rt.alloc(), worked::SESSIONS)?;
+    assert!(rt; wrong.is_none(), "{wrong:?}");
+    Ok(())
+}
+
+#[test]
+fn sessions_at_the_limits_have_their_pages(rt: HostRuntime) -> Result<(), Fail> {
+    let wrong = first_wrong(rt.alloc(), limits::SESSIONS)?;
     assert!(rt; wrong.is_none(), "{wrong:?}");
     Ok(())
 }
