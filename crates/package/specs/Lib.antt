@@ -1,2 +1,2 @@
-pub mod Legs
+pub mod Kinds
 pub mod Records

@@ -4,10 +4,10 @@ ghost use Rattle.gw_outside.specs.Targets.{AnswersAs};
 ghost use Rattle.virt_db.specs.Legs.{leg_at};
 ghost use Rattle.gateway_rules.specs.Targets.{hits_of, hits_at};
 
-use crate::legs::leg_at;
 use gw_outside::{TargetAnswer, Targets};
 use route_config::Route;
 use std::alloc::Global;
+use virt_db::leg_at;
 use z_types::{List, RpnQuery};
 
 /// The hits of each leg, or the first diagnostic that is not hidden, in the order of the legs.

@@ -3,7 +3,6 @@
 #![tactic(auto)]
 
 mod hits;
-mod legs;
 mod outcomes;
 mod records;
 #[cfg(test)]

@@ -1,6 +1,6 @@
 //! What comes of a work.
 
-ghost use Rattle.std.specs.Prelude.{◌≡◌, ◌+◌, ◌<◌, ◌≤◌, length, IfOk};
+ghost use Rattle.std.specs.Prelude.{◌≡◌, ◌+◌, ◌<◌, ◌≤◌, length, IfOk, if◌then◌else◌, nat_le};
 ghost use Rattle.std.specs.Option.{option_copied};
 ghost use Rattle.z_types.specs.MergedOrder as merged_order;
 ghost use Rattle.z_types.specs.Shown.{shown};
@@ -9,14 +9,15 @@ ghost use Rattle.virt_db.specs.Legs.{leg_at};
 ghost use Rattle.gateway_rules.specs.Targets.{records_at, scan_at};
 ghost use Rattle.gateway_rules.specs.Outcomes.{places_from, plain_outcome, scanned, whole, within_room};
 ghost use Rattle.gateway_rules.specs.Works.{CanBegin, FitsWork};
+ghost use Rattle.package.specs.Kinds.{IsSearch, IsFetch};
 
 use crate::hits::hits_of;
-use crate::legs::leg_at;
 use crate::records::{Wanted, records_from};
 use gw_outside::{TargetAnswer, Targets};
 use multi_merge::total;
 use route_config::Route;
 use std::alloc::Global;
+use virt_db::leg_at;
 use z_types::{Condition, Diag, Fetched, List, Memory, Outcome, ScanAnswer, ScanAsk, Text, Work};
 
 /// What comes of a work where no leg is marked. Each target answers a search once; of a fetch each
@@ -32,58 +33,106 @@ pub fn plain_outcome<T: Targets>(
     ensures fits { IfOk result (λ outcome. FitsWork work.now outcome) }
 {
     match work {
-        Work::Search {
-            legs,
-            query,
-            small,
-            large,
-            medium,
-            small_element,
-            medium_element,
-            syntax,
-            room,
-            ..
-        } => match hits_of(alloc, route, targets, legs, query) {
-            TargetAnswer::Good(hits) => {
-                let all = total(hits.as_slice());
-                let element = if all <= *small {
-                    small_element
-                } else {
-                    medium_element
-                };
-                let wanted = Wanted {
-                    legs,
-                    query,
-                    syntax: syntax.as_ref(),
-                    element: element.as_ref(),
-                };
-                let count = shown(all, *small, *large, *medium);
-                let fetched = fetch_shown(alloc, route, targets, wanted, &hits, count, *room)?;
-                Ok(Outcome::Found { hits, fetched })
-            }
-            TargetAnswer::Refused(diag) => Ok(Outcome::Refused(diag)),
-            TargetAnswer::Memory => Err(Memory),
-        },
-        Work::Fetch {
-            legs,
-            query,
-            hits,
-            first,
-            count,
-            syntax,
-            element,
-            ..
-        } => {
+        Work::Search { .. } => search(alloc, route, work, targets),
+        Work::Fetch { .. } => present(alloc, route, work, targets),
+        Work::Scan { leg, ask, .. } => scan(alloc, route, targets, *leg, ask),
+    }
+}
+
+/// What comes of a Search.
+fn search<T: Targets>(
+    alloc: Global,
+    route: &Route,
+    work: &Work,
+    targets: &T,
+) -> Result<Outcome, Memory>
+    requires kind { IsSearch work.now }
+    requires begun { CanBegin work.now }
+    ensures outcome { IfOk result (λ outcome. outcome ≡ plain_outcome T.World route.now work.now) }
+    ensures fits { IfOk result (λ outcome. FitsWork work.now outcome) }
+{
+    let Work::Search {
+        legs,
+        query,
+        small,
+        large,
+        medium,
+        small_element,
+        medium_element,
+        syntax,
+        room,
+        ..
+    } = work
+    else {
+        unreachable!()
+    };
+    match hits_of(alloc, route, targets, legs, query) {
+        TargetAnswer::Good(hits) => {
+            let all = total(hits.as_slice());
             let wanted = Wanted {
                 legs,
                 query,
                 syntax: syntax.as_ref(),
-                element: element.as_ref(),
+                element: element_shown(all, *small, small_element, medium_element),
             };
-            let fetched = fetch(alloc, route, targets, wanted, hits, *first, *count)?;
-            Ok(Outcome::Fetched(fetched))
+            let count = shown(all, *small, *large, *medium);
+            let fetched = fetch_shown(alloc, route, targets, wanted, &hits, count, *room)?;
+            Ok(Outcome::Found { hits, fetched })
         }
-        Work::Scan { leg, ask, .. } => scan(alloc, route, targets, *leg, ask),
+        TargetAnswer::Refused(diag) => Ok(Outcome::Refused(diag)),
+        TargetAnswer::Memory => Err(Memory),
+    }
+}
+
+/// What comes of a Present.
+fn present<T: Targets>(
+    alloc: Global,
+    route: &Route,
+    work: &Work,
+    targets: &T,
+) -> Result<Outcome, Memory>
+    requires kind { IsFetch work.now }
+    requires begun { CanBegin work.now }
+    ensures outcome { IfOk result (λ outcome. outcome ≡ plain_outcome T.World route.now work.now) }
+    ensures fits { IfOk result (λ outcome. FitsWork work.now outcome) }
+{
+    let Work::Fetch {
+        legs,
+        query,
+        hits,
+        first,
+        count,
+        syntax,
+        element,
+        ..
+    } = work
+    else {
+        unreachable!()
+    };
+    let wanted = Wanted {
+        legs,
+        query,
+        syntax: syntax.as_ref(),
+        element: element.as_ref(),
+    };
+    let fetched = fetch(alloc, route, targets, wanted, hits, *first, *count)?;
+    Ok(Outcome::Fetched(fetched))
+}
+
+/// The element set name of what a Search of so many hits shows (ANSI/NISO Z39.50-2003, 3.2.2).
+fn element_shown<'a>(
+    all: u32,
+    small: u32,
+    small_element: &'a Option<Text>,
+    medium_element: &'a Option<Text>,
+) -> Option<&'a Text>
+    ensures { option_copied result ≡
+        (if nat_le all small then small_element.now else medium_element.now) }
+{
+    if all <= small {
+        small_element.as_ref()
+    } else {
+        medium_element.as_ref()
     }
 }
 

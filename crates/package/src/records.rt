@@ -9,11 +9,11 @@ ghost use Rattle.gateway_rules.specs.Targets.{records_at, record_at};
 ghost use Rattle.gateway_rules.specs.Outcomes.{places_from};
 ghost use Rattle.package.specs.Records.{AnswersAsAny};
 
-use crate::legs::leg_at;
 use gw_outside::{TargetAnswer, Targets};
 use multi_merge::locate;
 use route_config::Route;
 use std::alloc::Global;
+use virt_db::leg_at;
 use z_types::{Item, List, Memory, NamedRecord, Oid, RpnQuery, Text, copy};
 
 /// Records of a result set, as a request asks for them.

@@ -1,13 +1,13 @@
 use Rattle.std.proofs.Common.{◌≡◌, length, arith}
 use Rattle.package.proofs.Rooms.{length-hits}
-use Rattle.package.proofs.outcomes.plain_outcome.Goals as goal
+use Rattle.package.proofs.outcomes.search.Goals as goal
 
 pub fetch_shown-requires-clause-few : goal.fetch_shown-requires-clause-few
 fetch_shown-requires-clause-few g c =
     let counted : length c.in-Good.hits ≡ length c.in-Search.legs =
     length-hits g.T.World c.args.route.now c.in-Search.legs c.in-Search.query c.in-Good.hits c.in-Good.ensures in
     let begun = rw c.in-Search.is at c.requires in
-    omega (arith, counted, begun.0)
+    omega (arith, counted, begun.begun.0)
 
 pub returns-in_ok-fetched-in-Good-clause-fits : goal.returns-in_ok-fetched-in-Good-clause-fits
 returns-in_ok-fetched-in-Good-clause-fits g c =
