@@ -66,22 +66,21 @@ fn search<T: Targets>(
     else {
         unreachable!()
     };
-    match hits_of(alloc, route, targets, legs, query) {
-        TargetAnswer::Good(hits) => {
-            let all = total(hits.as_slice());
-            let wanted = Wanted {
-                legs,
-                query,
-                syntax: syntax.as_ref(),
-                element: element_shown(all, *small, small_element, medium_element),
-            };
-            let count = shown(all, *small, *large, *medium);
-            let fetched = fetch_shown(alloc, route, targets, wanted, &hits, count, *room)?;
-            Ok(Outcome::Found { hits, fetched })
-        }
-        TargetAnswer::Refused(diag) => Ok(Outcome::Refused(diag)),
-        TargetAnswer::Memory => Err(Memory),
-    }
+    let hits = match hits_of(alloc, route, targets, legs, query) {
+        TargetAnswer::Good(hits) => hits,
+        TargetAnswer::Refused(diag) => return Ok(Outcome::Refused(diag)),
+        TargetAnswer::Memory => return Err(Memory),
+    };
+    let all = total(hits.as_slice());
+    let wanted = Wanted {
+        legs,
+        query,
+        syntax: syntax.as_ref(),
+        element: element_shown(all, *small, small_element, medium_element),
+    };
+    let count = shown(all, *small, *large, *medium);
+    let fetched = fetch_shown(alloc, route, targets, wanted, &hits, count, *room)?;
+    Ok(Outcome::Found { hits, fetched })
 }
 
 /// What comes of a Present.

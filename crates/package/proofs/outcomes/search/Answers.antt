@@ -9,8 +9,8 @@ fetch_shown-requires-clause-few g c =
     let begun = rw c.in-Search.is at c.requires in
     omega (arith, counted, begun.begun.0)
 
-pub returns-in_ok-fetched-in-Good-clause-fits : goal.returns-in_ok-fetched-in-Good-clause-fits
-returns-in_ok-fetched-in-Good-clause-fits g c =
+pub returns-clause-fits : goal.returns-clause-fits
+returns-clause-fits g c =
     let counted : length c.in-Good.hits ≡ length c.in-Search.legs =
     length-hits g.T.World c.args.route.now c.in-Search.legs c.in-Search.query c.in-Good.hits c.in-Good.ensures in
-    rw c.in-Search.is (counted, c.in_ok-fetched-in-Good.ensures.room)
+    rw c.in-Search.is (counted, c.in_ok-fetched.ensures.room)
