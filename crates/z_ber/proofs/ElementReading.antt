@@ -47,7 +47,7 @@ none_deeper levels b e = subst (λ (k : ℕ). ¬ Opens (IsFrameAt k) b) (sym e) 
 
 -- ---- an element of which a child is wanted, as it is inside and as it is seen
 
-not_empty : (left : List ℕ) → false ≡ (length left == 0) → left ≢ []
+pub not_empty : (left : List ℕ) → false ≡ (length left == 0) → left ≢ []
 not_empty left h e = false≢true (h ∙ ap (λ (l : List ℕ). length l == 0) e)
 
 -- where no level is left anything is too deep

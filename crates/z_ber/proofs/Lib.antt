@@ -30,5 +30,6 @@ pub mod StepReading
 pub mod StrictReading
 pub mod TreeLaws
 pub mod ValueLaws
+pub mod WalkLemmas
 pub mod WholeReading
 pub mod WrittenLaws

@@ -28,11 +28,11 @@ behind_leaf w m first others t c l apart e = record { forest = leaf t c e.forest
 behind_branch : (w : Bool) (m : ℕ) (first others : List ℕ) (t : Tag) (c : List ℕ) (ks : Forest) → IsBranch (λ i b. AreElements i m b ks) t c first → (w ≡ true → first ≢ end_of_contents) → Elements w (suc m) others → Elements w (suc m) (first ++ others)
 behind_branch w m first others t c ks l apart e = record { forest = branch t c ks e.forest; are = record { first = first; others = others; here = l; apart = apart; behind = e.are; spelled = refl } }
 
-at_octets : (w : Bool) (k : ℕ) (a b : List ℕ) → a ≡ b → Elements w k a → Elements w k b
+pub at_octets : (w : Bool) (k : ℕ) (a b : List ℕ) → a ≡ b → Elements w k a → Elements w k b
 at_octets w k a b e h = subst (λ (o : List ℕ). Elements w k o) e h
 
 -- elements, and others behind them
-joined : (w : Bool) (k : ℕ) (a b : List ℕ) (f : Forest) → AreElements w k a f → Elements w k b → Elements w k (a ++ b)
+pub joined : (w : Bool) (k : ℕ) (a b : List ℕ) (f : Forest) → AreElements w k a f → Elements w k b → Elements w k (a ++ b)
 joined w k a b none h e = at_octets w k b (a ++ b) (ap (λ o. o ++ b) (sym h)) e
 joined w zero a b (leaf t c fs) h e = absurd h
 joined w zero a b (branch t c ks fs) h e = absurd h
@@ -42,7 +42,7 @@ joined w (suc m) a b (branch t c ks fs) h e =
     at_octets w (suc m) (h.first ++ (h.others ++ b)) (a ++ b) (sym (append_assoc h.first h.others b) ∙ ap (λ o. o ++ b) (sym h.spelled)) (behind_branch w m h.first (h.others ++ b) t c ks h.here h.apart (joined w (suc m) h.others b fs h.behind e))
 
 -- one element, alone
-single : (w : Bool) (k : ℕ) (octets : List ℕ) (tree : Forest) → IsElement k octets tree → (w ≡ true → octets ≢ end_of_contents) → Elements w k octets
+pub single : (w : Bool) (k : ℕ) (octets : List ℕ) (tree : Forest) → IsElement k octets tree → (w ≡ true → octets ≢ end_of_contents) → Elements w k octets
 single w k octets none h apart = absurd h
 single w zero octets (leaf t c fs) h apart = absurd h.1
 single w zero octets (branch t c ks fs) h apart = absurd h.1
@@ -59,7 +59,7 @@ pub record Passed (w : Bool) (k : ℕ) (octets rest : List ℕ) : Type 0 where
   pub elements : Elements w k front
   pub spelled : octets ≡ front ++ rest
 
-not_end : (w : Bool) (rest first more : List ℕ) → ¬ HaveEnded w rest → rest ≡ first ++ more → w ≡ true → first ≢ end_of_contents
+pub not_end : (w : Bool) (rest first more : List ℕ) → ¬ HaveEnded w rest → rest ≡ first ++ more → w ≡ true → first ≢ end_of_contents
 not_end true rest first more due s e f = due (more, s ∙ ap (λ o. o ++ more) f)
 not_end false rest first more due s e f = absurd cc
 
@@ -104,7 +104,7 @@ on_level k size octets some h = let e : suc (k - 1) ≡ k = omega arith in subst
 leaf_element : (m : ℕ) (first c : List ℕ) (t : Tag) → IsLeaf t c first → IsElement (suc m) first (leaf t c none)
 leaf_element m first c t l = (refl, record { first = first; others = []; here = l; apart = λ e. absurd cc; behind = refl; spelled = sym (append-nil first) })
 
-branch_element : (m : ℕ) (first c : List ℕ) (t : Tag) (ks : Forest) → IsBranch (λ i b. AreElements i m b ks) t c first → IsElement (suc m) first (branch t c ks none)
+pub branch_element : (m : ℕ) (first c : List ℕ) (t : Tag) (ks : Forest) → IsBranch (λ i b. AreElements i m b ks) t c first → IsElement (suc m) first (branch t c ks none)
 branch_element m first c t ks l = (refl, record { first = first; others = []; here = l; apart = λ e. absurd cc; behind = refl; spelled = sym (append-nil first) })
 
 parted : (octets head body : List ℕ) (len : ℕ) → octets ≡ head ++ body → octets ≡ (head ++ take len body) ++ drop len body
@@ -137,16 +137,6 @@ is_indefinite k n used octets body tag some h run =
     h.parts ∙ ap (λ o. head ++ o) (sym (take-append-drop used body) ∙ ap (λ o. c ++ o) run.ended.1) ∙ sym (append_assoc (head ++ c) end_of_contents more ∙ append_assoc head c (end_of_contents ++ more))
     in
     on_level k (n + used + 2) octets some (element_of (k - 1) (n + used + 2) octets ((head ++ c) ++ end_of_contents) more (branch tag c run.forest none) parts size (branch_element (k - 1) ((head ++ c) ++ end_of_contents) c tag run.forest (record { constructed = h.header.lengths.0; indefinite = true; head = head; header = h.header; inner = run.elements; spelled = refl })))
-
--- room for the end behind an indefinite element's contents
-pub room_for_end : (k used : ℕ) (body : List ℕ) → AreElementsOf true k body used → used + 2 ≤ length body
-room_for_end k used body run =
-    omega (arith, ap length (sym (take-append-drop used body)), length-append (take used body) (drop used body), ap length run.ended.1, length-append end_of_contents run.ended.0, length-take-le used body run.fits)
-
--- elements that end with octets are all of them
-pub all_elements : (k size : ℕ) (octets : List ℕ) → AreElementsOf false k octets size → (forest : Forest) × AreElements false k octets forest
-all_elements k size octets h =
-    (h.forest, subst (λ (o : List ℕ). AreElements false k o h.forest) (sym (append-nil (take size octets)) ∙ ap (λ o. take size octets ++ o) (sym h.ended) ∙ take-append-drop size octets) h.elements)
 
 -- ---- a unit
 

@@ -13,5 +13,6 @@ pub mod Place
 pub mod Reading
 pub mod Scanning
 pub mod Values
+pub mod Walking
 pub mod Written
 pub mod WrittenAnswer

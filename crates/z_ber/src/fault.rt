@@ -20,7 +20,8 @@ pub enum BerFault {
     /// number is that of the contents octets where the frame's own definite header says them, else
     /// 1048577.
     TooLarge(u64),
-    /// What comes there stands at level 65.
+    /// What comes there stands at level 65. Of a frame, contents of definite length are not looked
+    /// into, so levels in them do not count.
     TooDeep,
 }
 

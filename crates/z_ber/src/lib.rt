@@ -36,6 +36,3 @@ pub use spell::{bits_len, header_len, int_len, oid_len, put_header};
 pub use strict::read_written_element;
 pub use tag::{Header, Tag, WrittenElement};
 pub use values::{bits_of, bool_of, int_of};
-
-#[cfg(test)]
-mod tests;

@@ -1,7 +1,9 @@
-//! Units that another implementation spelt, and other spellings of units, read by `z_read` and written
-//! again by `z_write`. All of it is tests.
+//! Octets of X.690 read and written by `z_ber`; units that another implementation spelt, and other
+//! spellings of units, read by `z_read` and written again by `z_write`. All of it is tests.
 #![tactic(auto)]
 
+#[cfg(test)]
+mod ber;
 #[cfg(test)]
 mod encoded;
 #[cfg(test)]

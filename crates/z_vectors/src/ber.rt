@@ -1,7 +1,10 @@
 //! Octets of X.690:2021 and of its rules at their bounds.
 
-use crate::*;
 use std::test::Fail;
+use z_ber::{
+    BerFault, Element, Tag, bits_of, bool_of, definite_frame, elements, header, int_of, put_bits,
+    put_bool, put_bytes, put_int, put_oid, put_tree, read_written_element, whole,
+};
 use z_types::{Oid, Text};
 
 /// Octets, the size of their header and its length, or why there is none.
