@@ -1,4 +1,5 @@
--- The events of a replay (this project's own): what they feed, whom they name, and which may follow others
+-- The events of a replay (this project's own): what they feed, whom they name, and which may follow
+-- others
 use Rattle.std.specs.Prelude.{ℕ, ◌≤◌, Bool, true, false, not, List, [], ◌∷◌, ◌++◌, if◌then◌else◌, ◌==◌, ◌&&◌}
 use Prim.Native.Nat.{zero, suc}
 use Rattle.std.specs.List.{list_any, flat_map}
@@ -47,7 +48,8 @@ octets_of (Run client) = []
 
 -- what is fed to a client by all events
 abbrev pub fed : List Event → ℕ → List ℕ
-fed events client = flat_map (λ event. if client_of event == client then octets_of event else []) events
+fed events client =
+    flat_map (λ event. if client_of event == client then octets_of event else []) events
 
 -- an event is of that client
 abbrev pub is_named : List Event → ℕ → Bool
@@ -56,7 +58,8 @@ is_named events client = list_any (λ event. client_of event == client) events
 -- the clients that events name, in ascending order, of those numbered up to one
 unfoldable pub named_upto : ℕ → List Event → List ℕ
 named_upto zero events = []
-named_upto (suc last) events = named_upto last events ++ (if is_named events (suc last) then suc last ∷ [] else [])
+named_upto (suc last) events =
+    named_upto last events ++ (if is_named events (suc last) then suc last ∷ [] else [])
 
 -- the clients that events name, in ascending order
 unfoldable pub named : List Event → List ℕ

@@ -33,7 +33,9 @@ client_named digits = if is_decimal digits then client_in_range (number_after 0 
 
 -- the octets that hexadecimal digits of either case write, at least one and at most 1048576
 abbrev pub octets_written : List ℕ → Option (List ℕ)
-octets_written digits = if nat_le 1 (length digits) && nat_le (length digits) 2097152 then result_ok (decode_of digits) else None
+octets_written digits =
+    if nat_le 1 (length digits) && nat_le (length digits) 2097152 then result_ok (decode_of digits)
+    else None
 
 -- these octets are fed to a client
 abbrev pub feed_said : Option ℕ → Option (List ℕ) → Said
@@ -42,7 +44,8 @@ feed_said client octets = Unknown
 
 -- a client's number, one space, and octets
 abbrev pub feed_at : List ℕ → Option ℕ → Said
-feed_at fields (Some space) = feed_said (client_named (take space fields)) (octets_written (drop (space + 1) fields))
+feed_at fields (Some space) =
+    feed_said (client_named (take space fields)) (octets_written (drop (space + 1) fields))
 feed_at fields None = Unknown
 
 -- a client ends
@@ -58,9 +61,11 @@ run_said None = Unknown
 -- a line of words: `feed C HEX`, `end C` or `run C`
 abbrev pub said_by_words : List ℕ → Said
 said_by_words line =
-    if starts_with nat_eq line (codes "feed ") then feed_at (drop 5 line) (position (λ octet. octet == 32) (drop 5 line))
+    if starts_with nat_eq line (codes "feed ")
+    then feed_at (drop 5 line) (position (λ octet. octet == 32) (drop 5 line))
     else (if starts_with nat_eq line (codes "end ") then end_said (client_named (drop 4 line))
-    else (if starts_with nat_eq line (codes "run ") then run_said (client_named (drop 4 line)) else Unknown))
+    else (if starts_with nat_eq line (codes "run ") then run_said (client_named (drop 4 line))
+    else Unknown))
 
 -- an empty line and one that begins with `#` say nothing
 abbrev pub said_by : List ℕ → Said

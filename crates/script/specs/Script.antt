@@ -1,4 +1,5 @@
--- Replay scripts (this project's own): lines ended by LF, of which the last may be missing, and the events that they say
+-- Replay scripts (this project's own): lines ended by LF, of which the last may be missing, and the
+-- events that they say
 use Rattle.std.specs.Prelude.{◌≡◌, ℕ, ◌+◌, List, [], ◌∷◌, ◌++◌, length, Result, Ok, Err, if◌then◌else◌, ◌==◌, nat_lt, Option, None, Some}
 use Rattle.std.specs.List.{slice_split}
 use Rattle.script.specs.declared.event.Event.{Event}
@@ -21,7 +22,8 @@ lines_behind (Some text) = lines text
 -- an event of a line behind the events before it: it may follow them, and a script has at most 1000000
 abbrev pub put_event : ℕ → List Event → Event → Result (List Event) ScriptFault
 put_event number events event =
-    if may_follow events event then (if nat_lt (length events) 1000000 then Ok (events ++ event ∷ []) else Err (TooMany number))
+    if may_follow events event
+    then (if nat_lt (length events) 1000000 then Ok (events ++ event ∷ []) else Err (TooMany number))
     else Err (Line number)
 
 -- the events up to a line and with it
@@ -31,16 +33,20 @@ put_said number events (Says event) = put_event number events event
 put_said number events Unknown = Err (Line number)
 
 -- what comes of the lines behind one, unless that is refused
-abbrev pub go_on : Result (List Event) ScriptFault → (List Event → Result (List Event) ScriptFault) → Result (List Event) ScriptFault
+abbrev pub go_on : Result (List Event) ScriptFault → (List Event → Result (List Event) ScriptFault)
+    → Result (List Event) ScriptFault
 go_on (Ok events) others = others events
 go_on (Err fault) others = Err fault
 
--- the events before lines and those of the lines, the first of which has this number; or the first line that is refused
+-- the events before lines and those of the lines, the first of which has this number; or the first
+-- line that is refused
 abbrev pub events_of : ℕ → List Event → List (List ℕ) → Result (List Event) ScriptFault
 events_of number events [] = Ok events
-events_of number events (line ∷ others) = go_on (put_said number events (said_by line)) (λ before. events_of (number + 1) before others)
+events_of number events (line ∷ others) =
+    go_on (put_said number events (said_by line)) (λ before. events_of (number + 1) before others)
 
--- the events of a script for targets of these names, or the first line that is refused; no line names a target so far
+-- the events of a script for targets of these names, or the first line that is refused; no line
+-- names a target so far
 unfoldable pub script_of : List (List ℕ) → List ℕ → Result (List Event) ScriptFault
 script_of targets text = events_of 1 [] (lines text)
 
@@ -56,6 +62,7 @@ abbrev pub IsScript : List (List ℕ) → List ℕ → Result (List Event) Scrip
 IsScript targets text answer = IsAnswer (script_of targets text) answer
 
 -- what was put behind the events is this, or it is refused, or no memory could be had
-abbrev pub IsPut : {A : Type 0} → Result (List Event) ScriptFault → List Event → Result A ScriptFault → Type 0
+abbrev pub IsPut : {A : Type 0} → Result (List Event) ScriptFault → List Event
+    → Result A ScriptFault → Type 0
 IsPut wanted new (Ok done) = wanted ≡ Ok new
 IsPut wanted new (Err fault) = IsAnswer wanted (Err fault)
