@@ -116,6 +116,10 @@ fn is_named(alloc: Global, path: &[u8], name: &[u8]) -> Result<bool, Memory> {
 fn a_path_of_one_segment_is_a_name(rt: HostRuntime) -> Result<(), Fail> {
     let alloc = rt.alloc();
     assert!(rt; is_named(alloc, b"/De%66a%2Fult", b"Defa/ult")?);
+    assert!(rt; is_named(alloc, b"/dEFAULT", b"dEFAULT")?);
+    // an escape that is cut or has no hexadecimal digits stands as it is
+    assert!(rt; is_named(alloc, b"/a%2", b"a%2")?);
+    assert!(rt; is_named(alloc, b"/a%zz%41%", b"a%zzA%")?);
     for path in [b"".as_slice(), b"Default".as_slice(), b"/a/b".as_slice()] {
         assert!(rt; name_of(alloc, path)?.is_none());
     }
@@ -213,6 +217,11 @@ fn the_first_check_that_fails_is_told(rt: HostRuntime) -> Result<(), Fail> {
             b"maximumRecords".as_slice(),
         ),
         (
+            b"&query=a&maximumRecords=2147483648".as_slice(),
+            6,
+            b"maximumRecords".as_slice(),
+        ),
+        (
             b"&query=a&recordPacking=XML".as_slice(),
             71,
             b"XML".as_slice(),
@@ -229,6 +238,13 @@ fn the_first_check_that_fails_is_told(rt: HostRuntime) -> Result<(), Fail> {
         ),
         (b"&query=a&y=1&sortKeys=t".as_slice(), 80, b"".as_slice()),
         (b"&query=a&z=&y=1&x=1".as_slice(), 8, b"y".as_slice()),
+        // names are compared exactly
+        (b"&query=a&X-y=1".as_slice(), 8, b"X-y".as_slice()),
+        (
+            b"&query=a&startrecord=2".as_slice(),
+            8,
+            b"startrecord".as_slice(),
+        ),
     ] {
         assert!(rt;
             is_refused(alloc, FORM, query, b"1.1", number, details),
@@ -264,6 +280,7 @@ fn what_parameters_choose(rt: HostRuntime) -> Result<(), Fail> {
         ),
         (b"&maximumRecords=100".as_slice(), 1, 100, 0),
         (b"&maximumRecords=101".as_slice(), 1, 100, 0),
+        (b"&maximumRecords=2147483647".as_slice(), 1, 100, 0),
         (b"&maximumRecords=2&maximumRecords=3".as_slice(), 1, 2, 0),
         (b"&maximumRecords=&maximumRecords=3".as_slice(), 1, 10, 0),
         (b"&recordSchema=brief".as_slice(), 1, 10, 1),
@@ -280,5 +297,45 @@ fn what_parameters_choose(rt: HostRuntime) -> Result<(), Fail> {
             "{start} {maximum} {schema}"
         );
     }
+    Ok(())
+}
+
+/// Whether the query that a parameter encodes is this.
+fn is_decoded(alloc: Global, encoded: &[u8], decoded: &[u8]) -> bool {
+    match asked(alloc, FORM, encoded) {
+        Ok(query) => query.query.as_slice() == decoded,
+        _ => false,
+    }
+}
+
+#[test]
+fn a_value_is_decoded_where_its_escapes_are_whole(rt: HostRuntime) -> Result<(), Fail> {
+    let alloc = rt.alloc();
+    for (encoded, decoded) in [
+        (b"&query=a+b%2Bc".as_slice(), b"a b+c".as_slice()),
+        (b"&qu%65ry=%c3%A9".as_slice(), b"\xc3\xa9".as_slice()),
+        (b"&query=a%2".as_slice(), b"a%2".as_slice()),
+        (b"&query=%zz%41%".as_slice(), b"%zzA%".as_slice()),
+        (b"&query=%ff".as_slice(), b"\xef\xbf\xbd".as_slice()),
+    ] {
+        assert!(rt; is_decoded(alloc, encoded, decoded), "{encoded:?}");
+    }
+    Ok(())
+}
+
+/// Whether records are asked for as text.
+fn is_escaped(alloc: Global, behind: &[u8]) -> bool {
+    match asked(alloc, WHOLE, behind) {
+        Ok(query) => query.escaped,
+        _ => false,
+    }
+}
+
+#[test]
+fn records_are_escaped_under_string_alone(rt: HostRuntime) -> Result<(), Fail> {
+    let alloc = rt.alloc();
+    assert!(rt; is_escaped(alloc, b"&recordPacking=string"));
+    assert!(rt; !is_escaped(alloc, b"&recordPacking=xml"));
+    assert!(rt; !is_escaped(alloc, b"&recordPacking="));
     Ok(())
 }
