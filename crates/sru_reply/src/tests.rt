@@ -90,6 +90,15 @@ fn a_refusal_has_no_records_and_its_diagnostic(rt: HostRuntime) -> Result<(), Fa
 }
 
 #[test]
+fn details_that_are_empty_are_left_out(rt: HostRuntime) -> Result<(), Fail> {
+    let alloc = rt.alloc();
+    let mut sorted = refused(alloc, diag(alloc, 80, b"")?)?;
+    sorted.version = Text::copy_of(alloc, b"1.1")?;
+    assert!(rt; tells(alloc, &sorted, NO_DETAILS)?);
+    Ok(())
+}
+
+#[test]
 fn a_packed_record_is_escaped_under_string_alone(rt: HostRuntime) -> Result<(), Fail> {
     let alloc = rt.alloc();
     let items = one(alloc, record(alloc, b"<r a=\"1\">&amp;</r>")?)?;
@@ -136,6 +145,10 @@ const NO_VERSION: &[u8] =
 /// A position behind the last record, of 462 octets.
 const PAST_THE_END: &[u8] =
     b"HTTP/1.1 200 OK\r\nContent-Type: text/xml; charset=utf-8\r\nContent-Length: 462\r\nConnection: close\r\n\r\n<?xml version=\"1.0\" encoding=\"UTF-8\"?><zs:searchRetrieveResponse xmlns:zs=\"http://www.loc.gov/zing/srw/\"><zs:version>1.2</zs:version><zs:numberOfRecords>0</zs:numberOfRecords><zs:diagnostics><diag:diagnostic xmlns:diag=\"http://www.loc.gov/zing/srw/diagnostic/\"><diag:uri>info:srw/diagnostic/1/61</diag:uri><diag:details>5</diag:details><diag:message>First record position out of range</diag:message></diag:diagnostic></zs:diagnostics></zs:searchRetrieveResponse>";
+
+/// A sort was asked for, in version 1.1.
+const NO_DETAILS: &[u8] =
+    b"HTTP/1.1 200 OK\r\nContent-Type: text/xml; charset=utf-8\r\nContent-Length: 416\r\nConnection: close\r\n\r\n<?xml version=\"1.0\" encoding=\"UTF-8\"?><zs:searchRetrieveResponse xmlns:zs=\"http://www.loc.gov/zing/srw/\"><zs:version>1.1</zs:version><zs:numberOfRecords>0</zs:numberOfRecords><zs:diagnostics><diag:diagnostic xmlns:diag=\"http://www.loc.gov/zing/srw/diagnostic/\"><diag:uri>info:srw/diagnostic/1/80</diag:uri><diag:message>Sort not supported</diag:message></diag:diagnostic></zs:diagnostics></zs:searchRetrieveResponse>";
 
 /// A record under string, and one behind it.
 const PACKED: &[u8] =
