@@ -1,5 +1,5 @@
 -- The first fault of lists one behind another.
-use Rattle.std.proofs.Common.{◌≡◌, ℕ, true, false, ◌∙◌, ap, Some, List, [], ◌∷◌, ◌++◌, ◌⊎◌, inl, inr, ⊎_elim, refl, sym, subst}
+use Rattle.std.proofs.Common.{◌≡◌, ℕ, true, false, ap, Some, List, [], ◌∷◌, ◌++◌, ◌⊎◌, inl, inr, ⊎_elim, refl, sym, subst}
 use Rattle.cql_map.specs.declared.fault.MapFault.{MapFault}
 use Rattle.cql_map.specs.declared.fault.MapFault.TheVariants as fault
 use Rattle.route_config.specs.declared.route.Index.{Index}
@@ -8,12 +8,10 @@ use Rattle.cql_parse.specs.declared.tree.Head.{Head}
 use Rattle.cql_parse.specs.Tree.{Tree, joined}
 use Rattle.cql_map.specs.declared.relation.Row.{Row}
 use Rattle.cql_map.specs.declared.operator.Operator.{Operator}
-use Rattle.cql_map.specs.declared.term.Character.{Character}
 use Rattle.cql_map.specs.Indexes.{use_of}
 use Rattle.cql_map.specs.Relations.{row_of}
 use Rattle.cql_map.specs.Operators.{operator_of}
-use Rattle.cql_map.specs.Terms.{characters}
-use Rattle.cql_map.specs.Faults.{IsFirst, IsRefusal, index_faults_by, relation_faults_by, modifier_faults, head_faults, row_faults, word_faults, more_words_faults, words_faults, clause_faults, boolean_faults_by, faults, all_faults, sort_faults, has_sort}
+use Rattle.cql_map.specs.Faults.{IsFirst, IsRefusal, index_faults_by, relation_faults_by, modifier_faults, head_faults, clause_faults, boolean_faults_by, faults, all_faults, sort_faults, has_sort}
 
 first_front : (xs ys : List MapFault) (e : MapFault) → IsFirst xs e → IsFirst (xs ++ ys) e
 first_front [] ys e h = absurd h

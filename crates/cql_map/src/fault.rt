@@ -4,7 +4,7 @@ ghost use Rattle.std.specs.Prelude.{◌≡◌};
 ghost use Rattle.cql_map.specs.declared.fault.MapFault.TheVariants.{Memory as no_memory};
 ghost use Rattle.cql_map.specs.Numbers.{number_of, diagnostic_of, detail_of};
 
-use std::fmt;
+use std::{fmt, str};
 use z_types::{Memory, Text};
 
 /// Why a query is not mapped, with the detail of its diagnostic. Nothing was changed.
@@ -74,6 +74,23 @@ impl MapFault {
         }
     }
 
+    /// What it says, without its detail.
+    fn text(&self) -> &'static str {
+        match self {
+            MapFault::ContextSet(_) => "unsupported context set",
+            MapFault::Index(_) => "unsupported index",
+            MapFault::Relation(_) => "unsupported relation",
+            MapFault::Modifier(_) => "unsupported relation modifier",
+            MapFault::Boolean(_) => "unsupported boolean operator",
+            MapFault::Masking(_) => "masking character not supported",
+            MapFault::EmptyTerm(_) => "empty term unsupported",
+            MapFault::Sort(_) => "sort not supported",
+            MapFault::BooleanModifier(_) => "unsupported boolean modifier",
+            MapFault::Anchoring(_) => "anchoring character not supported",
+            MapFault::Memory => "out of memory",
+        }
+    }
+
     /// The detail of its diagnostic, as it stands in the query; empty for want of memory.
     pub fn detail(&self) -> &[u8]
         ensures { result.now ≡ detail_of self.now }
@@ -104,18 +121,10 @@ impl From<Memory> for MapFault {
 
 impl fmt::Display for MapFault {
     fn fmt<W: fmt::Write>(&self, f: &mut fmt::Formatter<W>) -> fmt::Result {
-        f.write_str(match self {
-            MapFault::ContextSet(_) => "unsupported context set",
-            MapFault::Index(_) => "unsupported index",
-            MapFault::Relation(_) => "unsupported relation",
-            MapFault::Modifier(_) => "unsupported relation modifier",
-            MapFault::Boolean(_) => "unsupported boolean operator",
-            MapFault::Masking(_) => "masking character not supported",
-            MapFault::EmptyTerm(_) => "empty term unsupported",
-            MapFault::Sort(_) => "sort not supported",
-            MapFault::BooleanModifier(_) => "unsupported boolean modifier",
-            MapFault::Anchoring(_) => "anchoring character not supported",
-            MapFault::Memory => "out of memory",
-        })
+        f.write_str(self.text())?;
+        match str::from_utf8(self.detail()) {
+            Ok(detail) if !detail.is_empty() => write!(f, ": {detail}"),
+            _ => Ok(()),
+        }
     }
 }
