@@ -1,11 +1,14 @@
-//! Reads octets that it has made, or writes replies, many times, for the scripts of `bench/` to time.
-//! Its words are what is read or written, in how many octets about, and how many times; it prints the
-//! octets, and the parts that were read or the replies that were written.
+//! Reads octets that it has made, writes replies or locates records, many times, for the scripts of
+//! `bench/` to time. Its words are what is read or written, in how many octets about (or of how many
+//! hits), and how many times; it prints the octets, and the parts that were read or the replies that
+//! were written.
 #![tactic(auto)]
 
 mod ber;
 mod cql;
 mod elements;
+mod merge;
+mod scripts;
 mod sru;
 mod units;
 mod writes;
@@ -26,6 +29,8 @@ enum Sample {
     Sru(sru::Shape),
     Read(units::Shape),
     Walked(units::Shape),
+    Located,
+    Script(scripts::Shape),
 }
 
 /// The unit that a word names.
@@ -76,6 +81,10 @@ fn named(word: &str) -> Option<Sample> {
         "sru-reply" => Some(Sample::Sru(sru::Shape::Reply)),
         "sru-packed" => Some(Sample::Sru(sru::Shape::Packed)),
         "sru-names" => Some(Sample::Sru(sru::Shape::Names)),
+        "merge-places" => Some(Sample::Located),
+        "script-long" => Some(Sample::Script(scripts::Shape::Long)),
+        "script-feeds" => Some(Sample::Script(scripts::Shape::Feeds)),
+        "script-runs" => Some(Sample::Script(scripts::Shape::Runs)),
         _ => None,
     }
 }
@@ -96,6 +105,8 @@ fn read(
         Sample::Read(shape) => units::read(alloc, shape, false, size, times),
         Sample::Walked(shape) => units::read(alloc, shape, true, size, times),
         Sample::Sru(shape) => sru::run(alloc, shape, size, times),
+        Sample::Located => Ok(merge::locate_all(size, times)),
+        Sample::Script(shape) => scripts::read(alloc, shape, size, times),
     }
 }
 
