@@ -16,12 +16,12 @@ use Rattle.z_ber.specs.Frames.{IsFrame}
 use Rattle.gateway_rules.specs.Answers as kind
 use Rattle.gateway_rules.specs.Answers.{Answers, Kind, kind_of, IsReceived, IsOpen, IsBad, IsCourseOf, RestLeadsTo}
 use Rattle.gateway_rules.specs.Course as course
-use Rattle.gateway_rules.specs.Course.{Course, Received, octets_of, ends}
+use Rattle.gateway_rules.specs.Course.{Received, octets_of, ends}
 use Rattle.gateway_rules.specs.OneAnswer.{AreMarksPlain}
 use Rattle.gateway_rules.specs.Parts.{marks_of, written_as}
 use Rattle.gateway_rules.specs.Replies.{bad_unit_reply}
 use Rattle.gateway_rules.specs.Session as session
-use Rattle.gateway_rules.specs.Session.{Run, run, stopped}
+use Rattle.gateway_rules.specs.Session.{run, stopped}
 use Rattle.gateway_rules.specs.State.{new_client, at_the_start}
 use Rattle.gateway_rules.proofs.OneEnding.{extent-filled}
 use Rattle.gateway_rules.proofs.Parts.{rest-ends}

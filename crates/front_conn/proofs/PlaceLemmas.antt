@@ -17,9 +17,9 @@ use Rattle.route_config.specs.declared.route.Route.{Route}
 use Rattle.unit_forms.specs.Replies.{spell_reply}
 use Rattle.z_ber.specs.Frames.{IsFrame}
 use Rattle.gateway_rules.specs.Answers as kind
-use Rattle.gateway_rules.specs.Answers.{Answers, Kind, kind_of, IsReading, IsReceived}
+use Rattle.gateway_rules.specs.Answers.{Answers, kind_of, IsReceived}
 use Rattle.gateway_rules.specs.Course as course
-use Rattle.gateway_rules.specs.Course.{Course, Meeting, Received, octets_of, met, met_in_place, is_in_place, after, accepts, leads_to}
+use Rattle.gateway_rules.specs.Course.{Meeting, Received, octets_of, met, met_in_place, is_in_place, after, accepts, leads_to}
 use Rattle.gateway_rules.specs.Marks.{Cause, plain, Taken, IsAllowed}
 use Rattle.gateway_rules.specs.OneAnswer.{AreMarksPlain}
 use Rattle.gateway_rules.specs.Parts.{HasRun, marks_of, written_as}

@@ -1,4 +1,5 @@
--- What a connection goes on with: its end, octets that begin no unit, or a unit (ANSI/NISO Z39.50-2003, 4.2; X.690:2021, 8.1)
+-- What a connection goes on with: its end, octets that begin no unit, or a unit (ANSI/NISO
+-- Z39.50-2003, 4.2; X.690:2021, 8.1)
 use Rattle.std.specs.Prelude.{◌≡◌, ℕ, Bool, true, false, List, [], ◌∷◌, length, ◌==◌, ◌&&◌, if◌then◌else◌}
 use Rattle.std.specs.Char.{is_ascii_alphabetic}
 use Rattle.z_types.specs.declared.marks.End.{End}
@@ -26,12 +27,15 @@ pub record StaysGood (old new : Framing) : Type 0 where
 abbrev pub end_or_nothing : Bool → End → Ahead
 end_or_nothing has_ended end = if has_ended then Ended end else Nothing
 
--- octets that are there, behind no letter at the start: a part of a unit, which more octets can complete; none; a unit
+-- octets that are there, behind no letter at the start: a part of a unit, which more octets can
+-- complete; none; a unit
 abbrev pub IsUnitAhead : Bool → Framing → Framing → Ahead → Type 0
 IsUnitAhead has_ended old new (Bad at) = (at ≡ old.end) × IsBad old.rest × Stays old new
-IsUnitAhead has_ended old new (Whole start end) = (start ≡ old.end) × (start ≡ new.start) × (end ≡ new.end) × IsGiven old new start end
+IsUnitAhead has_ended old new (Whole start end) =
+    (start ≡ old.end) × (start ≡ new.start) × (end ≡ new.end) × IsGiven old new start end
 IsUnitAhead has_ended old new answer =
-    (answer ≡ end_or_nothing has_ended (Cut (length old.rest))) × IsOpen old.rest × StaysGood old new
+    (answer ≡ end_or_nothing has_ended (Cut (length old.rest))) × IsOpen old.rest
+    × StaysGood old new
 
 -- by whether a letter stands first
 abbrev pub IsOctetAhead : Bool → Bool → Framing → Framing → Ahead → Type 0
@@ -40,7 +44,8 @@ IsOctetAhead false has_ended old new answer = IsUnitAhead has_ended old new answ
 
 -- by the octets that stand there
 abbrev pub AreAhead : List ℕ → Bool → Framing → Framing → Ahead → Type 0
-AreAhead [] has_ended old new answer = (answer ≡ end_or_nothing has_ended Finished) × StaysGood old new
+AreAhead [] has_ended old new answer =
+    (answer ≡ end_or_nothing has_ended Finished) × StaysGood old new
 AreAhead (octet ∷ octets) has_ended old new answer =
     IsOctetAhead (is_letter_first old.end octet) has_ended old new answer
 

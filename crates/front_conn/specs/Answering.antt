@@ -19,12 +19,15 @@ use Rattle.front_conn.specs.Places.{HasMeantHits}
 use Rattle.front_conn.specs.declared.answer.Told.{Told}
 
 -- what a request is answered where no target fails
-abbrev pub answered_plainly : {W : Type 0} → world.Ghosts W → Route → SessionState → Request → Settled
+abbrev pub answered_plainly : {W : Type 0} → world.Ghosts W → Route → SessionState → Request
+    → Settled
 answered_plainly w route session request = answered w route (client_of session) request plain
 
 -- a request was answered as the targets mean, and the sets have the hits that they mean
-pub record IsPlainly {W : Type 0} (w : world.Ghosts W) (route : Route) (request : Request) (old new : Served) : Type 0 where
-  pub written : new.out ≡ old.out ++ spell_reply (answered_plainly w route old.session request).reply
+pub record IsPlainly {W : Type 0} (w : world.Ghosts W) (route : Route) (request : Request)
+    (old new : Served) : Type 0 where
+  pub written :
+      new.out ≡ old.out ++ spell_reply (answered_plainly w route old.session request).reply
   pub client : client_of new.session ≡ (answered_plainly w route old.session request).client
   pub accepted : new.session.accepted ≡ (old.session.accepted || accepts (Some request))
   pub units : new.session.units ≡ old.session.units + 1
@@ -32,22 +35,29 @@ pub record IsPlainly {W : Type 0} (w : world.Ghosts W) (route : Route) (request 
   pub sets : AllByRecursion (HasMeantHits w route) new.session.sets
 
 -- what was answered to a unit that is met so: a request that is due was answered plainly
-abbrev pub IsMetAnswered : {W : Type 0} → world.Ghosts W → Meeting → Route → ℕ → Option Request → Served → Served → Told → Type 0
+abbrev pub IsMetAnswered : {W : Type 0} → world.Ghosts W → Meeting → Route → ℕ → Option Request
+    → Served → Served → Told → Type 0
 IsMetAnswered w (course.due request) route at read old new told =
     (told ≡ record { mark = Some Plain; end = None }) × IsPlainly w route request old new
-IsMetAnswered w meeting route at read old new told = IsMetBegun meeting route at read old new (begun.Write told.mark told.end)
+IsMetAnswered w meeting route at read old new told =
+    IsMetBegun meeting route at read old new (begun.Write told.mark told.end)
 
 -- what a unit at an offset is read as, and what was answered to it
-pub record IsAnsweredUnit {W : Type 0} (w : world.Ghosts W) (route : Route) (at : ℕ) (unit : List ℕ) (old new : Served) (told : Told) : Type 0 where
+pub record IsAnsweredUnit {W : Type 0} (w : world.Ghosts W) (route : Route) (at : ℕ)
+    (unit : List ℕ) (old new : Served) (told : Told) : Type 0 where
   pub read : Option Request
   pub reading : IsReading unit read
-  pub met_so : IsMetAnswered w (met route (progress_of at old.session) read) route at read old new told
+  pub met_so :
+      IsMetAnswered w (met route (progress_of at old.session) read) route at read old new told
 
 -- no request waits, and each set has the hits that the targets mean
-pub record IsSteady {W : Type 0} (w : world.Ghosts W) (route : Route) (session : SessionState) : Type 0 where
+pub record IsSteady {W : Type 0} (w : world.Ghosts W) (route : Route)
+    (session : SessionState) : Type 0 where
   pub waits_not : session.waiting ≡ None
   pub sets : AllByRecursion (HasMeantHits w route) session.sets
 
 -- of a steady session
-abbrev pub AnswersUnit : {W : Type 0} → world.Ghosts W → Route → ℕ → List ℕ → Served → Served → Told → Type 0
-AnswersUnit w route at unit old new told = IsSteady w route old.session → IsAnsweredUnit w route at unit old new told
+abbrev pub AnswersUnit : {W : Type 0} → world.Ghosts W → Route → ℕ → List ℕ → Served → Served → Told
+    → Type 0
+AnswersUnit w route at unit old new told =
+    IsSteady w route old.session → IsAnsweredUnit w route at unit old new told

@@ -28,7 +28,8 @@ StandsAtStart w = (route : Route) → IsPlaceOf w route [] [] (nothing_yet new_s
 abbrev pub StandsWhenFed : {W : Type 0} → world.Ghosts W → Type 0
 StandsWhenFed w =
     (route : Route) (fed written piece : List ℕ) (place : Place) → place.has_ended ≡ false
-    → IsPlaceOf w route fed written place → IsPlaceOf w route (fed ++ piece) written (with_piece place piece)
+    → IsPlaceOf w route fed written place
+    → IsPlaceOf w route (fed ++ piece) written (with_piece place piece)
 
 -- the end of the input changes nothing else
 abbrev pub StandsWhenEnded : {W : Type 0} → world.Ghosts W → Type 0
@@ -44,7 +45,8 @@ without_out place = record place { out = [] }
 abbrev pub StandsWhenWritten : {W : Type 0} → world.Ghosts W → Type 0
 StandsWhenWritten w =
     (route : Route) (fed written : List ℕ) (place : Place)
-    → IsPlaceOf w route fed written place → IsPlaceOf w route fed (written ++ place.out) (without_out place)
+    → IsPlaceOf w route fed written place
+    → IsPlaceOf w route fed (written ++ place.out) (without_out place)
 
 -- where the connection has ended, and so has the input, what was written is the answer to what was fed
 abbrev pub EndsAnswered : {W : Type 0} → world.Ghosts W → Type 0

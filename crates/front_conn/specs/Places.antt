@@ -18,7 +18,8 @@ use Rattle.gateway_rules.specs.Session.{Run}
 use Rattle.gateway_rules.specs.Targets.{hits_of}
 use Rattle.front_session.specs.Sessions.{SessionState, client_of, progress_of}
 
--- a connection: its session, the offset of the octets that were not taken, these octets, whether the input has ended, the marks, what is to be written, and how it ended, if it did
+-- a connection: its session, the offset of the octets that were not taken, these octets, whether
+-- the input has ended, the marks, what is to be written, and how it ended, if it did
 pub record Place : Type 0 where
   pub session : SessionState
   pub at : ℕ
@@ -30,7 +31,8 @@ pub record Place : Type 0 where
 
 -- nothing has come
 abbrev pub nothing_yet : SessionState → Place
-nothing_yet session = record { session = session; at = 0; left = []; has_ended = false; marks = []; out = []; end = None }
+nothing_yet session =
+    record { session = session; at = 0; left = []; has_ended = false; marks = []; out = []; end = None }
 
 -- each set that is kept has the hits that the targets mean
 abbrev pub HasMeantHits : {W : Type 0} → world.Ghosts W → Route → KnownSet → Type 0
@@ -41,9 +43,12 @@ abbrev pub BeginsWithUnits : List Received → List ℕ → Type 0
 BeginsWithUnits [] fed = Unit {0}
 BeginsWithUnits (unit ∷ units) fed = kind_of fed ≡ kind.unit
 
--- The connection stands behind these units: they were answered under causes with these marks, all Plain; their replies
--- were written, in part before and the others still to be; the client is as they left it, and no request waits.
-pub record StandsBehind {W : Type 0} (w : world.Ghosts W) (route : Route) (fed written : List ℕ) (place : Place) : Type 0 where
+-- The connection stands behind these units: they were answered under causes with these marks, all
+-- Plain; their replies
+-- were written, in part before and the others still to be; the client is as they left it, and no
+-- request waits.
+pub record StandsBehind {W : Type 0} (w : world.Ghosts W) (route : Route) (fed written : List ℕ)
+    (place : Place) : Type 0 where
   pub units : List Received
   pub spelled : fed ≡ octets_of units ++ place.left
   pub kind : BeginsWithUnits units fed
@@ -65,12 +70,15 @@ MayCome true more = more ≡ []
 MayCome false more = Unit {0}
 
 -- The octets were answered whole, each request under a Plain mark, whatever may still come.
-pub record HasEnded {W : Type 0} (w : world.Ghosts W) (route : Route) (fed written : List ℕ) (place : Place) (end : End) : Type 0 where
-  pub answers : (more : List ℕ) → MayCome place.has_ended more → Answers w route (fed ++ more) place.marks (written ++ place.out) end
+pub record HasEnded {W : Type 0} (w : world.Ghosts W) (route : Route) (fed written : List ℕ)
+    (place : Place) (end : End) : Type 0 where
+  pub answers : (more : List ℕ) → MayCome place.has_ended more
+      → Answers w route (fed ++ more) place.marks (written ++ place.out) end
   pub plainly : AreMarksPlain place.marks
 
 -- where a connection stands, or how it ended
-abbrev pub StandsOrEnded : {W : Type 0} → Option End → world.Ghosts W → Route → List ℕ → List ℕ → Place → Type 0
+abbrev pub StandsOrEnded : {W : Type 0} → Option End → world.Ghosts W → Route → List ℕ → List ℕ
+    → Place → Type 0
 StandsOrEnded None w route fed written place = StandsBehind w route fed written place
 StandsOrEnded (Some end) w route fed written place = HasEnded w route fed written place end
 

@@ -39,9 +39,11 @@ pub record TakesUnit (old new : Place) : Type 0 where
 
 -- a unit was taken, or the connection has ended now; the input goes on or has ended as before
 abbrev pub GoesOn : Place → Place → Type 0
-GoesOn old new = (old.end ≡ None) × (new.has_ended ≡ old.has_ended) × (TakesUnit old new ⊎ IsSome new.end)
+GoesOn old new =
+    (old.end ≡ None) × (new.has_ended ≡ old.has_ended) × (TakesUnit old new ⊎ IsSome new.end)
 
--- what a step answers: it changed nothing, exactly where there is nothing to do; or it took one unit or ended the
+-- what a step answers: it changed nothing, exactly where there is nothing to do; or it took one
+-- unit or ended the
 -- connection; without memory it ended the connection so
 abbrev pub IsStepped : Place → Place → Stepped → Type 0
 IsStepped old new Idle = IsIdle old × (new ≡ old)
@@ -51,7 +53,8 @@ IsStepped old new Memory = new.end ≡ Some how.Memory
 
 -- whatever was fed and written before, the connection stands in the session as before, or has ended
 abbrev pub KeepsPlace : {W : Type 0} → world.Ghosts W → Route → Place → Place → Type 0
-KeepsPlace w route old new = (fed written : List ℕ) → IsPlaceOf w route fed written old → IsPlaceOf w route fed written new
+KeepsPlace w route old new =
+    (fed written : List ℕ) → IsPlaceOf w route fed written old → IsPlaceOf w route fed written new
 
 -- this holds of a step that did not run out of memory
 abbrev pub UnlessMemory : Stepped → Type 0 → Type 0

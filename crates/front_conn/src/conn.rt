@@ -1,6 +1,6 @@
 //! A connection.
 
-ghost use Rattle.std.specs.Prelude.{◌≡◌, ◌++◌, [], Some, None, false, OnOk, OnErr, option_to_list};
+ghost use Rattle.std.specs.Prelude.{◌≡◌, ◌++◌, Some, None, false, OnOk, OnErr, option_to_list};
 ghost use Rattle.front_session.specs.Sessions.{new_session};
 ghost use Rattle.front_conn.specs.Places.{nothing_yet};
 ghost use Rattle.front_conn.specs.Feeding.{with_piece, with_end, without_out};
@@ -143,15 +143,8 @@ impl Conn {
             }
             Ahead::Whole(start, end) => {
                 let unit = self.framer.unit(start, end);
-                match answer_unit(
-                    alloc,
-                    &mut self.session,
-                    route,
-                    unit,
-                    start,
-                    &mut self.out,
-                    targets,
-                ) {
+                let (session, out) = (&mut self.session, &mut self.out);
+                match answer_unit(alloc, session, route, unit, start, out, targets) {
                     Ok(told) => {
                         let put = put_mark(&mut self.marks, told.mark);
                         stepped(&mut self.end, put, told.end)
