@@ -1,7 +1,7 @@
 -- How many steps a connection can still take, and how it ends.
-use Rattle.std.proofs.Common.{◌≡◌, ◌+◌, ◌++◌, ℕ, Bool, true, false, List, [], length, Option, Some, None, refl, append-nil, subst}
+use Rattle.std.proofs.Common.{◌+◌, ℕ, length, Option, Some, None}
 use Rattle.z_types.specs.declared.marks.End.{End}
-use Rattle.front_conn.specs.Places.{Place, MayCome}
+use Rattle.front_conn.specs.Places.{Place}
 
 -- one for each octet that is left, and one for the end
 abbrev pub steps_until : Option End → ℕ → ℕ
@@ -10,8 +10,3 @@ steps_until (Some end) left = 0
 
 abbrev pub steps_left : Place → ℕ
 steps_left place = steps_until place.end (length place.left)
-
--- nothing may come at any time
-pub none_may_come : (ended : Bool) → MayCome ended []
-none_may_come true = refl
-none_may_come false = tt

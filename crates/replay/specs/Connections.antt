@@ -5,6 +5,7 @@ use Rattle.route_config.specs.declared.route.Route.{Route}
 use Rattle.front_conn.specs.Places.{Place, IsPlaceOf}
 
 -- these octets were fed and no more will come, by any route, and nothing was written before
-pub record IsFedWhole {W : Type 0} (w : world.Ghosts W) (bytes : List ℕ) (place : Place) : Type 0 where
+pub record IsFedWhole {W : Type 0} (w : world.Ghosts W) (bytes : List ℕ)
+    (place : Place) : Type 0 where
   pub whole : place.has_ended ≡ true
   pub stands : (route : Route) → IsPlaceOf w route bytes [] place

@@ -57,7 +57,9 @@ requests clients = sum_by (λ client. length client.marks) clients
 
 -- the line of sums
 unfoldable pub sums_line : List ClientReport → List ℕ
-sums_line clients = codes "clients " ++ decimal (length clients) ++ line (codes " requests ") (decimal (requests clients))
+sums_line clients =
+    codes "clients " ++ decimal (length clients)
+    ++ line (codes " requests ") (decimal (requests clients))
 
 -- the clients in order, and the sums
 abbrev pub page : Report → List ℕ

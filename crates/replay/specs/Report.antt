@@ -10,31 +10,39 @@ use Rattle.script.specs.Events.{fed, named, named_upto}
 use Rattle.replay.specs.declared.reports.ClientReport.{ClientReport}
 use Rattle.replay.specs.declared.reports.Report.{Report}
 
--- the client was written the answers to its octets, under the marks that are listed, each of them Plain: no target failed
-pub record IsClientReport {W : Type 0} (w : world.Ghosts W) (route : Route) (number : ℕ) (bytes : List ℕ)
+-- the client was written the answers to its octets, under the marks that are listed, each of them
+-- Plain: no target failed
+pub record IsClientReport {W : Type 0} (w : world.Ghosts W) (route : Route) (number : ℕ)
+    (bytes : List ℕ)
     (report : ClientReport) : Type 0 where
   pub same_number : report.number ≡ number
   pub answers : Answers w route bytes report.marks report.bytes report.end
   pub all_plain : AllByRecursion (λ mark. mark ≡ Plain) report.marks
 
 -- each client of a list was answered to what the events feed it
-abbrev pub AreAnswered : {W : Type 0} → world.Ghosts W → Route → List Event → List ClientReport → Type 0
+abbrev pub AreAnswered : {W : Type 0} → world.Ghosts W → Route → List Event → List ClientReport
+    → Type 0
 AreAnswered w route events clients =
     AllByRecursion (λ client. IsClientReport w route client.number (fed events client.number) client) clients
 
--- the report is of the clients that the events name, in ascending order, each answered to what it was fed
-pub record IsReportOf {W : Type 0} (w : world.Ghosts W) (route : Route) (events : List Event) (report : Report) : Type 0 where
+-- the report is of the clients that the events name, in ascending order, each answered to what it
+-- was fed
+pub record IsReportOf {W : Type 0} (w : world.Ghosts W) (route : Route) (events : List Event)
+    (report : Report) : Type 0 where
   pub clients : map (λ client. client.number) report.clients ≡ named events
   pub each : AreAnswered w route events report.clients
 
 -- the same, so far: of the clients up to a number
-pub record AreReportsUpto {W : Type 0} (w : world.Ghosts W) (route : Route) (events : List Event) (last : ℕ)
+pub record AreReportsUpto {W : Type 0} (w : world.Ghosts W) (route : Route) (events : List Event)
+    (last : ℕ)
     (clients : List ClientReport) : Type 0 where
   pub numbers : map (λ client. client.number) clients ≡ named_upto last events
   pub each : AreAnswered w route events clients
 
 -- a client with an input was answered behind the others
-abbrev pub IsAnsweredBehind : {W : Type 0} → world.Ghosts W → Route → ℕ → Option (List ℕ) → List ClientReport → List ClientReport → Type 0
+abbrev pub IsAnsweredBehind : {W : Type 0} → world.Ghosts W → Route → ℕ → Option (List ℕ)
+    → List ClientReport → List ClientReport → Type 0
 IsAnsweredBehind w route number None old new = new ≡ old
 IsAnsweredBehind w route number (Some octets) old new =
-    (client : ClientReport) × IsClientReport w route number octets client × (new ≡ old ++ client ∷ [])
+    (client : ClientReport) × IsClientReport w route number octets client
+    × (new ≡ old ++ client ∷ [])

@@ -1,4 +1,4 @@
-use Rattle.std.proofs.Common.{◌≡◌, ◌+◌, ℕ, true, length, Option, Some, None}
+use Rattle.std.proofs.Common.{◌≡◌, true}
 use Rattle.front_conn.specs.Steps.{KeepsPlace}
 use Rattle.replay.proofs.Stepping.{steps_left}
 use Rattle.replay.proofs.client.run.Given as goal
