@@ -12,9 +12,11 @@ use Rattle.gateway_program.specs.declared.status.Status.TheVariants as status
 
 -- the read of the file of a name failed
 abbrev pub HasFailed : List ℕ → FileReads → Type 0
-HasFailed name reads = Rose reads.faults reads.faults_after × IfSome reads.failed_after (λ failed. failed ≡ name)
+HasFailed name reads =
+    Rose reads.faults reads.faults_after × IfSome reads.failed_after (λ failed. failed ≡ name)
 
--- the file of a name is a configuration, or is refused, or could not be read; want of memory has no cause
+-- the file of a name is a configuration, or is refused, or could not be read; want of memory has no
+-- cause
 abbrev pub IsConfigRead : List ℕ → FileReads → ConfigRead → Type 0
 IsConfigRead name reads (Taken route) = IsTaken name reads route
 IsConfigRead name reads (Refused fault) = IsNotTaken name reads fault

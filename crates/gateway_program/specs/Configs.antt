@@ -1,5 +1,5 @@
 -- The configuration of a command: its route, or why it is refused (this project's own)
-use Rattle.std.specs.Prelude.{◌≡◌, ◌⊎◌, ℕ, ◌<◌, ◌≤◌, Bool, true, false, not, List, length, Option, IfSome, Result, Ok, Err, codes, find, option_map}
+use Rattle.std.specs.Prelude.{◌≡◌, ◌⊎◌, ℕ, ◌<◌, ◌≤◌, Bool, true, false, not, List, length, Option, IfSome, Ok, Err, codes, find, option_map}
 use Rattle.z_types.specs.declared.address.Address.{Address}
 use Rattle.z_types.specs.declared.address.Address.TheVariants.{Test, Tcp}
 use Rattle.route_config.specs.declared.route.Route.{Route}
@@ -33,7 +33,8 @@ IsNotTaken config reads fault = IfSome (reads.contents config) (IsRefusedFor fau
 
 -- the file of this name is refused, and the line says why
 abbrev pub IsRefusedConfig : List ℕ → FileReads → SinkWrites → Type 0
-IsRefusedConfig config reads writes = (fault : RouteFault) × IsNotTaken config reads fault × Says writes (config_line fault)
+IsRefusedConfig config reads writes =
+    (fault : RouteFault) × IsNotTaken config reads fault × Says writes (config_line fault)
 
 -- a test target is asked directly
 abbrev pub is_test : Address → Bool
@@ -42,4 +43,5 @@ is_test (Tcp host port) = false
 
 -- the name of the first target that is none
 abbrev pub first_real : Route → Option (List ℕ)
-first_real route = option_map (λ target. target.name) (find (λ target. not (is_test target.address)) route.targets)
+first_real route =
+    option_map (λ target. target.name) (find (λ target. not (is_test target.address)) route.targets)

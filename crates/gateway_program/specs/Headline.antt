@@ -20,7 +20,8 @@ use Rattle.gateway_program.specs.declared.status.Status.{Status}
 use Rattle.gateway_program.specs.declared.status.Status.TheVariants.{Ok}
 
 -- the configuration and the script were replayed, and the page is what was printed
-pub record IsReplay {W : Type 0} (w : world.Ghosts W) (config script : List ℕ) (writes : SinkWrites) : Type 0 where
+pub record IsReplay {W : Type 0} (w : world.Ghosts W) (config script : List ℕ)
+    (writes : SinkWrites) : Type 0 where
   pub route : Route
   pub configured : IsConfigurationOf route config
   pub events : List Event
@@ -34,7 +35,8 @@ pub record IsCheck (config : List ℕ) (writes : SinkWrites) : Type 0 where
   pub printed : Received writes (check_line route)
 
 -- `replay` at Ok: the files that it names were replayed, where they are told
-abbrev pub IsReplayHeadline : {W : Type 0} → world.Ghosts W → List (List ℕ) → FileReads → SinkWrites → Status → Type 0
+abbrev pub IsReplayHeadline : {W : Type 0} → world.Ghosts W → List (List ℕ) → FileReads → SinkWrites
+    → Status → Type 0
 IsReplayHeadline w words reads writes ended =
     (config script config_text script_text : List ℕ)
     → ended ≡ Ok → words ≡ codes "replay" ∷ config ∷ script ∷ []

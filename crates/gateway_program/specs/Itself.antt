@@ -14,7 +14,8 @@ help_text =
     line_of (codes "Zaklumen, a gateway for Z39.50 and SRU.") ++ line_of []
     ++ line_of (codes "check CONFIG          reads a configuration, and prints how many databases and classes it has")
     ++ line_of (codes "replay CONFIG SCRIPT  plays the octets that a script feeds to clients, and prints what they are answered")
-    ++ line_of (codes "--help                prints this") ++ line_of (codes "--version             prints the version")
+    ++ line_of (codes "--help                prints this")
+    ++ line_of (codes "--version             prints the version")
 
 -- its name and number
 abbrev pub version_text : List ℕ
@@ -38,10 +39,12 @@ IsTold text writes status.WriteFault = FailedWithin writes text
 IsTold text writes other = ⊥
 
 -- a text of the program's own was asked for, or else a command
-abbrev pub ToldOrDone : {W : Type 0} → world.Ghosts W → Option (List ℕ) → List (List ℕ) → FileReads → SinkWrites → Status → Type 0
+abbrev pub ToldOrDone : {W : Type 0} → world.Ghosts W → Option (List ℕ) → List (List ℕ) → FileReads
+    → SinkWrites → Status → Type 0
 ToldOrDone w (Some text) words reads writes ended = IsTold text writes ended
 ToldOrDone w None words reads writes ended = IsDone w words reads writes ended
 
 -- what the program did at these words
-abbrev pub IsProgramDone : {W : Type 0} → world.Ghosts W → List (List ℕ) → FileReads → SinkWrites → Status → Type 0
+abbrev pub IsProgramDone : {W : Type 0} → world.Ghosts W → List (List ℕ) → FileReads → SinkWrites
+    → Status → Type 0
 IsProgramDone w words reads writes ended = ToldOrDone w (own_text words) words reads writes ended

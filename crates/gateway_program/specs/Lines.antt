@@ -14,16 +14,21 @@ line_of words = words ++ 10 ∷ []
 
 -- how the program is used
 abbrev pub usage_line : List ℕ
-usage_line = line_of (codes "usage: check CONFIG | replay CONFIG SCRIPT | load N | serve CONFIG PORT WORKERS")
+usage_line =
+    line_of (codes "usage: check CONFIG | replay CONFIG SCRIPT | load N | serve CONFIG PORT WORKERS")
 
 -- a configuration is refused: the number of the refusal, and what it is about
 abbrev pub config_line : RouteFault → List ℕ
-config_line fault = line_of (codes "config " ++ decimal (fault_number fault) ++ 32 ∷ fault_text fault)
+config_line fault =
+    line_of (codes "config " ++ decimal (fault_number fault) ++ 32 ∷ fault_text fault)
 
 -- a configuration is good
 abbrev pub check_line : Route → List ℕ
 check_line route =
-    line_of (codes "ok databases " ++ decimal (length route.databases) ++ codes " classes " ++ decimal (length route.classes))
+    line_of (
+    codes "ok databases " ++ decimal (length route.databases)
+    ++ codes " classes " ++ decimal (length route.classes)
+    )
 
 -- a replay asks test targets alone
 abbrev pub real_target_line : List ℕ → List ℕ
@@ -47,7 +52,9 @@ Received writes text = writes.received_after ≡ appended writes.received text
 
 -- a write failed: a front of this text was received, and nothing else
 abbrev pub FailedWithin : SinkWrites → List ℕ → Type 0
-FailedWithin writes text = ReceivedPrefix writes.received writes.received_after text × Rose writes.faults writes.faults_after
+FailedWithin writes text =
+    ReceivedPrefix writes.received writes.received_after text
+    × Rose writes.faults writes.faults_after
 
 -- the line was printed, or a front of it where the sink failed
 abbrev pub Says : SinkWrites → List ℕ → Type 0

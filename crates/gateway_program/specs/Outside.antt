@@ -1,9 +1,11 @@
--- What a call did outside (this project's own): the files that it read, and the sink that it wrote to, before and after it
+-- What a call did outside (this project's own): the files that it read, and the sink that it wrote
+-- to, before and after it
 use Rattle.std.specs.Prelude.{ℕ, List, Option}
 use Rattle.gw_outside.specs.declared.files.Files as files
 use Rattle.gw_outside.specs.declared.sinks.Sink as sinks
 
--- what the files have under a name, how their faults rose, and the name of the file whose read failed last
+-- what the files have under a name, how their faults rose, and the name of the file whose read
+-- failed last
 pub record FileReads : Type 0 where
   pub contents : List ℕ → Option (List ℕ)
   pub faults : ℕ

@@ -22,15 +22,29 @@ use z_types::{List, Memory, Text};
 /// A script that feeds client 1 an Init, and its page.
 const INIT: &[u8] = b"feed 1 b413830205e0840301fffe85031000008603100000\n";
 
-const INIT_PAGE: &[u8] =
-    b"client 1\nbytes b529830205e0840301c102850310000086031000008c01ff9f6e026d709f6f07676174657761799f700131\nmarks Plain\nend Finished\nclients 1 requests 1\n";
+const INIT_PAGE: &[u8] = b"client 1\n\
+    bytes \
+    b529830205e0840301c102850310000086031000008c01ff9f6e026d709f6f07676174657761799f700131\n\
+    marks Plain\n\
+    end Finished\n\
+    clients 1 requests 1\n";
 
 /// A script that feeds client 1 an Init, a Search of the database `Nope` and a Close, and its page.
-const NOPE: &[u8] =
-    b"# a database that the route lacks\n\nfeed 1 b413830205e0840301fffe85031000008603100000b63b8d01008e01018f01009001ff910131b2079f69044e6f7065b521a11f06072a8648ce130301a014bf6611bf2c0a30089f7801019f7901049f2d0161bf30059f81530100";
+const NOPE: &[u8] = b"# a database that the route lacks\n\n\
+    feed 1 \
+    b413830205e0840301fffe85031000008603100000\
+    b63b8d01008e01018f01009001ff910131b2079f69044e6f7065b521a11f06072a8648ce130301a014bf6611bf2c\
+    0a30089f7801019f7901049f2d0161\
+    bf30059f81530100";
 
-const NOPE_PAGE: &[u8] =
-    b"client 1\nbytes b529830205e0840301c102850310000086031000008c01ff9f6e026d709f6f07676174657761799f700131b723970100980100990100960100bf81021306072a8648ce130401020200eb1b044e6f7065bf30059f81530100\nmarks Plain Plain Plain\nend Closed\nclients 1 requests 3\n";
+const NOPE_PAGE: &[u8] = b"client 1\n\
+    bytes \
+    b529830205e0840301c102850310000086031000008c01ff9f6e026d709f6f07676174657761799f700131\
+    b723970100980100990100960100bf81021306072a8648ce130401020200eb1b044e6f7065\
+    bf30059f81530100\n\
+    marks Plain Plain Plain\n\
+    end Closed\n\
+    clients 1 requests 3\n";
 
 /// Words that are none of the commands.
 const NO_COMMANDS: &[&[&str]] = &[
@@ -176,8 +190,14 @@ fn recorded_sessions_of_other_programs_have_their_pages(rt: HostRuntime) -> Resu
 }
 
 /// A target over TCP.
-const REAL_TARGET: &[u8] =
-    b"[[target]]\nname = \"far\"\naddress = \"tcp:localhost:9999\"\n[[database]]\nname = \"Default\"\n[[database.leg]]\nvia = \"far\"\ndatabases = [\"Default\"]\n";
+const REAL_TARGET: &[u8] = b"[[target]]\n\
+    name = \"far\"\n\
+    address = \"tcp:localhost:9999\"\n\
+    [[database]]\n\
+    name = \"Default\"\n\
+    [[database.leg]]\n\
+    via = \"far\"\n\
+    databases = [\"Default\"]\n";
 
 #[test]
 fn a_configuration_is_checked_and_a_real_target_is_not_replayed(
@@ -228,16 +248,38 @@ fn a_configuration_is_checked_and_a_real_target_is_not_replayed(
     Ok(())
 }
 
-/// Scripts in which clients 7 and 10000 are fed the same octets, in turns, in pieces, run and ended where
-/// they may be.
+/// Scripts in which clients 7 and 10000 are fed the same octets, in turns, in pieces, run and ended
+/// where they may be.
 const IN_TURNS: [&[u8]; 3] = [
-    b"feed 10000 b413830205e0840301fffe85031000008603100000\nfeed 7 b413830205e0840301fffe85031000008603100000\n",
-    b"feed 7 b413830205e08403\nrun 7\nfeed 10000 b413830205e0840301fffe8503100000\nfeed 7 01fffe85031000008603100000\nrun 7\nend 7\nfeed 10000 8603100000\nrun 7\n",
-    b"run 10000\nfeed 10000 b413\nfeed 7 b413\nfeed 10000 830205e0840301fffe85031000008603100000\nend 10000\nfeed 7 830205e0840301fffe85031000008603100000",
+    b"feed 10000 b413830205e0840301fffe85031000008603100000\n\
+      feed 7 b413830205e0840301fffe85031000008603100000\n",
+    b"feed 7 b413830205e08403\n\
+      run 7\n\
+      feed 10000 b413830205e0840301fffe8503100000\n\
+      feed 7 01fffe85031000008603100000\n\
+      run 7\n\
+      end 7\n\
+      feed 10000 8603100000\n\
+      run 7\n",
+    b"run 10000\n\
+      feed 10000 b413\n\
+      feed 7 b413\n\
+      feed 10000 830205e0840301fffe85031000008603100000\n\
+      end 10000\n\
+      feed 7 830205e0840301fffe85031000008603100000",
 ];
 
-const IN_TURNS_PAGE: &[u8] =
-    b"client 7\nbytes b529830205e0840301c102850310000086031000008c01ff9f6e026d709f6f07676174657761799f700131\nmarks Plain\nend Finished\nclient 10000\nbytes b529830205e0840301c102850310000086031000008c01ff9f6e026d709f6f07676174657761799f700131\nmarks Plain\nend Finished\nclients 2 requests 2\n";
+const IN_TURNS_PAGE: &[u8] = b"client 7\n\
+    bytes \
+    b529830205e0840301c102850310000086031000008c01ff9f6e026d709f6f07676174657761799f700131\n\
+    marks Plain\n\
+    end Finished\n\
+    client 10000\n\
+    bytes \
+    b529830205e0840301c102850310000086031000008c01ff9f6e026d709f6f07676174657761799f700131\n\
+    marks Plain\n\
+    end Finished\n\
+    clients 2 requests 2\n";
 
 #[test]
 fn clients_are_answered_the_same_in_any_turns(rt: HostRuntime) -> Result<(), Fail> {
