@@ -61,7 +61,8 @@ pub record MayPresent (made : List ℕ → Option (SetKey × ℕ)) (name : List 
   pub from_one : 1 ≤ first
   pub some : 1 ≤ count
   pub within : first + count ≤ hits + 1
-  pub number : IsNumber hits
+  pub first_number : IsNumber first
+  pub count_number : IsNumber count
   pub short_element : IfSome element IsShort
 
 -- the index is within the bounds of queries

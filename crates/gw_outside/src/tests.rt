@@ -1,6 +1,6 @@
 //! Fakes of the outside: each trait can be met, and a sink that fails at named calls.
 
-ghost use Rattle.std.specs.Prelude.{[], ◌∷◌, Some, None, Ok, Err, refl, drop, length, if◌then◌else◌, ◌==◌, ◌≤◌};
+ghost use Rattle.std.specs.Prelude.{[], Some, None, Ok, Err, refl, drop, length, if◌then◌else◌, ◌==◌, ◌≤◌};
 ghost use Rattle.z_types.specs.Pending.{opening};
 ghost use Rattle.std.proofs.Math.Nat.{min-le_right};
 ghost use Rattle.z_types.specs.Bounds.{most_number};

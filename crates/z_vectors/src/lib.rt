@@ -7,6 +7,10 @@ mod ber;
 #[cfg(test)]
 mod encoded;
 #[cfg(test)]
+mod fields;
+#[cfg(test)]
 mod tests;
 #[cfg(test)]
 mod variants;
+#[cfg(test)]
+mod writing;
