@@ -2,11 +2,13 @@
 //! left to others.
 #![tactic(auto)]
 
+mod defaults;
 mod lookup;
 mod members;
 mod route;
 mod smallest;
 
+pub use defaults::{default_indexes, default_schemas};
 pub use lookup::{database_named, first_address, target_names};
 pub use members::Members;
 pub use route::{Class, Database, Group, Index, PoolNumbers, Route, RouteLeg, Target};
