@@ -174,7 +174,7 @@ fn a_query_is_mapped_to_attributes_of_bib_1(rt: HostRuntime) -> Result<(), Fail>
 }
 
 /// Each relation with the term `a b`, and what follows Use.
-const RELATIONS: [(&[u8], &str); 17] = [
+const RELATIONS: [(&[u8], &str); 21] = [
     (b"title = \"a b\"", "@attr 2=3 @attr 4=1 'a b' "),
     (b"title scr \"a b\"", "@attr 2=3 @attr 4=1 'a b' "),
     (b"title cql.scr \"a b\"", "@attr 2=3 @attr 4=1 'a b' "),
@@ -197,6 +197,13 @@ const RELATIONS: [(&[u8], &str); 17] = [
     (b"title >= \"a b\"", "@attr 2=4 @attr 4=1 'a b' "),
     (b"title > \"a b\"", "@attr 2=5 @attr 4=1 'a b' "),
     (b"title <> \"a b\"", "@attr 2=6 @attr 4=1 'a b' "),
+    (b"title <> ab", "@attr 2=6 @attr 4=2 'ab' "),
+    (b"title scr ab", "@attr 2=3 @attr 4=2 'ab' "),
+    (
+        b"title exact ab",
+        "@attr 2=3 @attr 3=1 @attr 4=1 @attr 6=3 'ab' ",
+    ),
+    (b"title adj ab", "@attr 2=3 @attr 4=1 'ab' "),
     (b"title ALL \"ab\"", "@attr 2=3 @attr 4=2 'ab' "),
     (b"title cql.all \"ab\"", "@attr 2=3 @attr 4=2 'ab' "),
     (b"title any \"ab\"", "@attr 2=3 @attr 4=2 'ab' "),
@@ -275,5 +282,50 @@ fn the_first_fault_from_the_left_is_told(rt: HostRuntime) -> Result<(), Fail> {
         assert_eq!(rt; fault.diagnostic(), diagnostic, "of {text:?}");
         assert_eq!(rt; fault.detail(), detail, "of {text:?}");
     }
+    Ok(())
+}
+
+#[test]
+fn a_fault_is_printed_with_its_detail(rt: HostRuntime) -> Result<(), Fail> {
+    for (text, wanted) in [
+        (b"dc.foo = a".as_slice(), "unsupported index: dc.foo"),
+        (b"*", "empty term unsupported"),
+        (b"^a", "anchoring character not supported: ^"),
+    ] {
+        let fault = map_text(rt.alloc(), &DEFAULT, text)?.err().ok_or("mapped")?;
+        let printed = format!(in rt.alloc(); "{fault}")?;
+        assert_eq!(rt; printed.as_str(), wanted);
+    }
+    Ok(())
+}
+
+/// A query for some of so many words of seven letters in a title.
+fn words_of_a_title(alloc: Global, words: usize) -> Result<Vec<u8>, Fail> {
+    let mut text = Vec::new(alloc);
+    text.extend_from_slice(b"title any \"")?;
+    for _ in 0..words {
+        text.extend_from_slice(b"letters ")?;
+    }
+    text.push(b'"')?;
+    Ok(text)
+}
+
+/// How many operands an `or` that groups to the left has.
+fn operands(query: &Rpn) -> usize {
+    let mut query = query;
+    let mut found = 1usize;
+    while let Node::Or(left, _) = &query.node {
+        found = found.saturating_add(1);
+        query = left;
+    }
+    found
+}
+
+#[test]
+fn a_query_of_more_than_16000_octets_is_mapped(rt: HostRuntime) -> Result<(), Fail> {
+    let text = words_of_a_title(rt.alloc(), 2_500)?;
+    assert_eq!(rt; text.len(), 20_012);
+    let query = map_text(rt.alloc(), &DEFAULT, text.as_slice())??;
+    assert_eq!(rt; operands(&query.root), 2_500);
     Ok(())
 }
