@@ -25,6 +25,8 @@ pub enum Shape {
     Strings,
     /// Clauses of an index, a relation and a word, which are mapped to a query of type 1 too.
     Mapped,
+    /// A clause of a title with words of one letter, some of which are looked for; it is mapped too.
+    Any,
 }
 
 /// A clause again and again, in brackets that halve the query, for about so many octets.
@@ -52,6 +54,16 @@ fn strings(alloc: Global, size: usize) -> Result<Text, Memory> {
     out.append(b"\" and \"")?;
     out.append(octets.as_slice())?;
     out.append(b"\"")?;
+    Ok(out)
+}
+
+/// A title with words of one letter, for about so many octets.
+fn words(alloc: Global, size: usize) -> Result<Text, Memory> {
+    let mut out = Text::copy_of(alloc, b"dc.title any \"")?;
+    for _ in 0..size / 2 {
+        out.append(b"a ")?;
+    }
+    out.push(b'"')?;
     Ok(out)
 }
 
@@ -108,12 +120,13 @@ pub(crate) fn read(
         Shape::Words | Shape::Mapped => clauses(alloc, b"dc.title = librarians", size)?,
         Shape::Phrases => clauses(alloc, PHRASE, size)?,
         Shape::Strings => strings(alloc, size)?,
+        Shape::Any => words(alloc, size)?,
     };
     let indexes = titles(alloc)?;
     let mut parts = 0u64;
     for _ in 0..times {
         let read = match shape {
-            Shape::Mapped => map_once(alloc, text.as_slice(), &indexes),
+            Shape::Mapped | Shape::Any => map_once(alloc, text.as_slice(), &indexes),
             _ => read_once(alloc, text.as_slice()),
         };
         parts = parts.saturating_add(read);

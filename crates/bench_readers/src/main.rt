@@ -74,6 +74,7 @@ fn named(word: &str) -> Option<Sample> {
         "cql-words" => Some(Sample::Cql(cql::Shape::Words)),
         "cql-phrases" => Some(Sample::Cql(cql::Shape::Phrases)),
         "cql-strings" => Some(Sample::Cql(cql::Shape::Strings)),
+        "cql-any" => Some(Sample::Cql(cql::Shape::Any)),
         "cql-mapped" => Some(Sample::Cql(cql::Shape::Mapped)),
         "write-search" => Some(Sample::Written(writes::Shape::Search)),
         "write-records" => Some(Sample::Written(writes::Shape::Records)),
@@ -85,6 +86,7 @@ fn named(word: &str) -> Option<Sample> {
         "script-long" => Some(Sample::Script(scripts::Shape::Long)),
         "script-feeds" => Some(Sample::Script(scripts::Shape::Feeds)),
         "script-runs" => Some(Sample::Script(scripts::Shape::Runs)),
+        "sru-head" => Some(Sample::Sru(sru::Shape::Head)),
         _ => None,
     }
 }

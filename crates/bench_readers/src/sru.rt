@@ -1,9 +1,9 @@
-//! Replies to SRU clients, and parameters of their requests.
+//! Replies to SRU clients, and heads and parameters of their requests.
 
 ghost use Rattle.std.specs.Prelude.{◌≡◌, IfOk};
 
 use sru_reply::reply_text;
-use sru_request::{Get, query_of};
+use sru_request::{Get, HeadGot, query_of, read_head};
 use std::alloc::Global;
 use z_types::{List, Memory, Schema, SruAnswer, SruItem, Text};
 
@@ -16,6 +16,8 @@ pub enum Shape {
     Packed,
     /// A query of names without values, which have all octets.
     Names,
+    /// The head of a request, of many fields.
+    Head,
 }
 
 /// Ten records that have these octets each.
@@ -49,6 +51,19 @@ fn query(alloc: Global, size: usize) -> Result<Text, Memory> {
         query.append(name.as_bytes())?;
     }
     Ok(query)
+}
+
+/// The head of a request, in about so many octets.
+fn head(alloc: Global, size: usize) -> Result<Text, Memory> {
+    let target =
+        b"GET /Default?version=1.2&operation=searchRetrieve&query=dc.title%3Da HTTP/1.1\r\n";
+    let field = b"Accept: application/xml;q=0.9, text/plain;q=0.5\r\n";
+    let mut head = Text::copy_of(alloc, target)?;
+    for _ in 0..size.saturating_sub(target.len()) / field.len() {
+        head.append(field)?;
+    }
+    head.append(b"Host: localhost:8000\r\n\r\n")?;
+    Ok(head)
 }
 
 /// One schema.
@@ -90,6 +105,19 @@ fn read(alloc: Global, get: &Get, times: u32) -> Result<(usize, u64), Memory>
     Ok((get.query.len(), taken))
 }
 
+/// Reads a head so many times, and answers its octets and how often it was taken.
+fn read_heads(alloc: Global, head: &Text, times: u32) -> (usize, u64)
+    ensures { times ≡ 0 → result.1 ≡ 0 }
+{
+    let mut taken = 0u64;
+    for _ in 0..times {
+        if matches!(read_head(alloc, head.as_slice()), Ok(HeadGot::Got(..))) {
+            taken = taken.saturating_add(1);
+        }
+    }
+    (head.len(), taken)
+}
+
 /// Writes or reads a shape of about so many octets so many times, and answers its octets and how
 /// often that was done.
 pub(crate) fn run(
@@ -108,5 +136,6 @@ pub(crate) fn run(
             let query = query(alloc, size)?;
             read(alloc, &Get { path, query }, times)
         }
+        Shape::Head => Ok(read_heads(alloc, &head(alloc, size)?, times)),
     }
 }
