@@ -10,7 +10,6 @@ use Rattle.cql_parse.specs.declared.first_fault.Owner.{Owner}
 use Rattle.cql_parse.specs.declared.first_fault.Owner.TheVariants.{Relation, Boolean, Key}
 use Rattle.cql_parse.specs.declared.first_fault.Phase.{Phase}
 use Rattle.cql_parse.specs.declared.first_fault.Phase.TheVariants.{Clause, Term, After, SortBy, Sign, PrefixWord, Uri, Modified, Slash, Named, Value}
-use Rattle.cql_parse.specs.declared.first_fault.Spot.{Spot}
 use Rattle.cql_parse.specs.Tree.{Tree, clause, assigned, sorted}
 use Rattle.cql_parse.specs.Classes.{lower, is_word, is_term, is_symbol, is_relation, is_slash, is_close, is_equal, is_open, is_greater, is_boolean, is_sortby}
 use Rattle.cql_parse.specs.Lexemes.{Lexeme, starts}

@@ -16,7 +16,7 @@ use Rattle.cql_parse.specs.declared.fault.Stop.TheVariants.{NoQuery, Deep, Memor
 use Rattle.cql_parse.specs.Tree.{Tree, clause, assigned, sorted, depth}
 use Rattle.cql_parse.specs.Classes.{lower, is_open, is_close, is_boolean, is_sortby}
 use Rattle.cql_parse.specs.Lexemes.{Lexeme, lexemes}
-use Rattle.cql_parse.specs.Grammar.{Due, operand, after, join, IsClause, IsPrefix, AreModifiers, AreKeys, Reads, IsQuery}
+use Rattle.cql_parse.specs.Grammar.{Due, operand, after, join, IsClause, IsPrefix, AreModifiers, AreKeys, IsQuery}
 use Rattle.cql_parse.specs.Nesting.{nesting}
 use Rattle.cql_parse.specs.ParserAnswers.{Finds}
 use Rattle.cql_parse.specs.ParserBrackets.{IsFull}

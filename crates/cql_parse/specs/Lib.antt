@@ -1,6 +1,7 @@
 pub mod Tree
 pub mod TreeOf
 pub mod TreeFalls
+pub mod Equality
 pub mod Classes
 pub mod Lexemes
 pub mod Grammar

@@ -2,14 +2,15 @@
 
 ghost use Rattle.std.specs.Prelude.{◌≡◌, IfOk};
 ghost use Rattle.cql_parse.specs.Tree.{clause, joined, assigned, sorted};
+ghost use Rattle.cql_parse.specs.Equality.{modifier, head, key, tree, tree_eq, tree_equiv, tree_per};
 
-use std::alloc::Global;
+use std::alloc::{AllocError, Global};
 use std::marker::Model;
-use z_types::{List, Memory, Text};
+use z_types::{Exact, List, Memory, Text};
 
 /// A modifier of a relation, a boolean or a sort key: its name, and where it compares a symbol and
 /// a term (the BNF's modifier).
-#[derive(Debug, PartialEq, Eq, Drop)]
+#[derive(PartialEq, Eq, Clone, Debug, Drop)]
 pub struct Modifier {
     /// The name, as it stands.
     pub name: Text,
@@ -18,7 +19,7 @@ pub struct Modifier {
 }
 
 /// What a term is searched in and how: an index, a relation and its modifiers.
-#[derive(Debug, PartialEq, Eq, Drop)]
+#[derive(PartialEq, Eq, Clone, Debug, Drop)]
 pub struct Head {
     /// The index, as it stands, without the quotes that it may have.
     pub index: Text,
@@ -29,7 +30,7 @@ pub struct Head {
 }
 
 /// A key of a sort: an index and its modifiers.
-#[derive(Debug, PartialEq, Eq, Drop)]
+#[derive(PartialEq, Eq, Clone, Debug, Drop)]
 pub struct SortKey {
     /// The index, as it stands, without the quotes that it may have.
     pub index: Text,
@@ -39,7 +40,7 @@ pub struct SortKey {
 
 /// A CQL query. Brackets leave nothing in it.
 #[cycle(cql)]
-#[derive(Drop)]
+#[derive(Debug, Drop)]
 pub struct Cql {
     /// What the query is.
     pub node: Node,
@@ -47,7 +48,7 @@ pub struct Cql {
 
 /// The forms of a query. Each is one level of the tree.
 #[cycle(cql)]
-#[derive(Drop)]
+#[derive(Debug, Drop)]
 pub enum Node {
     /// A term, searched as its head says, or in `cql.serverChoice` by `=` where there is none.
     Clause(Option<Head>, Text),
@@ -123,4 +124,93 @@ impl Cql {
             node: Node::Sorted(query, keys),
         })
     }
+}
+
+impl PartialEq for Cql {
+    ghost eq = { tree_eq };
+
+    ghost laws = { tree_per };
+
+    fn eq(&self, other: &Cql) -> bool {
+        match (&self.node, &other.node) {
+            (Node::Clause(head, term), Node::Clause(other, word)) => {
+                *head == *other && *term == *word
+            }
+            (Node::Joined(boolean, modifiers, left, right), Node::Joined(word, others, l, r)) => {
+                *boolean == *word && *modifiers == *others && **left == **l && **right == **r
+            }
+            (Node::Prefix(name, uri, query), Node::Prefix(other, word, inner)) => {
+                *name == *other && *uri == *word && **query == **inner
+            }
+            (Node::Sorted(query, keys), Node::Sorted(inner, others)) => {
+                **query == **inner && *keys == *others
+            }
+            _ => false,
+        }
+    }
+}
+
+impl Eq for Cql {
+    ghost laws = { tree_equiv };
+}
+
+/// A part of a query again.
+fn again<T: Exact>(part: &T) -> Result<T, AllocError>
+    ensures { IfOk result (λ c. c ≡ part.now) }
+{
+    Ok(part.clone()?)
+}
+
+impl Clone for Cql {
+    ghost is_clone = { λ a b. b ≡ a };
+
+    fn clone(&self) -> Result<Cql, AllocError> {
+        match &self.node {
+            Node::Clause(head, term) => Ok(Cql::clause(again(head)?, again(term)?)),
+            Node::Joined(boolean, modifiers, left, right) => {
+                let alloc = *Box::allocator(left);
+                let left = Box::new(alloc, (**left).clone()?)?;
+                let right = Box::new(alloc, (**right).clone()?)?;
+                Ok(Cql {
+                    node: Node::Joined(again(boolean)?, again(modifiers)?, left, right),
+                })
+            }
+            Node::Prefix(name, uri, query) => {
+                let query = Box::new(*Box::allocator(query), (**query).clone()?)?;
+                Ok(Cql {
+                    node: Node::Prefix(again(name)?, again(uri)?, query),
+                })
+            }
+            Node::Sorted(query, keys) => {
+                let query = Box::new(*Box::allocator(query), (**query).clone()?)?;
+                Ok(Cql {
+                    node: Node::Sorted(query, again(keys)?),
+                })
+            }
+        }
+    }
+}
+
+impl Exact for Modifier {
+    ghost exact_eq = { modifier.eq_is_exact };
+
+    ghost exact_clone = { modifier.clone_is_exact };
+}
+
+impl Exact for Head {
+    ghost exact_eq = { head.eq_is_exact };
+
+    ghost exact_clone = { head.clone_is_exact };
+}
+
+impl Exact for SortKey {
+    ghost exact_eq = { key.eq_is_exact };
+
+    ghost exact_clone = { key.clone_is_exact };
+}
+
+impl Exact for Cql {
+    ghost exact_eq = { tree.eq_is_exact };
+
+    ghost exact_clone = { λ a b h. h };
 }
