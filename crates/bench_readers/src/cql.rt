@@ -25,7 +25,7 @@ pub enum Shape {
     Strings,
     /// Clauses of an index, a relation and a word, which are mapped to a query of type 1 too.
     Mapped,
-    /// A clause of a title with words of one letter, some of which are looked for; it is mapped too.
+    /// A clause of a title and any of many words of one letter, which is mapped too.
     Any,
 }
 

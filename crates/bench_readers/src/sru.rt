@@ -55,8 +55,7 @@ fn query(alloc: Global, size: usize) -> Result<Text, Memory> {
 
 /// The head of a request, in about so many octets.
 fn head(alloc: Global, size: usize) -> Result<Text, Memory> {
-    let target =
-        b"GET /Default?version=1.2&operation=searchRetrieve&query=dc.title%3Da HTTP/1.1\r\n";
+    let target = b"GET /Default?version=1.2&operation=searchRetrieve&query=a HTTP/1.1\r\n";
     let field = b"Accept: application/xml;q=0.9, text/plain;q=0.5\r\n";
     let mut head = Text::copy_of(alloc, target)?;
     for _ in 0..size.saturating_sub(target.len()) / field.len() {
