@@ -41,6 +41,11 @@ fn count(levels: u32, mut element: Element<'_>) -> u64 {
     found
 }
 
+/// How many octets are equal to one.
+fn equal(octets: &[u8], wanted: u8) -> u64 {
+    octets.iter().filter(|octet| **octet == wanted).count() as u64
+}
+
 /// Children of five octets each, in about so many octets.
 fn small(alloc: Global, size: usize) -> Result<Text, Memory> {
     let mut out = Text::new(alloc);
@@ -116,6 +121,24 @@ fn read_pieces(octets: &[u8]) -> u64 {
         }
     }
     0
+}
+
+/// Reads the octets of a shape once, so many times, with nothing asked of them but how many are equal to
+/// the number of the time; answers the octets, and how many were equal in all.
+pub(crate) fn pass(
+    alloc: Global,
+    shape: Shape,
+    size: usize,
+    times: u32,
+) -> Result<(usize, u64), Memory>
+    ensures { times ≡ 0 → IfOk result (λ read. read.1 ≡ 0) }
+{
+    let octets = sample(alloc, shape, size)?;
+    let mut parts = 0u64;
+    for time in 0..times {
+        parts = parts.saturating_add(equal(octets.as_slice(), (time % 256) as u8));
+    }
+    Ok((octets.len(), parts))
 }
 
 /// Reads a shape of about so many octets so many times, and answers its octets and the elements or

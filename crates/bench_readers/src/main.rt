@@ -7,6 +7,7 @@
 mod ber;
 mod cql;
 mod elements;
+mod frames;
 mod merge;
 mod scripts;
 mod sru;
@@ -23,6 +24,8 @@ use z_types::Memory;
 #[derive(Clone, Copy)]
 enum Sample {
     Ber(ber::Shape),
+    Passed(ber::Shape),
+    Frames(frames::Shape),
     Elements(elements::Shape),
     Cql(cql::Shape),
     Written(writes::Shape),
@@ -49,6 +52,21 @@ fn unit_named(word: &str) -> Option<units::Shape> {
     }
 }
 
+/// The stream that a word names, and how many octets come at a time.
+fn stream_named(word: &str) -> Option<frames::Shape> {
+    let (stream, piece) = match word {
+        "units" => (frames::Stream::Units, 0),
+        "units-256" => (frames::Stream::Units, 256),
+        "units-1" => (frames::Stream::Units, 1),
+        "flat" => (frames::Stream::Flat, 0),
+        "flat-256" => (frames::Stream::Flat, 256),
+        "open" => (frames::Stream::Open, 0),
+        "open-256" => (frames::Stream::Open, 256),
+        _ => return None,
+    };
+    Some(frames::Shape { stream, piece })
+}
+
 /// What a word names.
 fn named(word: &str) -> Option<Sample> {
     if let Some(unit) = word.strip_prefix("read-") {
@@ -57,7 +75,12 @@ fn named(word: &str) -> Option<Sample> {
     if let Some(unit) = word.strip_prefix("walk-") {
         return Some(Sample::Walked(unit_named(unit)?));
     }
+    if let Some(stream) = word.strip_prefix("frames-") {
+        return Some(Sample::Frames(stream_named(stream)?));
+    }
     match word {
+        "pass-small" => Some(Sample::Passed(ber::Shape::Small)),
+        "pass-deep" => Some(Sample::Passed(ber::Shape::Deep)),
         "ber-flat" => Some(Sample::Ber(ber::Shape::Flat)),
         "ber-small" => Some(Sample::Ber(ber::Shape::Small)),
         "ber-deep" => Some(Sample::Ber(ber::Shape::Deep)),
@@ -101,6 +124,8 @@ fn read(
 ) -> std::result::Result<(usize, u64), Memory> {
     match sample {
         Sample::Ber(shape) => ber::read(alloc, shape, size, times),
+        Sample::Passed(shape) => ber::pass(alloc, shape, size, times),
+        Sample::Frames(shape) => frames::read(alloc, shape, size, times),
         Sample::Elements(shape) => elements::read(alloc, shape, size, times),
         Sample::Cql(shape) => cql::read(alloc, shape, size, times),
         Sample::Written(shape) => writes::write(alloc, shape, size, times),
