@@ -9,6 +9,10 @@ mod encoded;
 #[cfg(test)]
 mod fields;
 #[cfg(test)]
+mod reply_refusals;
+#[cfg(test)]
+mod request_refusals;
+#[cfg(test)]
 mod tests;
 #[cfg(test)]
 mod variants;
