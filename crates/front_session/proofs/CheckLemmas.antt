@@ -7,7 +7,7 @@ use Rattle.virt_db.specs.Legs.{found_legs, known_legs, few_legs, legs_of, distin
 use Rattle.virt_db.specs.declared.fault.DbFault.{DbFault}
 use Rattle.virt_db.specs.declared.fault.DbFault.TheVariants.{Unknown, TooMany}
 use Rattle.gateway_rules.specs.Asking as asking
-use Rattle.gateway_rules.specs.Checks.{checked, refused_where}
+use Rattle.gateway_rules.specs.Checks.{checked}
 use Rattle.front_session.specs.Refusals.{IsRefusal, FailsWith, first_refusal}
 use Rattle.front_session.specs.declared.refusal.Refusal.{Refusal}
 use Rattle.front_session.specs.declared.refusal.Refusal.TheVariants.{Refused, Memory}
@@ -41,11 +41,6 @@ checked_first (Some other ∷ cs) behind diag h = cc
 pub due_refused : (cs : List (Option Diag)) (behind : Result asking.Due Diag) (e : Refusal) → IsRefusal (first_refusal cs) e → FailsWith (checked cs behind) e
 due_refused cs behind (Refused diag) h = checked_first cs behind diag h
 due_refused cs behind Memory h = tt
-
--- a test that does not refuse
-pub is_false : (b : Bool) (diag : Diag) → refused_where b diag ≡ None → b ≡ false
-is_false true diag h = cc
-is_false false diag h = refl
 
 few : (b : Bool) (xs legs : List ℕ) (fault : DbFault) → cond b (Err fault) (Ok xs) ≡ Ok legs → (b ≡ false) × (xs ≡ legs)
 few true xs legs fault h = (cc, cc)

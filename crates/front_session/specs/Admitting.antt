@@ -1,5 +1,5 @@
 -- How a request is admitted and settled (ANSI/NISO Z39.50-2003, 4.2; this project's own)
-use Rattle.std.specs.Prelude.{◌≡◌, ◌⊎◌, ℕ, Bool, ◌+◌, ◌||◌, List, [], None, Some, option_map, unwrap_or, find, Contains}
+use Rattle.std.specs.Prelude.{◌≡◌, ◌⊎◌, ℕ, Bool, ◌+◌, ◌||◌, List, [], None, Some, option_map, unwrap_or, Contains}
 use Rattle.std.specs.List.{AllByRecursion}
 use Rattle.z_types.specs.declared.known_set.KnownSet.{KnownSet}
 use Rattle.z_types.specs.declared.replies.Reply.{Reply}
@@ -10,7 +10,7 @@ use Rattle.z_types.specs.declared.outcome.Outcome.TheVariants as outcome
 use Rattle.z_types.specs.declared.work.Work.{Work}
 use Rattle.z_types.specs.declared.work.Work.TheVariants as work
 use Rattle.route_config.specs.declared.route.Route.{Route}
-use Rattle.z_sets.specs.Sets.{is_same}
+use Rattle.z_sets.specs.Sets.{known_set_named}
 use Rattle.gateway_rules.specs.Asking.{Due, at_once, works, asked_with}
 use Rattle.gateway_rules.specs.Course.{Meeting, bad, beyond, closing, due, met, accepts, is_in_place}
 use Rattle.gateway_rules.specs.Replies.{close_reply}
@@ -25,7 +25,7 @@ use Rattle.front_session.specs.declared.admitted.Admitted.TheVariants as admitte
 
 -- the hits of the set of a name
 abbrev pub hits_named : List KnownSet → List ℕ → List ℕ
-hits_named sets name = unwrap_or (option_map (λ set. set.hits) (find (λ set. is_same set.name name) sets)) []
+hits_named sets name = unwrap_or (option_map (λ set. set.hits) (known_set_named name sets)) []
 
 -- a unit more is taken, and an Init may have been accepted
 abbrev pub counted : SessionState → Request → SessionState

@@ -1,5 +1,5 @@
 -- The parts of what a Present is due (this project's own)
-use Rattle.std.specs.Prelude.{◌≡◌, ℕ, false, List, [], find, map, is_none, nat_abs, Option, None, Some, Result, Ok, Err}
+use Rattle.std.specs.Prelude.{◌≡◌, ℕ, false, List, [], is_none, nat_abs, Option, None, Some, Result, Ok, Err}
 use Rattle.std.specs.Borrow.{Bor}
 use Rattle.z_types.specs.Bib1.{bib1}
 use Rattle.z_types.specs.MergedOrder.{total}
@@ -10,27 +10,26 @@ use Rattle.z_types.specs.declared.limits.Limits.{Limits}
 use Rattle.z_types.specs.declared.requests.Present.{Present}
 use Rattle.z_types.specs.declared.work.Work.{Work}
 use Rattle.z_types.specs.declared.work.Work.TheVariants as work
+use Rattle.route_config.specs.declared.route.Route.{Route}
 use Rattle.limit_rules.specs.Limits.{are_too_many}
 use Rattle.limit_rules.specs.declared.spent.Spent.{Spent}
-use Rattle.z_sets.specs.Sets.{is_same, stored, set_named}
-use Rattle.gateway_rules.specs.Asking.{element_of}
+use Rattle.z_sets.specs.Sets.{stored, known_set_named, stored_set_named}
+use Rattle.gateway_rules.specs.Asking.{element_of, present_due}
 use Rattle.gateway_rules.specs.Checks.{refused_where, is_out_of_range}
 use Rattle.front_session.specs.declared.refusal.Refusal.{Refusal}
-use Rattle.front_session.specs.Refusals.{IsRefusal}
-
--- the set of a name
-abbrev pub known_set_named : List KnownSet → List ℕ → Option KnownSet
-known_set_named sets name = find (λ set. is_same set.name name) sets
+use Rattle.front_session.specs.Admitting.{hits_named}
+use Rattle.front_session.specs.Refusals.{AnswersDue, IsRefusal, client_with}
+use Rattle.front_session.specs.declared.due.Due.{Due}
 
 -- there is no set of a name
 abbrev pub set_check : List KnownSet → List ℕ → Option Diag
 set_check sets name =
-    refused_where (is_none (set_named name (map stored sets))) (bib1 condition.ResultSetDoesNotExist name)
+    refused_where (is_none (stored_set_named name sets)) (bib1 condition.ResultSetDoesNotExist name)
 
 -- the set of a name, with its hits and without them
 pub record IsNamed (sets : List KnownSet) (name : List ℕ) (set : KnownSet) : Type 0 where
-  pub known : known_set_named sets name ≡ Some set
-  pub without_hits : set_named name (map stored sets) ≡ Some (stored set)
+  pub known : known_set_named name sets ≡ Some set
+  pub without_hits : stored_set_named name sets ≡ Some (stored set)
 
 -- the set of a name, or the diagnostic where there is none
 abbrev pub AnswersSet : List KnownSet → List ℕ → Result (Bor KnownSet) Refusal → Type 0
@@ -58,3 +57,10 @@ abbrev pub fetch_work : Present → KnownSet → Work
 fetch_work present set =
     work.Fetch None set.legs set.query set.hits (nat_abs present.start) present.number present.syntax
     (element_of present.element)
+
+-- what a Present is due, where its client has spent so much and has these sets
+abbrev pub AnswersPresent : Route → Spent → List KnownSet → Present → Result Due Refusal → Type 0
+AnswersPresent route spent sets present answer =
+    AnswersDue
+    (present_due route (client_with spent sets) present (stored_set_named present.set_name sets)
+    (hits_named sets present.set_name)) answer

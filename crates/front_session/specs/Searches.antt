@@ -3,6 +3,7 @@ use Rattle.std.specs.Prelude.{◌≡◌, ℕ, ◌&&◌, ◌||◌, not, List, [],
 use Rattle.z_types.specs.Bib1.{bib1}
 use Rattle.z_types.specs.declared.conditions.Condition.TheVariants as condition
 use Rattle.z_types.specs.declared.diagnostic.Diag.{Diag}
+use Rattle.z_types.specs.declared.known_set.KnownSet.{KnownSet}
 use Rattle.z_types.specs.declared.limits.Limits.{Limits}
 use Rattle.z_types.specs.declared.query.RpnQuery.{RpnQuery}
 use Rattle.z_types.specs.declared.requests.Asked.{Asked}
@@ -11,11 +12,16 @@ use Rattle.z_types.specs.declared.requests.Search.{Search}
 use Rattle.z_types.specs.declared.work.Work.{Work}
 use Rattle.z_types.specs.declared.work.Work.TheVariants as work
 use Rattle.limit_rules.specs.Limits.{are_searches_spent, are_sets_full}
-use Rattle.z_sets.specs.Sets.{StoredSet, set_named}
+use Rattle.limit_rules.specs.declared.spent.Spent.{Spent}
+use Rattle.route_config.specs.declared.route.Route.{Route}
+use Rattle.z_sets.specs.Sets.{StoredSet, without_hits, stored_set_named}
 use Rattle.z_sets.specs.Expansion.{expanded}
 use Rattle.z_sets.specs.declared.fault.ExpandFault.{ExpandFault}
 use Rattle.z_sets.specs.declared.fault.ExpandFault.TheVariants as fault
+use Rattle.gateway_rules.specs.Asking.{search_due}
 use Rattle.gateway_rules.specs.Checks.{refused_where, is_too_long, no_expansion}
+use Rattle.front_session.specs.Refusals.{AnswersDue, client_with}
+use Rattle.front_session.specs.declared.due.Due.{Due}
 use Rattle.front_session.specs.declared.refusal.Refusal.{Refusal}
 use Rattle.front_session.specs.declared.refusal.Refusal.TheVariants.{Refused, Memory}
 
@@ -31,11 +37,11 @@ elements_check search =
     (bib1 condition.ElementSetNameNotValid (codes "long"))
 
 -- the name of the result set is in use and is not to be replaced, or is one too many
-abbrev pub name_checks : Limits → List StoredSet → Search → List (Option Diag)
+abbrev pub name_checks : Limits → List KnownSet → Search → List (Option Diag)
 name_checks limits sets search =
-    let in_use = is_some (set_named search.set_name sets) in
+    let in_use = is_some (stored_set_named search.set_name sets) in
     refused_where (in_use && not search.replace) (bib1 condition.ResultSetExists search.set_name)
-    ∷ refused_where (not in_use && are_sets_full limits (length sets)) (bib1 condition.TooManyResultSets [])
+    ∷ refused_where (not in_use && are_sets_full limits (length (without_hits sets))) (bib1 condition.TooManyResultSets [])
     ∷ []
 
 -- an expansion, or the diagnostic of its fault
@@ -58,3 +64,7 @@ abbrev pub search_work : Search → List ℕ → RpnQuery → ℕ → Work
 search_work search legs query room =
     work.Search None legs query search.small search.large search.medium search.small_element search.medium_element
     search.syntax room
+
+-- what a Search is due, where its client has spent so much and has these sets
+abbrev pub AnswersSearch : Route → Spent → List KnownSet → Search → Result Due Refusal → Type 0
+AnswersSearch route spent sets search answer = AnswersDue (search_due route (client_with spent sets) search) answer

@@ -51,8 +51,13 @@ abbrev pub reply_of : Option Diag → Request → Work → Parts → Reply
 reply_of (Some diag) request work parts = failed request diag
 reply_of None request work parts = good_reply_by request work parts.hits parts.fetched parts.scanned
 
-abbrev pub reply_by_parts : Request → Work → Parts → Reply
-reply_by_parts request work parts = reply_of parts.why request work parts
+-- the reply to a request that waits
+abbrev pub reply_by_parts : Pending → Parts → Reply
+reply_by_parts pending parts = reply_of parts.why pending.request pending.work parts
+
+-- the reply to a request that waits and did not fail
+abbrev pub good_reply_to : Pending → List ℕ → Fetched → ScanAnswer → Reply
+good_reply_to pending hits records scanned = good_reply_by pending.request pending.work hits records scanned
 
 -- the parts of an outcome, each empty where it has no such part
 pub record ArePartsOf (outcome : Outcome) (parts : Parts) : Type 0 where

@@ -1,7 +1,7 @@
 //! The result sets of a client, after a Search (ANSI/NISO Z39.50-2003, 3.2.2.1, Result-set-name).
 
 ghost use Rattle.std.specs.Prelude.{◌≡◌, IfOk, OnOk, OnErr};
-ghost use Rattle.front_session.specs.Settling.{known_after, set_name_of, sets_ended};
+ghost use Rattle.front_session.specs.Settling.{known_after, set_name_of, sets_ended, sets_under};
 
 use crate::settle::Pending;
 use std::alloc::Global;
@@ -20,8 +20,31 @@ pub(crate) fn end_sets(
     ensures ok { OnOk result (sets.new ≡ sets_ended pending is_good hits sets.old) }
     ensures err { OnErr result (sets.new ≡ sets.old) }
 {
-    let Pending { request, work } = pending;
-    match set_name_of(&request)? {
+    let name = set_name_of(&pending.request)?;
+    let work = work_of(pending);
+    keep_under(alloc, sets, is_good, name, work, hits)
+}
+
+/// The work of a request that waited.
+fn work_of(pending: Pending) -> Work
+    ensures { result ≡ pending.work }
+{
+    pending.work
+}
+
+/// The sets behind a request that sets this name, if any.
+fn keep_under(
+    alloc: Global,
+    sets: &mut List<KnownSet>,
+    is_good: bool,
+    name: Option<Text>,
+    work: Work,
+    hits: List<u32>,
+) -> Result<(), Memory>
+    ensures ok { OnOk result (sets.new ≡ sets_under name work is_good hits sets.old) }
+    ensures err { OnErr result (sets.new ≡ sets.old) }
+{
+    match name {
         Some(name) => keep(alloc, sets, is_good, name, work, hits),
         None => Ok(()),
     }

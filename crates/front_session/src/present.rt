@@ -1,14 +1,14 @@
 //! What a Present asks, once its checks have passed (ANSI/NISO Z39.50-2003, 3.2.3.1).
 
-ghost use Rattle.std.specs.Prelude.{◌≡◌, ◌<◌, ◌^◌, nat_abs, false, Some, All, IfOk, map};
+ghost use Rattle.std.specs.Prelude.{◌≡◌, ◌<◌, ◌^◌, nat_abs, false, Some, All, IfOk};
 ghost use Rattle.z_types.specs.MergedOrder as merged_order;
-ghost use Rattle.z_sets.specs.Sets.{stored, set_named};
+ghost use Rattle.z_sets.specs.Sets.{stored};
 ghost use Rattle.limit_rules.specs.Limits.{are_too_many};
 ghost use Rattle.gateway_rules.specs.Asking as asking;
 ghost use Rattle.gateway_rules.specs.Checks.{is_out_of_range, present_checks};
 ghost use Rattle.front_session.specs.Admitting.{hits_named};
-ghost use Rattle.front_session.specs.Presents.{AnswersSet, MayFetch, fetch_work, range_check, number_check};
-ghost use Rattle.front_session.specs.Refusals.{AnswersCheck, AnswersChecks, AnswersDue, IsReady, client_with, due_of};
+ghost use Rattle.front_session.specs.Presents.{AnswersPresent, AnswersSet, MayFetch, fetch_work, range_check, number_check};
+ghost use Rattle.front_session.specs.Refusals.{AnswersCheck, AnswersChecks, IsReady, client_with, due_of};
 ghost use Rattle.front_session.specs.Sessions.{HasHitsOfLegs};
 
 use crate::check::{is_too_long, refuse_where, served};
@@ -34,8 +34,7 @@ pub(crate) fn present_due(
     present: &Present,
 ) -> Result<Due, Refusal>
     requires kept { All HasHitsOfLegs sets.now }
-    ensures due { AnswersDue (asking.present_due route.now (client_with spent.now sets.now) present.now
-        (set_named present.now.set_name (map stored sets.now)) (hits_named sets.now present.now.set_name)) result }
+    ensures due { AnswersPresent route.now spent.now sets.now present.now result }
     ensures ready { IfOk result (IsReady spent.now) }
 {
     let set = check_present(alloc, route, spent, sets, present)?;

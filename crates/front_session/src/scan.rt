@@ -3,8 +3,8 @@
 ghost use Rattle.std.specs.Prelude.{◌≡◌, IfOk, nat_lt};
 ghost use Rattle.z_types.specs.QueryMeasures.{leaf_cost, most_cost};
 ghost use Rattle.gateway_rules.specs.Asking as asking;
-ghost use Rattle.gateway_rules.specs.Checks.{ask_checks, scan_checks};
-ghost use Rattle.front_session.specs.Refusals.{AnswersCheck, AnswersChecks, AnswersDue, Passes};
+ghost use Rattle.gateway_rules.specs.Checks.{scan_checks};
+ghost use Rattle.front_session.specs.Refusals.{AnswersCheck, AnswersChecks, AnswersDue};
 ghost use Rattle.front_session.specs.Scans.{IsAskedOf, IsScan, terms_check, cost_check};
 
 use crate::check::{check_databases, refuse_where, served};

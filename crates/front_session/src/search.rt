@@ -4,10 +4,9 @@ ghost use Rattle.std.specs.Prelude.{◌≡◌, ◌+◌, ◌<◌, ◌^◌, Ok, le
 ghost use Rattle.z_sets.specs.Sets.{stored};
 ghost use Rattle.limit_rules.specs.Limits as limits_of;
 ghost use Rattle.virt_db.specs.Legs.{found_legs};
-ghost use Rattle.gateway_rules.specs.Asking as asking;
 ghost use Rattle.gateway_rules.specs.Checks.{search_checks};
-ghost use Rattle.front_session.specs.Refusals.{AnswersCheck, AnswersChecks, AnswersDue, AnswersResult, IsReady, Passes, client_with};
-ghost use Rattle.front_session.specs.Searches.{IsNoExpansion, elements_check, expansion_of, name_checks, search_work, searches_check};
+ghost use Rattle.front_session.specs.Refusals.{AnswersCheck, AnswersChecks, AnswersResult, IsReady, Passes, client_with};
+ghost use Rattle.front_session.specs.Searches.{AnswersSearch, IsNoExpansion, elements_check, expansion_of, name_checks, search_work, searches_check};
 
 use crate::check::{check_databases, is_too_long, refuse_where, served};
 use crate::due::Due;
@@ -30,7 +29,7 @@ pub(crate) fn search_due(
     search: &Search,
 ) -> Result<Due, Refusal>
     requires counted { spent.now.sets ≡ length sets.now }
-    ensures due { AnswersDue (asking.search_due route.now (client_with spent.now sets.now) search.now) result }
+    ensures due { AnswersSearch route.now spent.now sets.now search.now result }
     ensures ready { IfOk result (IsReady spent.now) }
 {
     let legs = check_search(alloc, route, spent, sets, search)?;
@@ -84,7 +83,7 @@ fn check_name(
     search: &Search,
 ) -> Result<(), Refusal>
     requires counted { spent.now.sets ≡ length sets.now }
-    ensures { AnswersChecks (name_checks limits.now (map stored sets.now) search.now) Passes result }
+    ensures { AnswersChecks (name_checks limits.now sets.now search.now) Passes result }
 {
     let name = search.set_name.as_slice();
     let in_use = find_set(sets, name).is_some();

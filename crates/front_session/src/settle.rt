@@ -6,8 +6,7 @@ ghost use Rattle.gateway_rules.specs.Given.{returned};
 ghost use Rattle.gateway_rules.specs.Marks.{marked_diag};
 ghost use Rattle.gateway_rules.specs.Settling as settling;
 ghost use Rattle.gateway_rules.specs.Works.{CanBegin, FitsWork};
-ghost use Rattle.front_session.specs.WaitingOf.{waiting_of};
-ghost use Rattle.front_session.specs.Settling.{ArePartsOf, IsAnswered, good_reply_by, only_why, reply_by_parts, searches_behind};
+ghost use Rattle.front_session.specs.Settling.{ArePartsOf, IsAnswered, good_reply_to, only_why, reply_by_parts, searches_behind};
 
 use crate::replies::{
     FINISHED, close_reply, failed, present_reply, returned, scan_reply, search_reply,
@@ -29,7 +28,8 @@ pub(crate) struct Pending {
 impl Pending {
     /// A request and its work, copied.
     pub(crate) fn of(request: &Request, work: &Work) -> Result<Pending, Memory>
-        ensures { IfOk result (λ pending. waiting_of pending ≡ record { request = request.now; work = work.now }) }
+        ensures request { IfOk result (λ pending. pending.request ≡ request.now) }
+        ensures work { IfOk result (λ pending. pending.work ≡ work.now) }
     {
         Ok(Pending {
             request: copy(request)?,
@@ -159,7 +159,7 @@ fn marked_diag(alloc: Global, mark: Mark, class: Text) -> Result<Option<Diag>, M
 /// The reply to the request that waits, and the hits that a Search found.
 fn reply_to(alloc: Global, pending: &Pending, parts: Parts) -> Result<(Reply, List<u32>), Memory>
     requires few { returned parts.fetched ≤ most_records }
-    ensures reply { IfOk result (λ both. both.0 ≡ reply_by_parts pending.now.request pending.now.work parts) }
+    ensures reply { IfOk result (λ both. both.0 ≡ reply_by_parts pending.now parts) }
     ensures hits { IfOk result (λ both. both.1 ≡ parts.hits) }
 {
     let Parts {
@@ -184,7 +184,7 @@ fn good_reply(
     scanned: ScanAnswer,
 ) -> Result<Reply, Memory>
     requires few { returned fetched ≤ most_records }
-    ensures { IfOk result (λ reply. reply ≡ good_reply_by pending.now.request pending.now.work hits.now fetched scanned) }
+    ensures { IfOk result (λ reply. reply ≡ good_reply_to pending.now hits.now fetched scanned) }
 {
     match &pending.request {
         Request::Init(init) => init_reply(init),

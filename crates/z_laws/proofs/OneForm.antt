@@ -10,13 +10,13 @@ use Rattle.z_laws.proofs.RequestAgain.{request-again}
 use Rattle.z_laws.proofs.ReplyAgain.{reply-again}
 
 pub request-one : (a b : Request) → IsReadableUnit a → IsReadableUnit b → spell_request a ≡ spell_request b → a ≡ b
-request-one a b (readable, (tree, unit)) (other, same) e =
+request-one a b (readable, tree, unit) (other, _, same) e =
     let first = request-again a tree readable unit in
     let second = request-again b tree other (subst (λ octets. IsUnit octets tree) e unit) in
     let read : Ok a ≡ Ok b = sym first ∙ second in cc
 
 pub reply-one : (a b : Reply) → IsReadableReplyUnit a → IsReadableReplyUnit b → spell_reply a ≡ spell_reply b → a ≡ b
-reply-one a b (readable, (tree, unit)) (other, same) e =
+reply-one a b (readable, tree, unit) (other, _, same) e =
     let first = reply-again a tree readable unit in
     let second = reply-again b tree other (subst (λ octets. IsUnit octets tree) e unit) in
     let read : Ok a ≡ Ok b = sym first ∙ second in cc
