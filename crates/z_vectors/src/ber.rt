@@ -1,11 +1,12 @@
 //! Octets of X.690:2021 and of its rules at their bounds.
 
+use std::alloc::Global;
 use std::test::Fail;
 use z_ber::{
     BerFault, Element, Tag, bits_of, bool_of, definite_frame, elements, header, int_of, put_bits,
     put_bool, put_bytes, put_int, put_oid, put_tree, read_written_element, whole,
 };
-use z_types::{Oid, Text};
+use z_types::{Memory, Oid, Text};
 
 /// Octets, the size of their header and its length, or why there is none.
 type HeaderCase = (&'static [u8], Result<(u32, usize, Option<u64>), BerFault>);
@@ -412,6 +413,17 @@ fn a_unit_has_1048576_octets_at_most(rt: HostRuntime) -> Result<(), Fail> {
     Ok(())
 }
 
+/// A sequence of definite length that holds these elements.
+fn holding(alloc: Global, elements: &Text) -> Result<Text, Memory> {
+    let mut out = Text::new(alloc);
+    put_tree(
+        &mut out,
+        Tag::constructed_universal(16),
+        elements.as_slice(),
+    )?;
+    Ok(out)
+}
+
 #[test]
 fn what_stands_on_level_65_is_no_element(rt: HostRuntime) {
     let mut open = [0; 260];
@@ -421,6 +433,19 @@ fn what_stands_on_level_65_is_no_element(rt: HostRuntime) {
     }
     assert!(rt; Element::of_unit(&open[2..258]).is_ok());
     assert!(rt; matches!(Element::of_unit(&open), Err(128)));
+}
+
+#[test]
+fn what_stands_on_level_65_of_definite_lengths_is_no_element(rt: HostRuntime) -> Result<(), Fail> {
+    let mut octets = Text::new(rt.alloc());
+    for _ in 0..64 {
+        octets = holding(rt.alloc(), &octets)?;
+    }
+    assert!(rt; Element::of_unit(octets.as_slice()).is_ok());
+    let deeper = holding(rt.alloc(), &octets)?;
+    let place = deeper.as_slice().len().saturating_sub(2);
+    assert!(rt; matches!(Element::of_unit(deeper.as_slice()), Err(at) if at == place));
+    Ok(())
 }
 
 #[test]
