@@ -18,7 +18,6 @@ use Rattle.gateway_rules.specs.Replies.{bad_unit_reply, limit_reply, close_reply
 use Rattle.gateway_rules.specs.Statuses.{finished}
 use Rattle.front_session.specs.Sessions.{SessionState, client_of}
 use Rattle.front_session.specs.Admitting.{hits_named, IsDueAdmitted, IsMetAdmitted, IsAdmitted}
-use Rattle.front_session.specs.declared.admitted.Admitted.{Admitted}
 use Rattle.front_session.specs.declared.admitted.Admitted.TheVariants as admitted
 use Rattle.front_z.specs.Units.{Served, IsDueBegun, IsMetBegun, IsRequestBegun, IsWritten, end_behind}
 use Rattle.front_z.specs.declared.units.Begun.{Begun}

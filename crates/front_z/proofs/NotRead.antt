@@ -1,7 +1,6 @@
 -- A unit that is refused is read as no request.
-use Rattle.std.proofs.Common.{◌≡◌, ◌≢◌, ℕ, List, None, Ok, Err}
+use Rattle.std.proofs.Common.{◌≢◌, ℕ, List, None, Ok, Err}
 use Rattle.z_types.specs.OneValue.{HasOneReading}
-use Rattle.z_types.specs.declared.requests.Request.{Request}
 use Rattle.gateway_rules.specs.Answers.{IsReading}
 use Rattle.z_read.specs.Laws.{IsAnswer}
 use Rattle.z_read.specs.Read.{IsRequestRead}
