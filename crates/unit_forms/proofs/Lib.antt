@@ -1,9 +1,1 @@
-pub mod EqualTags
-pub mod Peel
-pub mod RequestLemmas
-pub mod QueryLemmas
-pub mod SearchLemmas
-pub mod RequestKinds
-pub mod OneField
-pub mod OneRequest
-pub mod OneReply
+mod StandardFacts

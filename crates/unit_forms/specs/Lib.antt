@@ -3,7 +3,5 @@ pub mod Query
 pub mod Records
 pub mod Replies
 pub mod Requests
-pub mod Served
 pub mod Tags
-pub mod Told
 pub mod Reading

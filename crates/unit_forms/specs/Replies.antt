@@ -1,7 +1,6 @@
 -- Replies as they are written (ANSI/NISO Z39.50-2003, InitializeResponse, SearchResponse, PresentResponse, ScanResponse and Close)
-use Rattle.std.specs.Prelude.{ℕ, pos, Bool, List, [], ◌∷◌, ◌++◌, Option, codes, length}
+use Rattle.std.specs.Prelude.{ℕ, Bool, List, [], ◌∷◌, ◌++◌, Option, codes, length}
 use Rattle.std.specs.List.{flat_map}
-use Rattle.z_ber.specs.Written.{element}
 use Rattle.z_types.specs.declared.diagnostic.Diag.{Diag}
 use Rattle.z_types.specs.declared.records.Body.{Body}
 use Rattle.z_types.specs.declared.replies.Reply.{Reply}

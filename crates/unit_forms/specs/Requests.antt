@@ -1,7 +1,6 @@
 -- Requests as they are written (ANSI/NISO Z39.50-2003, InitializeRequest, SearchRequest, PresentRequest, ScanRequest and Close)
 use Rattle.std.specs.Prelude.{ℕ, List, [], ◌++◌, Option}
 use Rattle.std.specs.List.{flat_map}
-use Rattle.z_ber.specs.Written.{element}
 use Rattle.z_types.specs.declared.requests.Asked.{Asked}
 use Rattle.z_types.specs.declared.requests.Asked.TheVariants.{Good, Bad}
 use Rattle.z_types.specs.declared.requests.Init.{Init}

@@ -96,9 +96,6 @@ database_name = 105
 abbrev pub generic_element_set_name : ℕ
 generic_element_set_name = 0
 
-abbrev pub database_specific : ℕ
-database_specific = 1
-
 -- SearchResponse
 abbrev pub result_count : ℕ
 result_count = 23
@@ -111,9 +108,6 @@ next_result_set_position = 25
 
 abbrev pub search_status : ℕ
 search_status = 22
-
-abbrev pub result_set_status : ℕ
-result_set_status = 26
 
 abbrev pub present_status : ℕ
 present_status = 27
@@ -128,14 +122,8 @@ result_set_start_point = 30
 abbrev pub number_of_records_requested : ℕ
 number_of_records_requested = 29
 
-abbrev pub additional_ranges : ℕ
-additional_ranges = 212
-
 abbrev pub record_composition_simple : ℕ
 record_composition_simple = 19
-
-abbrev pub record_composition_complex : ℕ
-record_composition_complex = 209
 
 -- ScanRequest
 abbrev pub scan_database_names : ℕ
@@ -154,9 +142,6 @@ abbrev pub preferred_position_in_response : ℕ
 preferred_position_in_response = 7
 
 -- ScanResponse, ListEntries, Entry and TermInfo
-abbrev pub scan_step_size : ℕ
-scan_step_size = 3
-
 abbrev pub scan_status : ℕ
 scan_status = 4
 
@@ -192,9 +177,6 @@ diagnostic_information = 3
 abbrev pub type_1_query : ℕ
 type_1_query = 1
 
-abbrev pub type_101_query : ℕ
-type_101_query = 101
-
 abbrev pub operand : ℕ
 operand = 0
 
@@ -213,15 +195,9 @@ or_operator = 1
 abbrev pub and_not_operator : ℕ
 and_not_operator = 2
 
-abbrev pub prox_operator : ℕ
-prox_operator = 3
-
--- Operand: AttributesPlusTerm, ResultSetId and ResultSetPlusAttributes
+-- Operand: AttributesPlusTerm
 abbrev pub attributes_plus_term : ℕ
 attributes_plus_term = 102
-
-abbrev pub result_attr : ℕ
-result_attr = 214
 
 -- AttributeList and AttributeElement
 abbrev pub attribute_list : ℕ
@@ -236,9 +212,6 @@ attribute_type = 120
 abbrev pub attribute_value_numeric : ℕ
 attribute_value_numeric = 121
 
-abbrev pub attribute_value_complex : ℕ
-attribute_value_complex = 224
-
 -- Term
 abbrev pub general_term : ℕ
 general_term = 45
@@ -248,21 +221,6 @@ numeric_term = 215
 
 abbrev pub character_string_term : ℕ
 character_string_term = 216
-
-abbrev pub oid_term : ℕ
-oid_term = 217
-
-abbrev pub date_time_term : ℕ
-date_time_term = 218
-
-abbrev pub external_term : ℕ
-external_term = 219
-
-abbrev pub integer_and_unit_term : ℕ
-integer_and_unit_term = 220
-
-abbrev pub null_term : ℕ
-null_term = 221
 
 -- Records, NamePlusRecord and the encoding of an EXTERNAL (X.690, 8.18)
 abbrev pub response_records : ℕ

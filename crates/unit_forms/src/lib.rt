@@ -1,21 +1,11 @@
-//! The units of Z39.50 in their written form (ANSI/NISO Z39.50-2003), and a plain reader of
-//! those that are served.
+//! The units of Z39.50 as definitions (ANSI/NISO Z39.50-2003, the definition of APDUs): the one form
+//! in which each is written, and what each is read as or refused for; with the numbers of their
+//! tags. Reading and writing them is left to the crates above.
 #![tactic(auto)]
 
-mod elements;
-mod laws;
 mod operator;
-mod queries;
 mod refusal;
-mod requests;
-mod searches;
 pub mod tags;
-mod values;
 
-pub use laws::{one_reply, one_request};
 pub use operator::Operator;
 pub use refusal::{Refusal, first_refusal};
-pub use requests::read_request;
-
-#[cfg(test)]
-mod tests;

@@ -16,7 +16,7 @@ use Rattle.z_types.specs.declared.requests.Request.{Request}
 use Rattle.z_types.specs.declared.requests.Request.TheVariants as request
 use Rattle.z_types.specs.declared.scan.ScanAsk.{ScanAsk}
 use Rattle.z_ber.specs.Values.{IsInteger, IsBits, IsOid}
-use Rattle.unit_forms.specs.Served.{IsNumber}
+use Rattle.unit_forms.specs.Fields.{IsNumber}
 
 -- what is asked has a written form, and so has no refusal in its place
 abbrev pub IsAsked : {A : Type 0} → (A → Type 0) → Asked A → Type 0

@@ -16,7 +16,7 @@ use Rattle.z_types.specs.declared.scan.ScanEntry.{ScanEntry}
 use Rattle.z_ber.specs.Element.{Forest, IsElement}
 use Rattle.z_ber.specs.Values.{IsOid}
 use Rattle.unit_forms.specs.Reading.Contents.{bits_in}
-use Rattle.unit_forms.specs.Served.{IsNumber}
+use Rattle.unit_forms.specs.Fields.{IsNumber}
 use Rattle.z_laws.specs.Readable.{IsReadableInit, IsReadableTerm, IsReadableClose}
 
 -- a diagnostic

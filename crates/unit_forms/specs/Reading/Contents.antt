@@ -1,5 +1,5 @@
 -- What contents octets are read as (X.690:2021, 8.2, 8.3, 8.6, 8.19). More lenient than the written form: every octet but 0 is TRUE, an INTEGER may take more octets than it needs, and a number of an OBJECT IDENTIFIER may begin with 80. The bound of 32 bits is this project's own.
-use Rattle.std.specs.Prelude.{ℕ, ◌+◌, ◌-◌, ◌*◌, ◌/◌, ◌%◌, ◌^◌, ℤ, pos, negsuc, List, [], ◌∷◌, ◌++◌, length, map, take, min, Bool, true, false, ◌==◌, ◌&&◌, Option, Some, None, option_map, option_and_then, nat_lt, nat_le, if◌then◌else◌}
+use Rattle.std.specs.Prelude.{ℕ, ◌+◌, ◌-◌, ◌*◌, ◌/◌, ◌%◌, ◌^◌, ℤ, pos, negsuc, List, [], ◌∷◌, ◌++◌, length, map, take, min, Bool, true, false, ◌==◌, Option, Some, None, option_map, option_and_then, nat_lt, nat_le, if◌then◌else◌}
 use Rattle.std.specs.Int.Digits.{number_from_digits}
 use Rattle.z_types.specs.Oid.{is_oid}
 use Rattle.z_ber.specs.Reading.{mirrored_number}

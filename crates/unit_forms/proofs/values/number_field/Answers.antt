@@ -1,5 +1,0 @@
-use Rattle.unit_forms.proofs.Peel.{peel}
-use Rattle.unit_forms.proofs.values.number_field.Goals as goal
-
-pub returns-in-None-number_of-clause-none : goal.returns-in-None-number_of-clause-none
-returns-in-None-number_of-clause-none c = λ value rest small e. c.in-None-number_of.ensures.none value small (peel _ _ _ _ _ _ c.in-Some.ensures.found e).0
