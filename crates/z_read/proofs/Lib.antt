@@ -4,3 +4,6 @@ pub mod StructureLemmas
 pub mod RowLemmas
 pub mod OneAnswer
 pub mod SkippedLemmas
+pub mod OneFormLemmas
+pub mod OneFormParts
+pub mod OneFormUnits

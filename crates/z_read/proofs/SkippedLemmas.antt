@@ -160,7 +160,7 @@ reply_alike tag c d x y = λ e. ap (λ v. cond (tag.class == 2) v (Err (refusal.
 -- ---- and units with the same fields have the same answers
 
 -- what the root of a tree is read as
-abbrev at_root : {A : Type 0} → (Field → Result A Refusal) → Forest → Result A Refusal
+abbrev pub at_root : {A : Type 0} → (Field → Result A Refusal) → Forest → Result A Refusal
 at_root value tree = read_or (refusal.UnknownUnit 0) value (first_element tree)
 
 abbrev AreAlike : {A : Type 0} → (ℕ → List Tag) → (Field → Result A Refusal) → Type 0

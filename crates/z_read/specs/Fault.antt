@@ -1,5 +1,6 @@
 -- Why a unit is not read (this project's own).
-use Rattle.std.specs.Prelude.{ℕ}
+use Rattle.std.specs.Prelude.{ℕ, List, ◌++◌, codes}
+use Rattle.std.specs.Fmt.{decimal}
 use Rattle.unit_forms.specs.declared.refusal.Refusal.{Refusal}
 use Rattle.unit_forms.specs.declared.refusal.Refusal.TheVariants as refusal
 use Rattle.z_read.specs.declared.fault.ReadFault.{ReadFault}
@@ -20,3 +21,12 @@ fault_of (refusal.UnknownUnit n) = UnknownUnit n
 fault_of (refusal.Missing n) = Missing n
 fault_of (refusal.BadValue n) = BadValue n
 fault_of (refusal.LeftOut n) = LeftOut n
+
+-- what is printed of a fault: its rule, with its place or tag
+abbrev pub sentence : ReadFault → List ℕ
+sentence (Ber at) = codes "the octets are no element at octet " ++ decimal at
+sentence (UnknownUnit n) = codes "no unit has the tag " ++ decimal n
+sentence (Missing n) = codes "the field " ++ decimal n ++ codes " is missing"
+sentence (BadValue n) = codes "the field " ++ decimal n ++ codes " has a bad value"
+sentence (LeftOut n) = codes "the string " ++ decimal n ++ codes " is in constructed form"
+sentence Memory = codes "out of memory"

@@ -4,3 +4,4 @@ pub mod Parts
 pub mod Structures
 pub mod ScanAsks
 pub mod Laws
+pub mod OneForm

@@ -3,6 +3,7 @@
 ghost use Rattle.std.specs.Prelude.{◌≡◌};
 ghost use Rattle.z_read.specs.declared.fault.ReadFault.TheVariants.{Memory as no_memory};
 
+use std::fmt;
 use unit_forms::Refusal;
 use z_types::Memory;
 
@@ -61,6 +62,24 @@ impl ReadFault {
             Refusal::Missing(number) => ReadFault::Missing(number),
             Refusal::BadValue(number) => ReadFault::BadValue(number),
             Refusal::LeftOut(number) => ReadFault::LeftOut(number),
+        }
+    }
+}
+
+impl fmt::Display for ReadFault {
+    ghost use Rattle.std.specs.Prelude.{Some};
+    ghost use Rattle.z_read.specs.Fault.{sentence};
+
+    ghost output = { λ fault. Some (sentence fault) };
+
+    fn fmt<W: fmt::Write>(&self, f: &mut fmt::Formatter<W>) -> fmt::Result {
+        match self {
+            ReadFault::Ber(at) => write!(f, "the octets are no element at octet {at}"),
+            ReadFault::UnknownUnit(number) => write!(f, "no unit has the tag {number}"),
+            ReadFault::Missing(number) => write!(f, "the field {number} is missing"),
+            ReadFault::BadValue(number) => write!(f, "the field {number} has a bad value"),
+            ReadFault::LeftOut(number) => write!(f, "the string {number} is in constructed form"),
+            ReadFault::Memory => f.write_str("out of memory"),
         }
     }
 }

@@ -2,6 +2,7 @@
 
 ghost use Rattle.z_types.specs.OneValue.{HasOneReading};
 ghost use Rattle.z_read.specs.Laws.{IsAnswer, SkippedChangeNothing, request_tags, reply_tags};
+ghost use Rattle.z_read.specs.OneForm.{FormChangesNothing, request_kind, reply_kind};
 ghost use Rattle.z_read.specs.Read.{IsRequestRead, IsReplyRead};
 
 /// Octets are read as one request or as one reply, or are refused for one reason: all answers other
@@ -15,4 +16,11 @@ pub fn one_answer()
 pub fn skipped_elements()
     ensures request { SkippedChangeNothing request_tags IsRequestRead }
     ensures reply { SkippedChangeNothing reply_tags IsReplyRead }
+{}
+
+/// Units that differ in the form of their elements alone have the same answers: in definite and
+/// indefinite lengths, in octets of an INTEGER that repeat its sign, and in the octet for TRUE.
+pub fn one_form()
+    ensures request { FormChangesNothing request_kind IsRequestRead }
+    ensures reply { FormChangesNothing reply_kind IsReplyRead }
 {}

@@ -20,5 +20,5 @@ mod search_request;
 mod units;
 
 pub use fault::ReadFault;
-pub use laws::{one_answer, skipped_elements};
+pub use laws::{one_answer, one_form, skipped_elements};
 pub use units::{read_reply, read_request};
