@@ -8,6 +8,7 @@ pub mod InitAgain
 pub mod Lookup
 pub mod LowParts
 pub mod NamesAgain
+pub mod OneForm
 pub mod Parts
 pub mod PresentAgain
 pub mod QueryAgain

@@ -1,6 +1,7 @@
 -- What is written is read again as itself (ANSI/NISO Z39.50-2003, the ASN.1 of its APDUs).
 use Rattle.std.specs.Prelude.{◌≡◌, ◌≤◌, length, Ok}
 use Rattle.z_types.specs.Bounds.{most_unit_octets}
+use Rattle.z_types.specs.OneValue.{HasOneValue}
 use Rattle.z_types.specs.declared.requests.Request.{Request}
 use Rattle.z_types.specs.declared.replies.Reply.{Reply}
 use Rattle.z_ber.specs.Element.{Forest}
@@ -35,3 +36,19 @@ abbrev pub WrittenRepliesAreUnits : Type 0
 WrittenRepliesAreUnits =
     (reply : Reply) → IsReadableReply reply → IsShallowReply reply → length (spell_reply reply) ≤ most_unit_octets →
     (tree : Forest) × IsUnit (spell_reply reply) tree
+
+-- a request that is read from its written form, and this is a unit
+abbrev pub IsReadableUnit : Request → Type 0
+IsReadableUnit request = IsReadable request × (tree : Forest) × IsUnit (spell_request request) tree
+
+-- octets are the written form of one such request at most
+abbrev pub WrittenRequestsAreOne : Type 0
+WrittenRequestsAreOne = HasOneValue IsReadableUnit spell_request
+
+-- a reply that is read from its written form, and this is a unit
+abbrev pub IsReadableReplyUnit : Reply → Type 0
+IsReadableReplyUnit reply = IsReadableReply reply × (tree : Forest) × IsUnit (spell_reply reply) tree
+
+-- octets are the written form of one such reply at most
+abbrev pub WrittenRepliesAreOne : Type 0
+WrittenRepliesAreOne = HasOneValue IsReadableReplyUnit spell_reply

@@ -5,6 +5,6 @@
 mod laws;
 
 pub use laws::{
-    written_replies_are_read, written_replies_are_units, written_requests_are_read,
-    written_requests_are_units,
+    written_replies_are_one, written_replies_are_read, written_replies_are_units,
+    written_requests_are_one, written_requests_are_read, written_requests_are_units,
 };

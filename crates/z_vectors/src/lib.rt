@@ -5,6 +5,10 @@
 #[cfg(test)]
 mod encoded;
 #[cfg(test)]
+mod reply_refusals;
+#[cfg(test)]
+mod request_refusals;
+#[cfg(test)]
 mod tests;
 #[cfg(test)]
 mod variants;

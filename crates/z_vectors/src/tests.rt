@@ -140,7 +140,7 @@ fn first_other_reply(alloc: Global, units: &[(&'static str, &'static str)]) -> &
 }
 
 /// The first of these octets that are a request, or none for another reason.
-fn first_request(alloc: Global, units: &[(&'static str, ReadFault)]) -> &'static str {
+pub fn first_request(alloc: Global, units: &[(&'static str, ReadFault)]) -> &'static str {
     for (unit, fault) in units {
         if !is_no_request(alloc, unit, *fault) {
             return unit;
@@ -150,7 +150,7 @@ fn first_request(alloc: Global, units: &[(&'static str, ReadFault)]) -> &'static
 }
 
 /// The first of these octets that are a reply, or none for another reason.
-fn first_reply(alloc: Global, units: &[(&'static str, ReadFault)]) -> &'static str {
+pub fn first_reply(alloc: Global, units: &[(&'static str, ReadFault)]) -> &'static str {
     for (unit, fault) in units {
         if !is_no_reply(alloc, unit, *fault) {
             return unit;
