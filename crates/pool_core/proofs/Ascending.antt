@@ -14,21 +14,8 @@ lower a b c p q = omega arith
 le_of : (a b : ℕ) → a < b → a ≤ b
 le_of a b p = omega arith
 
-not_true : (b : Bool) → (b ≡ true → ⊥) → b ≡ false
-not_true true h = absurd (h refl)
-not_true false h = refl
-
-differ : (a b : ℕ) → a < b → b ≡ a → ⊥
-differ a b p e = omega arith
-
-apart_from : (a b : ℕ) → a < b → nat_eq b a ≡ false
-apart_from a b p = not_true (nat_eq b a) (λ h. differ a b p (eqb-true b a h))
-
 le_by : (a b c : ℕ) → a ≤ b → b ≤ c → a ≤ c
 le_by a b c p q = omega arith
-
-le_same : (a : ℕ) → a ≤ a
-le_same a = omega arith
 
 lower_both : (a b c : ℕ) → a < b → b < c → a < c
 lower_both a b c p q = omega arith
@@ -39,14 +26,17 @@ none_below n p = omega arith
 pub below_tail : {X : Type 0} (i : ℕ) (xs : List X) (x : X) → suc i < length (x ∷ xs) → i < length xs
 below_tail i xs x p = omega arith
 
-apart_before : (a b : ℕ) → a < b → nat_eq a b ≡ false
-apart_before a b p = not_true (nat_eq a b) (λ h. differ a b p (sym (eqb-true a b h)))
-
 next_above : (m n k : ℕ) → k ≡ n + 1 → m ≤ n → m < k
 next_above m n k e h = omega arith
 
 same_le : (a b : ℕ) → a ≡ b → a ≤ b
 same_le a b e = omega arith
+
+too_low : (a m b : ℕ) → a ≤ m → m < b → b ≡ a → ⊥
+too_low a m b p q e = omega arith
+
+at_once : (a b c : ℕ) → a < b → a ≡ c → b ≡ c → ⊥
+at_once a b c p e f = omega arith
 
 module _ {S : Type 0} where
   -- from a lesser number on
@@ -58,32 +48,41 @@ module _ {S : Type 0} where
   abbrev pub stood : Session S → Stand (Parts S) Address → Session S
   stood o stand = record { number = o.number; class = o.class; member = o.member; stand = stand }
 
-  -- a number below all the others is that of none of them
-  pub none_stands : (number m n : ℕ) (stand : Stand (Parts S) Address) (os : List (Session S)) → number ≤ m → Ascends m n os → stands_at number stand os ≡ os
-  none_stands number m n stand [] h a = refl
-  none_stands number m n stand (o ∷ os) h a =
-      rw (apart_from number o.number (lower number m o.number h a.0)) (ap (λ r. o ∷ r) (none_stands number o.number n stand os (le_of number o.number (lower number m o.number h a.0)) a.1))
-
-  -- each number below the last is at most it
+  -- each number is above m
   number_at : (m n i : ℕ) (os : List (Session S)) (d : Session S) → i < length os → Ascends m n os → m < (get_or os i d).number
   number_at m n i [] d p a = absurd (none_below i p)
   number_at m n zero (o ∷ os) d p a = a.0
   number_at m n (suc i) (o ∷ os) d p a = lower_both m o.number (get_or os i d).number a.0 (number_at o.number n i os d (below_tail i os o p) a.1)
 
+  module _ (q : Session S → Bool) (g : Session S → Session S) (number : ℕ) (one : (o : Session S) → q o ≡ true → o.number ≡ number) where
+    -- beyond its number none changes
+    beyond : (m n : ℕ) (os : List (Session S)) → number ≤ m → Ascends m n os → map (λ o. cond (q o) (g o) o) os ≡ os
+    beyond m n [] h a = refl
+    beyond m n (o ∷ os) h a = (elim (q o) as (λ b. q o ≡ b → cond (q o) (g o) o ∷ map (λ x. cond (q x) (g x) x) os ≡ o ∷ os) [
+      | true ↦ λ t. absurd (too_low number m o.number h a.0 (one o t))
+      | false ↦ λ t. rw t (ap (λ r. o ∷ r) (beyond o.number n os (le_of number o.number (lower number m o.number h a.0)) a.1))
+    ]) refl
+
+    -- the session of the number changes, at its place
+    pub one_changes : (m n i : ℕ) (os : List (Session S)) (d : Session S) → i < length os → Ascends m n os → q (get_or os i d) ≡ true → map (λ o. cond (q o) (g o) o) os ≡ set os i (g (get_or os i d))
+    one_changes m n i [] d p a h = absurd (none_below i p)
+    one_changes m n zero (o ∷ os) d p a h = rw h (ap (λ r. g o ∷ r) (beyond o.number n os (same_le number o.number (sym (one o h))) a.1))
+    one_changes m n (suc i) (o ∷ os) d p a h = (elim (q o) as (λ b. q o ≡ b → cond (q o) (g o) o ∷ map (λ x. cond (q x) (g x) x) os ≡ o ∷ set os i (g (get_or os i d))) [
+      | true ↦ λ t. absurd (at_once o.number (get_or os i d).number number (number_at o.number n i os d (below_tail i os o p) a.1) (one o t) (one (get_or os i d) h))
+      | false ↦ λ t. rw t (ap (λ r. o ∷ r) (one_changes o.number n i os d (below_tail i os o p) a.1 h))
+    ]) refl
+
   -- the session of a number is one place
   pub stands_set : (m n i : ℕ) (stand : Stand (Parts S) Address) (os : List (Session S)) (d : Session S) → i < length os → Ascends m n os → stands_at (get_or os i d).number stand os ≡ set os i (stood (get_or os i d) stand)
-  stands_set m n i stand [] d p a = absurd (none_below i p)
-  stands_set m n zero stand (o ∷ os) d p a =
-      rw (nat_eq_equiv.refl o.number) (ap (λ r. stood o stand ∷ r) (none_stands o.number o.number n stand os (le_same o.number) a.1))
-  stands_set m n (suc i) stand (o ∷ os) d p a =
-      let after = number_at o.number n i os d (below_tail i os o p) a.1 in
-      rw (apart_before o.number (get_or os i d).number after) (ap (λ r. o ∷ r) (stands_set o.number n i stand os d (below_tail i os o p) a.1))
+  stands_set m n i stand os d p a =
+      let number = (get_or os i d).number in
+      one_changes (λ o. nat_eq o.number number) (λ o. stood o stand) number (λ o h. eqb-true o.number number h) m n i os d p a (nat_eq_equiv.refl number)
 
-  -- a new stand keeps the order
-  pub ascends_set : (m n i : ℕ) (stand : Stand (Parts S) Address) (os : List (Session S)) (d : Session S) → i < length os → Ascends m n os → Ascends m n (set os i (stood (get_or os i d) stand))
-  ascends_set m n i stand [] d p a = absurd (none_below i p)
-  ascends_set m n zero stand (o ∷ os) d p a = a
-  ascends_set m n (suc i) stand (o ∷ os) d p a = (a.0, ascends_set o.number n i stand os d (below_tail i os o p) a.1)
+  -- a session of the same number keeps the order
+  pub ascends_put : (m n i : ℕ) (os : List (Session S)) (x d : Session S) → i < length os → x.number ≡ (get_or os i d).number → Ascends m n os → Ascends m n (set os i x)
+  ascends_put m n i [] x d p e a = absurd (none_below i p)
+  ascends_put m n zero (o ∷ os) x d p e a = (subst (λ k. m < k) (sym e) a.0, subst (λ k. Ascends k n os) (sym e) a.1)
+  ascends_put m n (suc i) (o ∷ os) x d p e a = (a.0, ascends_put o.number n i os x d (below_tail i os o p) e a.1)
 
   -- a session of the next number comes last
   pub ascends_push : (m n : ℕ) (os : List (Session S)) (o : Session S) → o.number ≡ n + 1 → Ascends m n os → Ascends m (n + 1) (os ++ o ∷ [])

@@ -1,7 +1,6 @@
 -- The session that is chosen, at its place
-use Rattle.std.proofs.Common.{◌≡◌, ◌==◌, ℕ, ◌<◌, ◌≤◌, ◌^◌, arith, true, false, cond, List, ◌∷◌, length, get_or, set, Option, None, Some, is_some, IfSome, All, Contains, refl, sym, ◌∙◌, ap, subst}
-use Rattle.std.proofs.lemmas.List.{length-set, get_or_default}
-use Rattle.std.proofs.lemmas.List.Elements.{All-set}
+use Rattle.std.proofs.Common.{◌≡◌, ◌==◌, ℕ, ◌<◌, arith, true, false, cond, List, ◌∷◌, length, get_or, set, Option, None, Some, is_some, IfSome, All, Contains, refl, sym, ◌∙◌, ap, subst}
+use Rattle.std.proofs.lemmas.List.{get_or_default}
 use Rattle.std.proofs.lemmas.List.Folds.{Any-from_list_any}
 use Rattle.z_types.specs.declared.key.SetKey.{SetKey}
 use Rattle.z_types.specs.equality.Key as keys
@@ -21,9 +20,9 @@ use Rattle.pool_sets.specs.Plain.{Pool, with_sessions, one_idle, any_idle}
 use Rattle.pool_sets.specs.Kept.{TableKept}
 use Rattle.pool_sets.specs.Doors.{IsReady, HasSet}
 use Rattle.pool_sets.proofs.TableLemmas.{find_passes}
-use Rattle.pool_core.specs.PoolView.{Ascends, IsPool, Rests, StandRests}
+use Rattle.pool_core.specs.PoolView.{Ascends, Rests, StandRests}
 use Rattle.pool_core.proofs.First.{IsFirst}
-use Rattle.pool_core.proofs.Ascending.{stood, stands_set, ascends_set}
+use Rattle.pool_core.proofs.Ascending.{stood, stands_set}
 
 pub pair_parts : (a b c d : ℕ) → ◌≡◌ {A = Option (ℕ × ℕ)} (Some (a, b)) (Some (c, d)) → (a ≡ c) × (b ≡ d)
 pair_parts a b c d h =
@@ -168,16 +167,6 @@ module _ {S : Type 0} where
   holder_has_set class at key o parts pooled e h lend_of none =
       let same = parts_are class at o parts pooled h.idle lend_of in
       let bad : None ≡ slot_and_hits (Some e) = none ∙ ap (λ (q : Parts S). slot_and_hits (set_of key q.table)) same ∙ ap slot_and_hits h.holds in cc
-
-module _ {W S : Type 0} (t : sitting.Ghosts S W) where
-  -- a session that goes out
-  pub pool_out : (os : List (Session S)) (given opens place : ℕ) (o : Session S) (spot : Address) → place < length os → o ≡ get_or os place o → IsPool t os given opens → IsPool t (set os place (stood o (Out spot))) given opens
-  pool_out os given opens place o spot within e k = record {
-    rests = All-set (Rests t) os place (stood o (Out spot)) tt k.rests;
-    ascends = subst (λ x. Ascends 0 given (set os place (stood x (Out spot)))) (sym e) (ascends_set 0 given place (Out spot) os o within k.ascends);
-    bound = subst (λ n. n ≤ opens) (sym (length-set os place (stood o (Out spot)))) k.bound;
-    few = subst (λ n. n < 2 ^ 32) (sym (length-set os place (stood o (Out spot)))) k.few;
-  }
 
 module _ {W S : Type 0} (w : world.Ghosts W) (t : sitting.Ghosts S W) where
   -- the parts at a place of a pool are ready

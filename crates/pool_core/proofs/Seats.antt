@@ -15,27 +15,9 @@ use Rattle.pool_sets.specs.declared.sessions.Stand.TheVariants.{Idle, Out}
 use Rattle.pool_sets.specs.declared.doors.Seat.{Seat}
 use Rattle.pool_sets.specs.Sessions.{Session, is_out, member_for}
 use Rattle.pool_sets.specs.Plain.{Pool, address_at, without_seat, redial_member, redial, with_sessions, lost, put, is_seat}
-use Rattle.pool_core.specs.PoolView.{IsPool, Rests, Ascends}
+use Rattle.pool_core.specs.PoolView.{PoolView, IsPool, Rests, Ascends}
 use Rattle.pool_core.proofs.First.{is_below, is_not_below}
-use Rattle.pool_core.proofs.Ascending.{none_below, below_tail}
-
-loop : (a b : ℕ) → a < b → b ≡ a → ⊥
-loop a b p e = omega arith
-
-under : (a m b : ℕ) → a ≤ m → m < b → a < b
-under a m b p q = omega arith
-
-from_lt : (a b : ℕ) → a < b → a ≤ b
-from_lt a b p = omega arith
-
-through : (a b c : ℕ) → a < b → b < c → a < c
-through a b c p q = omega arith
-
-even : (a b : ℕ) → a ≡ b → a ≤ b
-even a b e = omega arith
-
-at_once : (a b c : ℕ) → a < b → a ≡ c → b ≡ c → ⊥
-at_once a b c p e f = omega arith
+use Rattle.pool_core.proofs.Ascending.{none_below, below_tail, stood, one_changes, ascends_put}
 
 longer : (k n m : ℕ) → k < n → n ≤ m → k < m
 longer k n m p q = omega arith
@@ -91,35 +73,6 @@ module _ {S : Type 0} where
       let v = both_true (o.number == seat.number) (o.class == seat.class) w.0 in
       (eqb-true o.number seat.number v.0, w.1)
 
-  module _ (q : Session S → Bool) (g : Session S → Session S) (number : ℕ) (one : (o : Session S) → q o ≡ true → o.number ≡ number) where
-    -- beyond its number none changes
-    beyond : (m n : ℕ) (os : List (Session S)) → number ≤ m → Ascends m n os → map (λ o. cond (q o) (g o) o) os ≡ os
-    beyond m n [] h a = refl
-    beyond m n (o ∷ os) h a = (elim (q o) as (λ b. q o ≡ b → cond (q o) (g o) o ∷ map (λ x. cond (q x) (g x) x) os ≡ o ∷ os) [
-      | true ↦ λ t. absurd (loop number o.number (under number m o.number h a.0) (one o t))
-      | false ↦ λ t. rw t (ap (λ r. o ∷ r) (beyond o.number n os (from_lt number o.number (under number m o.number h a.0)) a.1))
-    ]) refl
-
-    above_all : (m n i : ℕ) (os : List (Session S)) (d : Session S) → i < length os → Ascends m n os → m < (get_or os i d).number
-    above_all m n i [] d p a = absurd (none_below i p)
-    above_all m n zero (o ∷ os) d p a = a.0
-    above_all m n (suc i) (o ∷ os) d p a = through m o.number (get_or os i d).number a.0 (above_all o.number n i os d (below_tail i os o p) a.1)
-
-    -- the session of the number changes, at its place
-    pub one_changes : (m n i : ℕ) (os : List (Session S)) (d : Session S) → i < length os → Ascends m n os → q (get_or os i d) ≡ true → map (λ o. cond (q o) (g o) o) os ≡ set os i (g (get_or os i d))
-    one_changes m n i [] d p a h = absurd (none_below i p)
-    one_changes m n zero (o ∷ os) d p a h = rw h (ap (λ r. g o ∷ r) (beyond o.number n os (even number o.number (sym (one o h))) a.1))
-    one_changes m n (suc i) (o ∷ os) d p a h = (elim (q o) as (λ b. q o ≡ b → cond (q o) (g o) o ∷ map (λ x. cond (q x) (g x) x) os ≡ o ∷ set os i (g (get_or os i d))) [
-      | true ↦ λ t. absurd (at_once o.number (get_or os i d).number number (above_all o.number n i os d (below_tail i os o p) a.1) (one o t) (one (get_or os i d) h))
-      | false ↦ λ t. rw t (ap (λ r. o ∷ r) (one_changes o.number n i os d (below_tail i os o p) a.1 h))
-    ]) refl
-
-  -- a session of the same number keeps the order
-  pub ascends_put : (m n i : ℕ) (os : List (Session S)) (x d : Session S) → i < length os → x.number ≡ (get_or os i d).number → Ascends m n os → Ascends m n (set os i x)
-  ascends_put m n i [] x d p e a = absurd (none_below i p)
-  ascends_put m n zero (o ∷ os) x d p e a = (subst (λ k. m < k) (sym e) a.0, subst (λ k. Ascends k n os) (sym e) a.1)
-  ascends_put m n (suc i) (o ∷ os) x d p e a = (a.0, ascends_put o.number n i os x d (below_tail i os o p) e a.1)
-
 module _ {W S : Type 0} (t : sitting.Ghosts S W) where
   more_opens : (n a b : ℕ) → n ≤ a → a ≤ b → n ≤ b
   more_opens n a b p q = omega arith
@@ -132,6 +85,11 @@ module _ {W S : Type 0} (t : sitting.Ghosts S W) where
     bound = subst (λ n. n ≤ next) (sym (length-set os place x)) (more_opens (length os) opens next k.bound up);
     few = subst (λ n. n < 2 ^ 32) (sym (length-set os place x)) k.few;
   }
+
+  -- a session goes out
+  pub pool_out : (os : List (Session S)) (given opens place : ℕ) (o : Session S) (spot : Address) → place < length os → o ≡ get_or os place o → IsPool t os given opens → IsPool t (set os place (stood o (Out spot))) given opens
+  pool_out os given opens place o spot within e k =
+      pool_put os given opens opens place (stood o (Out spot)) o within (ap (λ x. x.number) e) tt (omega arith) k
 
 -- a rest that is put back
 pub not_le : (a b : ℕ) → b < a → nat_le a b ≡ false
@@ -173,3 +131,7 @@ module _ {S : Type 0} where
 
   pub member_at : (seat : Seat) (at : List Address) (p : Pool S) (place : ℕ) (d : Session S) → place < length p.sessions → is_seat seat (get_or p.sessions place d) ≡ true → member_for seat.class at (without_seat seat p.sessions) ≡ redial_member seat at p
   member_at seat at p place d within is = sym (at_some (member_for seat.class at (without_seat seat p.sessions)) 0 (find (is_seat seat) p.sessions) (some_found (is_seat seat) p.sessions place d within is))
+
+-- the same counts beside another pool
+abbrev pub counted : {S : Type 0} → ℕ → ℕ → ℕ → Pool S → PoolView S
+counted fulls opens booked p = record { pool = p; fulls = fulls; opens = opens; booked = booked }

@@ -8,10 +8,10 @@ use Rattle.pool_sets.specs.declared.pooled.Parts.{Parts}
 use Rattle.pool_sets.specs.Table.{Entry, same_key, without, to_front, moment_of, after_find, after_expire}
 use Rattle.pool_sets.specs.Kept.{IsKept, TableKept}
 
-head_of : {X : Type 0} (P : X → Type 0) (x : X) (xs : List X) → All P (x ∷ xs) → P x
+pub head_of : {X : Type 0} (P : X → Type 0) (x : X) (xs : List X) → All P (x ∷ xs) → P x
 head_of P x xs a = a 0 x (omega arith)
 
-rest_of : {X : Type 0} (P : X → Type 0) (x : X) (xs : List X) → All P (x ∷ xs) → All P xs
+pub rest_of : {X : Type 0} (P : X → Type 0) (x : X) (xs : List X) → All P (x ∷ xs) → All P xs
 rest_of P x xs a = λ k d h. a (suc k) d (omega arith)
 
 -- what holds of each item holds of that found

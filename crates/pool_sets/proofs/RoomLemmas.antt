@@ -9,15 +9,9 @@ use Rattle.std.proofs.lemmas.List.FromFn.{get_or-range_with_len, length-range_wi
 use Rattle.std.proofs.lemmas.Map.Steps.{length-le_from_distinct_below}
 use Rattle.z_types.specs.equality.Tests.{both_true}
 use Rattle.pool_sets.specs.Table.{Entry, Table, HasSlots, IsRoom, slots_of, is_free, free_slot, last_slot, without, after_forget}
-use Rattle.pool_sets.proofs.KeptLemmas.{found_holds}
+use Rattle.pool_sets.proofs.KeptLemmas.{head_of, rest_of, found_holds}
 use Rattle.pool_sets.proofs.TableLemmas.{find_passes}
 use Rattle.pool_sets.specs.TableView.{entry_of}
-
-rest_free : (slot : ℕ) (e : Entry) (es : List Entry) → All (λ (f : Entry). f.slot ≢ slot) (e ∷ es) → All (λ (f : Entry). f.slot ≢ slot) es
-rest_free slot e es a = λ k d h. a (suc k) d (omega arith)
-
-head_free : (slot : ℕ) (e : Entry) (es : List Entry) → All (λ (f : Entry). f.slot ≢ slot) (e ∷ es) → e.slot ≢ slot
-head_free slot e es a = a 0 e (omega arith)
 
 not_yes : (b : Bool) → (b ≡ true → ⊥) → b ≡ false
 not_yes true h = absurd (h refl)
@@ -26,7 +20,7 @@ not_yes false h = refl
 -- a free slot is none of the keys
 pub free_keys : (slot : ℕ) (es : List (ℕ × HeldSet)) → All (λ (e : Entry). e.slot ≢ slot) (map entry_of es) → AllByRecursion (λ k. nat_eq slot k ≡ false) (keys_of es)
 free_keys slot [] a = tt
-free_keys slot (e ∷ es) a = (not_yes (nat_eq slot e.0) (λ h. head_free slot (entry_of e) (map entry_of es) a (sym (eqb-true slot e.0 h))), free_keys slot es (rest_free slot (entry_of e) (map entry_of es) a))
+free_keys slot (e ∷ es) a = (not_yes (nat_eq slot e.0) (λ h. head_of (λ (f : Entry). f.slot ≢ slot) (entry_of e) (map entry_of es) a (sym (eqb-true slot e.0 h))), free_keys slot es (rest_of (λ (f : Entry). f.slot ≢ slot) (entry_of e) (map entry_of es) a))
 
 -- and finds nothing
 pub finds_none : (slot : ℕ) (es : List (ℕ × HeldSet)) → AllByRecursion (λ k. nat_eq slot k ≡ false) (keys_of es) → lookup_entry (nat_eq slot) es ≡ None

@@ -1,13 +1,9 @@
 use Rattle.std.proofs.Common.{◌≡◌, ◌∙◌, sym, ap, subst, refl, arith, position, ℕ, List, true}
 use Rattle.pool_sets.specs.Sessions.{Session, member_for}
 use Rattle.pool_sets.specs.Plain.{Pool, is_seat, without_seat}
-use Rattle.pool_core.specs.PoolView.{PoolView}
 use Rattle.pool_core.proofs.Dialled.{address_is}
-use Rattle.pool_core.proofs.Seats.{place_of, no_place, pool_put, redial_at, redial_nowhere, member_nowhere, member_at, seat_number}
+use Rattle.pool_core.proofs.Seats.{counted, place_of, no_place, pool_put, redial_at, redial_nowhere, member_nowhere, member_at, seat_number}
 use Rattle.pool_core.proofs.pool.Pool.dial_again.Goals as goal
-
-abbrev counted : {S : Type 0} → ℕ → ℕ → ℕ → Pool S → PoolView S
-counted fulls opens booked p = record { pool = p; fulls = fulls; opens = opens; booked = booked }
 
 abbrev pool_of : {S : Type 0} → List (Session S) → ℕ → ℕ → ℕ → ℕ → ℕ → Pool S
 pool_of os given a b x y = record { sessions = os; given = given; max_sessions = a; sets_max = b; session_ttl = x; set_ttl = y }
