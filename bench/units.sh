@@ -4,21 +4,24 @@
 # the octets takes more than twenty times as long, or one shape of 1 MiB more than ten times another.
 . "$(dirname "$0")/readers.sh"
 
-# The millions of replies that are written in a second.
+# The millions of replies that are written in a second; where they are fewer than demanded, `status` is 1.
 replies() {
     local made whole
-    made=$(nanoseconds "$1" "$2" 0)
-    whole=$(nanoseconds "$1" "$2" "$3")
-    awk -v what="$1" -v times="$3" -v ns=$((whole - made)) 'BEGIN {
-        printf "%s: %.1f million a second\n", what, times * 1000 / ns }'
+    made=$(nanoseconds "$1" "$2" 0) || exit 1
+    whole=$(nanoseconds "$1" "$2" "$3") || exit 1
+    awk -v what="$1" -v times="$3" -v ns=$((whole - made)) -v least="$4" 'BEGIN {
+        rate = times * 1000 / ns
+        printf "%s: %.1f million a second\n", what, rate
+        exit (rate < least) }' || status=1
 }
 
+# Replies are to be written at 1 GB/s, and 5 million of those of 14 octets a second.
 echo "An answer of ten records of 1 kB, written, and one of records of a tenth of it"
-compare write-records 10000 200000
+demand write-records 10000 200000 1000
 echo "An answer of one record of 1 MiB, written, and one of a tenth of it"
-compare write-record 1048000 5000
+demand write-record 1048000 5000 1000
 echo "Answers to a Search without records, of 14 octets, written"
-replies write-search 0 20000000
+replies write-search 0 20000000 5
 
 # The nanoseconds of one reading, or one walk, of a unit.
 once() {

@@ -6,6 +6,8 @@ mod door;
 mod pool;
 mod spot;
 #[cfg(test)]
+mod table_tests;
+#[cfg(test)]
 mod tests;
 
 pub use pool::Pool;

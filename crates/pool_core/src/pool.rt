@@ -422,3 +422,23 @@ impl<W: World, S: Sitting<W>> Pool<W, S> {
         member
     }
 }
+
+#[cfg(test)]
+impl<W: World, S: Sitting<W>> Pool<W, S> {
+    /// A pool without sessions that gave this number last.
+    pub(crate) fn after(alloc: Global, route: &Route, given: u64) -> Pool<W, S> {
+        Pool {
+            sessions: Vec::new(alloc),
+            given,
+            numbers: route.pool,
+            fulls: 0,
+            opens: 0,
+            booked: 0,
+        }
+    }
+
+    /// How often it was full, dialled, and gave no set that was wanted.
+    pub(crate) fn counts(&self) -> (u64, u64, u64) {
+        (self.fulls, self.opens, self.booked)
+    }
+}

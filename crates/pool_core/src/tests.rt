@@ -7,13 +7,12 @@ ghost use Rattle.pool_sets.specs.Table.{empty_table, after_record};
 ghost use Rattle.pool_core.specs.Fake.{no_hits, no_record, no_scan};
 
 use crate::Pool;
+use crate::table_tests::key_in;
 use pool_sets::{Door, Parts, Pooled, Seat, SetTable, Taken};
 use route_config::{Members, Route};
 use std::alloc::Global;
 use std::test::Fail;
-use z_types::{
-    Address, List, Memory, Oid, Rpn, RpnQuery, SetKey, Sitting, Term, Text, World, copy,
-};
+use z_types::{Address, List, Memory, SetKey, Sitting, World, copy};
 
 /// Targets of which nothing is told.
 #[derive(Drop)]
@@ -49,18 +48,6 @@ impl Sitting<Quiet> for Still {
     ghost pending = { λ _. resting };
 }
 
-/// The key of a search for a term.
-fn key_of(alloc: Global, term: &[u8]) -> Result<SetKey, Memory> {
-    let mut dbs = List::new(alloc);
-    dbs.push(Text::copy_of(alloc, b"D")?)?;
-    let root = Rpn::leaf(List::new(alloc), Term::General(Text::copy_of(alloc, term)?));
-    let attr_set = Oid::copy_of(alloc, &[1, 2, 840, 10003, 3, 1])?;
-    Ok(SetKey {
-        dbs,
-        query: RpnQuery { attr_set, root },
-    })
-}
-
 /// A table that holds one set.
 fn table_of(alloc: Global, key: &SetKey, now: u64) -> Result<SetTable, Memory>
     ensures { IfOk result (λ t. t ≡ after_record 0 key.now 3 now (empty_table 10)) }
@@ -74,10 +61,10 @@ fn table_of(alloc: Global, key: &SetKey, now: u64) -> Result<SetTable, Memory>
 fn holding(
     alloc: Global,
     target: u32,
-    term: &[u8],
+    term: i64,
     now: u64,
 ) -> Result<Pooled<Quiet, Still>, Memory> {
-    let key = key_of(alloc, term)?;
+    let key = key_in(alloc, b"D", term)?;
     let table = table_of(alloc, &key, now)?;
     let session = Still {
         target,
@@ -134,7 +121,7 @@ fn trial_of(alloc: Global, max_sessions: u32, second: u32) -> Result<Trial, Memo
     let mut route = Route::smallest(alloc)?;
     route.pool.max_sessions = max_sessions;
     let members = two(alloc, 0, second)?;
-    let key = key_of(alloc, b"a")?;
+    let key = key_in(alloc, b"D", 3)?;
     let pool = Pool::new(alloc, &route)?;
     Ok(Trial { pool, members, key })
 }
@@ -159,7 +146,7 @@ fn put_back(
     used: u64,
     now: u64,
 ) -> Result<(), Memory> {
-    let parts = holding(alloc, 0, b"a", used)?.apart();
+    let parts = holding(alloc, 0, 3, used)?.apart();
     trial.pool.put(Seat { class: 0, number }, parts, now);
     Ok(())
 }
@@ -209,6 +196,7 @@ fn sets_and_sessions_are_given_until_their_times_to_live(rt: HostRuntime) -> Res
         (0, 0, 59, Given::Reused(1)),
         (0, 0, 60, Given::Idle(1)),
         (59, 59, 118, Given::Reused(1)),
+        (59, 59, 119, Given::Idle(1)),
         (0, 0, 299, Given::Idle(1)),
         (0, 0, 300, Given::Dialled(2, 0)),
         (0, 1000, 0, Given::Reused(1)),
@@ -219,6 +207,61 @@ fn sets_and_sessions_are_given_until_their_times_to_live(rt: HostRuntime) -> Res
         put_back(alloc, &mut trial, 1, used, since)?;
         assert_eq!(rt; take_for(alloc, &mut trial, now), wanted, "{since} {now}");
     }
+    Ok(())
+}
+
+#[test]
+fn one_session_is_all_where_one_may_be_open(rt: HostRuntime) -> Result<(), Fail> {
+    let alloc = rt.alloc();
+    let mut trial = trial_of(alloc, 1, 1)?;
+    assert_eq!(rt; take_any(alloc, &mut trial, 0), Given::Dialled(1, 0));
+    assert_eq!(rt; take_for(alloc, &mut trial, 0), Given::Full(1));
+    assert_eq!(rt; redial(&mut trial, 1), 0, "it counts no longer");
+    Ok(())
+}
+
+#[test]
+fn two_members_of_one_address_count_by_their_places(rt: HostRuntime) -> Result<(), Fail> {
+    let alloc = rt.alloc();
+    let mut trial = trial_of(alloc, 4, 0)?;
+    for (number, member) in [(1, 0), (2, 1), (3, 0), (4, 1)] {
+        assert_eq!(rt;
+            take_any(alloc, &mut trial, 0),
+            Given::Dialled(number, member)
+        );
+    }
+    trial.pool.lost(Seat {
+        class: 0,
+        number: 2,
+    });
+    assert_eq!(rt; redial(&mut trial, 3), 0, "a tie goes to the first");
+    assert_eq!(rt; take_any(alloc, &mut trial, 0), Given::Dialled(5, 1));
+    Ok(())
+}
+
+#[test]
+fn after_the_last_number_no_session_is_dialled(rt: HostRuntime) -> Result<(), Fail> {
+    let alloc = rt.alloc();
+    let mut trial = trial_of(alloc, 2, 1)?;
+    trial.pool = Pool::after(alloc, &Route::smallest(alloc)?, u64::MAX - 1);
+    assert_eq!(rt; take_any(alloc, &mut trial, 0), Given::Dialled(u64::MAX, 0));
+    assert_eq!(rt; take_any(alloc, &mut trial, 0), Given::Nothing);
+    Ok(())
+}
+
+#[test]
+fn a_set_that_is_reused_is_not_booked(rt: HostRuntime) -> Result<(), Fail> {
+    let alloc = rt.alloc();
+    let mut trial = trial_of(alloc, 1, 1)?;
+    take_any(alloc, &mut trial, 0);
+    put_back(alloc, &mut trial, 1, 0, 0)?;
+    assert_eq!(rt; take_for(alloc, &mut trial, 59), Given::Reused(1));
+    assert_eq!(rt; trial.pool.counts(), (0, 1, 0));
+    put_back(alloc, &mut trial, 1, 59, 59)?;
+    assert_eq!(rt; take_for(alloc, &mut trial, 119), Given::Idle(1));
+    assert_eq!(rt; trial.pool.counts(), (0, 1, 1));
+    assert_eq!(rt; take_for(alloc, &mut trial, 119), Given::Full(1));
+    assert_eq!(rt; trial.pool.counts(), (1, 1, 1));
     Ok(())
 }
 

@@ -60,9 +60,6 @@ low-joined {n} {f} {g} p q = record { within = low_joined n f g p.within q.withi
 pub low-none : {n : ℕ} → IsLow n none
 low-none {n} = record { within = omega arith }
 
-pub low-more : {m n : ℕ} {f : Forest} → m ≤ n → IsLow m f → IsLow n f
-low-more {m} {n} {f} h p = record { within = le_trans p.within h }
-
 -- ---- elements that stand one behind the other
 
 pub are-joined : (n : ℕ) (a b : List ℕ) (f g : Forest) → AreElements false n a f → AreElements false n b g → AreElements false n (a ++ b) (joined f g)

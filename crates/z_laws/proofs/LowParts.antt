@@ -3,7 +3,7 @@ use Rattle.std.proofs.Common.{ℕ, ◌-◌, ◌≤◌, List, [], ◌∷◌, Opti
 use Rattle.std.proofs.Math.Nat.{max-le}
 use Rattle.z_ber.specs.declared.tag.Tag.{Tag}
 use Rattle.z_ber.specs.Element.{Forest, leaf, branch}
-use Rattle.z_laws.proofs.Forests.{levels, IsLow, low-none, low-joined}
+use Rattle.z_laws.proofs.Forests.{IsLow, low-none, low-joined}
 use Rattle.z_laws.proofs.Lookup.{maybe_leaf, maybe_branch}
 use Rattle.z_laws.proofs.Parts.{leaves, branches}
 

@@ -54,10 +54,6 @@ abbrev pub name_asked : Option (List ℕ) → Option (Asked (List ℕ))
 name_asked None = None
 name_asked (Some name) = Some (Good name)
 
-pub names_of-again : (number : ℕ) (name : List ℕ) → names_of (field_of (constructed number) (octets_field 0 name) (name_forest name)) ≡ Ok (Good name)
-unfolding names_in
-names_of-again number name = refl
-
 pub names_if : (number : ℕ) (name : Option (List ℕ)) → read_if names_of (maybe_field (λ octets. field_of (constructed number) (octets_field 0 octets) (name_forest octets)) name) ≡ Ok (name_asked name)
 unfolding names_in
 names_if number None = refl

@@ -5,6 +5,10 @@
 #[cfg(test)]
 mod encoded;
 #[cfg(test)]
+mod fields;
+#[cfg(test)]
 mod tests;
 #[cfg(test)]
 mod variants;
+#[cfg(test)]
+mod writing;

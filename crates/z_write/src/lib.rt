@@ -15,6 +15,3 @@ mod structures;
 
 pub use replies::{put_reply, write_reply};
 pub use requests::{put_request, write_request};
-
-#[cfg(test)]
-mod tests;

@@ -1,14 +1,14 @@
-//! The table of sets.
+//! The table of the sets that a session holds.
 
 ghost use Rattle.std.specs.Prelude.{◌<◌};
 
-use crate::{SetTable, full_exactly, put_is_reused};
+use pool_sets::{SetTable, full_exactly, put_is_reused};
 use std::alloc::Global;
 use std::test::Fail;
 use z_types::{List, Memory, Oid, Rpn, RpnQuery, SetKey, Term, Text};
 
 /// The key of a search for a term in a database.
-fn key_in(alloc: Global, database: &[u8], term: i64) -> Result<SetKey, Memory> {
+pub fn key_in(alloc: Global, database: &[u8], term: i64) -> Result<SetKey, Memory> {
     let mut dbs = List::new(alloc);
     dbs.push(Text::copy_of(alloc, database)?)?;
     let root = Rpn::leaf(List::new(alloc), Term::Number(term));
