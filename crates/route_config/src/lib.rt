@@ -2,14 +2,17 @@
 //! left to others.
 #![tactic(auto)]
 
+mod defaults;
 mod lookup;
 mod members;
 mod route;
 mod smallest;
+mod sound;
 
+pub use defaults::{default_indexes, default_schemas};
 pub use lookup::{database_named, first_address, target_names};
 pub use members::Members;
-pub use route::{Class, Database, Group, Index, PoolNumbers, Route, RouteLeg, Target};
+pub use route::{Class, Database, Group, Index, PoolNumbers, Route, RouteLeg, RouteParts, Target};
 pub use smallest::SMALLEST_TEXT;
 
 #[cfg(test)]

@@ -3,9 +3,12 @@
 ghost use Rattle.std.specs.Prelude.{◌≡◌, IfOk, [], ◌∷◌};
 ghost use Rattle.route_config.specs.Smallest.{smallest_route};
 
-use crate::{Class, Database, Index, Members, PoolNumbers, Route, RouteLeg, Target};
+use crate::{
+    Class, Database, Members, PoolNumbers, Route, RouteLeg, RouteParts, Target, default_indexes,
+    default_schemas,
+};
 use std::alloc::Global;
-use z_types::{Address, Limits, List, Memory, Schema, Text};
+use z_types::{Address, Limits, List, Memory, Text};
 
 /// The text of the smallest configuration, each line ended by LF.
 pub const SMALLEST_TEXT: &[u8] = b"[[target]]\n\
@@ -22,7 +25,16 @@ impl Route {
     pub fn smallest(alloc: Global) -> Result<Route, Memory>
         ensures { IfOk result (λ route. route ≡ smallest_route) }
     {
-        Ok(Route {
+        Ok(Route::new(RouteParts::smallest(alloc)?))
+    }
+}
+
+impl RouteParts {
+    /// What the route of the smallest configuration is made of.
+    pub fn smallest(alloc: Global) -> Result<RouteParts, Memory>
+        ensures { IfOk result (λ parts. parts ≡ smallest_route) }
+    {
+        Ok(RouteParts {
             targets: one(alloc, smallest_target(alloc)?)?,
             groups: List::new(alloc),
             databases: one(alloc, smallest_database(alloc)?)?,
@@ -31,7 +43,7 @@ impl Route {
             pool: default_pool(),
             limits: default_limits(),
             indexes: default_indexes(alloc)?,
-            schemas: one(alloc, default_schema(alloc)?)?,
+            schemas: default_schemas(alloc)?,
         })
     }
 }
@@ -105,36 +117,4 @@ fn default_limits() -> Limits
         records: 100000,
         sets: 32,
     }
-}
-
-fn default_indexes(alloc: Global) -> Result<List<Index>, Memory>
-    ensures { IfOk result (λ indexes. indexes ≡ smallest_route.indexes) }
-{
-    let mut indexes = List::new(alloc);
-    indexes.push(index(alloc, b"dc.title", 4)?)?;
-    indexes.push(index(alloc, b"dc.creator", 1003)?)?;
-    indexes.push(index(alloc, b"dc.subject", 21)?)?;
-    indexes.push(index(alloc, b"bath.isbn", 7)?)?;
-    indexes.push(index(alloc, b"bath.issn", 8)?)?;
-    indexes.push(index(alloc, b"cql.anywhere", 1016)?)?;
-    Ok(indexes)
-}
-
-fn index(alloc: Global, name: &[u8], value: u32) -> Result<Index, Memory>
-    ensures { IfOk result (λ index. index ≡ record { name = name.now; value = value }) }
-{
-    Ok(Index {
-        name: Text::copy_of(alloc, name)?,
-        value,
-    })
-}
-
-fn default_schema(alloc: Global) -> Result<Schema, Memory>
-    ensures { IfOk result (λ schema. schema ∷ [] ≡ smallest_route.schemas) }
-{
-    Ok(Schema {
-        name: Text::copy_of(alloc, b"dc")?,
-        uri: Text::copy_of(alloc, b"info:srw/schema/1/dc-v1.1")?,
-        element: Text::copy_of(alloc, b"dc")?,
-    })
 }

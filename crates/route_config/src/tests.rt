@@ -20,7 +20,7 @@ fn the_smallest_route_has_one_database_at_one_target(rt: HostRuntime) -> Result<
         None => assert!(rt; false, "its class"),
     }
     assert!(rt; first_address(&route, 1).is_none(), "another class");
-    assert_eq!(rt; route.pool.session_ttl, 300);
-    assert_eq!(rt; route.limits.sets, 32);
+    assert_eq!(rt; route.parts().pool.session_ttl, 300);
+    assert_eq!(rt; route.parts().limits.sets, 32);
     Ok(())
 }

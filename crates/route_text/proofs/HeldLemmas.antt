@@ -6,11 +6,12 @@ use Rattle.z_types.specs.declared.schemas.Schema.{Schema}
 use Rattle.route_config.specs.declared.route.Target.{Target}
 use Rattle.route_config.specs.declared.route.PoolNumbers.{PoolNumbers}
 use Rattle.route_config.specs.declared.route.Index.{Index}
+use Rattle.route_config.specs.Smallest.{smallest_route}
 use Rattle.toml.specs.Data.{Data, Members, as_table, get}
 use Rattle.route_text.specs.declared.values.GroupValues.{GroupValues}
 use Rattle.route_text.specs.declared.values.DatabaseValues.{DatabaseValues}
 use Rattle.route_text.specs.Kinds.{required, default, Table, Keys, key_names}
-use Rattle.route_text.specs.Keys.{empty, nothing, top_keys, default_indexes, default_schemas}
+use Rattle.route_text.specs.Keys.{empty, nothing, index_keys, schema_keys, top_keys, default_indexes, default_schemas}
 use Rattle.route_text.specs.declared.fault.RouteFault.{RouteFault}
 use Rattle.route_text.specs.Refusal.{refusal, of_keys, of_others}
 use Rattle.route_text.specs.Values.{held, list, target_in, group_in, database_in, pool_in, limits_in, index_in, schema_in, values_in}
@@ -19,6 +20,15 @@ use Rattle.route_text.specs.Values.{held, list, target_in, group_in, database_in
 pub held-list : {A : Type 0} (found : Data → A) (other : Data) (given : List A) (here : Option Data) → given ≡ list found other → unwrap_or (option_map (list found) here) given ≡ list found (held (default other) here)
 held-list found other given None same = same
 held-list found other given (Some value) same = refl
+
+-- the indexes and schemas that a route has by itself are those of a file that has none
+pub indexes-held : smallest_route.indexes ≡ list index_in default_indexes
+unfolding index_keys default_indexes index_in
+indexes-held = refl
+
+pub schemas-held : smallest_route.schemas ≡ list schema_in default_schemas
+unfolding schema_keys default_schemas schema_in
+schemas-held = refl
 
 -- the values of a file, one by one
 pub values-in : (file : Data) (targets : List Target) (groups : List GroupValues) (databases : List DatabaseValues) (pool : PoolNumbers) (limits : Limits) (indexes : List Index) (schemas : List Schema)

@@ -12,7 +12,7 @@ use Rattle.route_text.specs.Texts.{is_from}
 use Rattle.route_text.specs.Path.{item_path}
 use Rattle.route_text.specs.Kinds.{required, default, Kind, Number, Array, Table, Keys, key_names}
 use Rattle.route_text.specs.Refusal.{refusal, of_kind, of_keys, of_items, of_others, at_key, unless, count, is_within}
-use Rattle.route_text.specs.Sizes.{IsFrom, HasFrom}
+use Rattle.route_config.specs.Sound.{IsFrom, HasFrom}
 use Rattle.route_text.specs.Values.{held, number, list, list_of}
 
 -- of two refusals that come to nothing each is nothing

@@ -21,7 +21,8 @@ use Rattle.route_text.specs.Refusal.{refusal}
 use Rattle.route_text.specs.Values.{at, list_of, text, address_in, target_in, group_in, leg_in, database_in, values_in}
 use Rattle.route_text.specs.Whole.{is_among, target_names, vias}
 use Rattle.route_text.specs.RouteOf.{address_of as address_named, addresses_of, members_of, firsts, class_names}
-use Rattle.route_text.specs.Sizes.{HasFrom, HasSizes}
+use Rattle.route_config.specs.Sound.{HasFrom}
+use Rattle.route_text.specs.Sizes.{HasSizes}
 use Rattle.route_text.specs.Configuration.{first_refusal}
 use Rattle.route_text.proofs.RangeLemmas.{neither, list-within, array-all, keys-passed, required-passed, default-passed}
 

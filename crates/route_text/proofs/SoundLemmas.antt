@@ -12,8 +12,7 @@ use Rattle.route_text.specs.Refusal.{refusal, of_key, of_keys}
 use Rattle.route_text.specs.Values.{held, number, pool_in, limits_in, group_in, index_in, schema_in, values_in, at}
 use Rattle.route_text.specs.Whole.{twice, no_such, target_names, group_names, member_names, vias, of_whole}
 use Rattle.route_text.specs.RouteOf.{route_of}
-use Rattle.route_text.specs.Sizes.{IsFrom}
-use Rattle.route_text.specs.Sound.{ArePoolNumbers, AreLimits, IsSound}
+use Rattle.route_config.specs.Sound.{IsFrom, ArePoolNumbers, AreLimits, IsSound}
 use Rattle.route_text.specs.Configuration.{first_refusal}
 use Rattle.route_text.proofs.RangeLemmas.{neither, passed, list-within, keys-passed, default-passed, number-within}
 use Rattle.route_text.proofs.SizeLemmas.{sizes}

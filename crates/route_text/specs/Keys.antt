@@ -70,7 +70,10 @@ abbrev pub index : List ℕ → ℕ → Data
 index name use_attribute = table (member (codes "name") (string name) (member (codes "use") (integer (pos use_attribute)) no_members))
 
 abbrev pub schema : List ℕ → List ℕ → List ℕ → Data
-schema name uri element = table (member (codes "element") (string element) (member (codes "name") (string name) (member (codes "uri") (string uri) no_members)))
+schema name uri element = table (
+    member (codes "element") (string element) (
+    member (codes "name") (string name) (
+    member (codes "uri") (string uri) no_members)))
 
 -- the indexes and the schema where the file has none
 unfoldable pub default_indexes : Data

@@ -75,7 +75,8 @@ abbrev mutual
   pub refusal : Kind → List ℕ → Data → Option RouteFault
   refusal (Text rule) path value = of_kind path (as_str value) (λ text. unless (fits rule text) (OutOfRange path text))
   refusal Address path value = of_kind path (as_str value) (λ text. unless (is_some (address text)) (OutOfRange path text))
-  refusal (Number low high) path value = of_kind path (as_integer value) (λ n. unless (is_within low high n) (OutOfRange path (signed_decimal n)))
+  refusal (Number low high) path value = of_kind path (as_integer value) (λ n.
+      unless (is_within low high n) (OutOfRange path (signed_decimal n)))
   refusal Flag path value = of_kind path (as_bool value) (λ flag. None)
   refusal (Array low high each) path value = of_kind path (as_array value) (λ items.
       option_or (unless (is_from low high (count items)) (TooMany path (count items))) (of_items (refusal each) path 0 items))

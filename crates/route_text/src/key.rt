@@ -61,7 +61,8 @@ pub fn required_number(
     low: u32,
     high: u32,
 ) -> Result<u32, RouteFault>
-    ensures { ReadsKey required (NumberKind low high) number path.now key.now (view table.now) result }
+    ensures { ReadsKey required (NumberKind low high) number
+        path.now key.now (view table.now) result }
 {
     let place = key_path(alloc, path, key.as_bytes())?;
     match table.get(key) {

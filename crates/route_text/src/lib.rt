@@ -28,6 +28,3 @@ pub use fault::RouteFault;
 pub use read::read_route;
 pub use rule::TextRule;
 pub use values::{DatabaseValues, GroupValues, LegValues, Values};
-
-#[cfg(test)]
-mod tests;

@@ -1,6 +1,6 @@
 //! Places for names: the groups and the classes of a route.
 
-ghost use Rattle.std.specs.Prelude.{◌≡◌, ℕ, ◌+◌, ◌<◌, ◌^◌, [], map, length, IfOk, IfSome, OnOk};
+ghost use Rattle.std.specs.Prelude.{◌≡◌, ◌<◌, ◌^◌, [], map, length, IfOk, IfSome, OnOk};
 ghost use Rattle.std.specs.List.{position};
 ghost use Rattle.route_text.specs.Texts.{same_text};
 ghost use Rattle.route_text.specs.RouteOf.{place_of, group_of, firsts, with_name};

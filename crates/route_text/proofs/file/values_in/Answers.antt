@@ -3,7 +3,7 @@ use Rattle.toml.specs.Data.{get, array, no_items}
 use Rattle.toml.specs.View.{view}
 use Rattle.route_text.specs.Keys.{pool_keys, limit_keys, top_keys, default_indexes, default_schemas}
 use Rattle.route_text.specs.Values.{group_in, index_in, schema_in}
-use Rattle.route_text.proofs.HeldLemmas.{held-list, values-in, both, passes}
+use Rattle.route_text.proofs.HeldLemmas.{held-list, values-in, both, passes, indexes-held, schemas-held}
 use Rattle.route_text.proofs.file.values_in.Goals as goal
 
 pub entry_or_empty-requires : goal.entry_or_empty-requires
@@ -19,8 +19,8 @@ unfolding top_keys
 returns c =
     let file = view c.args.file.now in
     let groups = held-list group_in (array no_items) c.new.result (get (codes "group") file) c.new.ensures in
-    let indexes = held-list index_in default_indexes c.in_ok-default_indexes.field-0 (get (codes "index") file) c.in_ok-default_indexes.ensures in
-    let schemas = held-list schema_in default_schemas c.in_ok-default_schemas.field-0 (get (codes "schema") file) c.in_ok-default_schemas.ensures in (
+    let indexes = held-list index_in default_indexes c.in_ok-default_indexes.field-0 (get (codes "index") file) (c.in_ok-default_indexes.ensures ∙ indexes-held) in
+    let schemas = held-list schema_in default_schemas c.in_ok-default_schemas.field-0 (get (codes "schema") file) (c.in_ok-default_schemas.ensures ∙ schemas-held) in (
       passes top_keys [] file _ c.in_ok-members.ensures
           (both c.in_ok-targets.ensures.0 (both c.in_ok-groups.ensures.0 (both c.in_ok-databases.ensures.0 (both c.in_ok-pool.ensures.0
           (both c.in_ok-limits.ensures.0 (both c.in_ok-indexes.ensures.0 (both c.in_ok-schemas.ensures.0 refl)))))))

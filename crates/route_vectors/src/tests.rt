@@ -1,7 +1,7 @@
 //! Configurations and what they are told: `ok`, or the refusal's number and text.
 
-use crate::*;
 use route_config::{Route, SMALLEST_TEXT};
+use route_text::{RouteFault, read_route};
 use std::alloc::Global;
 use std::test::Fail;
 use z_types::{Address, Memory, Text};
@@ -189,6 +189,194 @@ const NUMBERS: [(&str, &str, i64, i64); 11] = [
     ),
 ];
 
+/// Arrays: the lines before the items, an item with `#` for its number, the lines behind them, the
+/// path, how many items the smallest configuration has there, and the most.
+const ARRAYS: [(&str, &str, &str, &str, u32, u32); 8] = [
+    (
+        "",
+        "[[target]]\nname = \"t#\"\naddress = \"test:#\"\n",
+        "",
+        "target",
+        1,
+        64,
+    ),
+    (
+        "",
+        "[[group]]\nname = \"g#\"\ntargets = [\"alpha\"]\n",
+        "",
+        "group",
+        0,
+        64,
+    ),
+    (
+        "[[group]]\nname = \"g\"\ntargets = [",
+        "\"alpha\", ",
+        "]\n",
+        "group[0].targets",
+        0,
+        16,
+    ),
+    (
+        "",
+        "[[database]]\nname = \"d#\"\nleg = [{via = \"alpha\", databases = [\"D\"]}]\n",
+        "",
+        "database",
+        1,
+        64,
+    ),
+    (
+        "",
+        "[[database.leg]]\nvia = \"alpha\"\ndatabases = [\"D\"]\n",
+        "",
+        "database[0].leg",
+        1,
+        16,
+    ),
+    (
+        "[[database.leg]]\nvia = \"alpha\"\ndatabases = [",
+        "\"D#\", ",
+        "]\n",
+        "database[0].leg[1].databases",
+        0,
+        16,
+    ),
+    (
+        "",
+        "[[index]]\nname = \"a.b#\"\nuse = #\n",
+        "",
+        "index",
+        0,
+        64,
+    ),
+    (
+        "",
+        "[[schema]]\nname = \"s#\"\nuri = \"u\"\nelement = \"e\"\n",
+        "",
+        "schema",
+        0,
+        16,
+    ),
+];
+
+/// Texts: the lines before one, what stands in it before and behind the octets that are counted, the
+/// lines behind it, its path, and the most octets.
+const TEXTS: [(&str, &str, &str, &str, &str, u32); 8] = [
+    (
+        "[[target]]\naddress = \"test:0\"\nname = ",
+        "",
+        "",
+        "",
+        "target[1].name",
+        64,
+    ),
+    (
+        "[[target]]\nname = \"b\"\naddress = ",
+        "tcp:",
+        ":1",
+        "",
+        "target[1].address",
+        64,
+    ),
+    (
+        "[[group]]\ntargets = [\"alpha\"]\nname = ",
+        "",
+        "",
+        "",
+        "group[0].name",
+        64,
+    ),
+    (
+        "[[database]]\nleg = [{via = \"alpha\", databases = [\"D\"]}]\nname = ",
+        "",
+        "",
+        "",
+        "database[1].name",
+        64,
+    ),
+    (
+        "[[database.leg]]\nvia = \"alpha\"\ndatabases = [",
+        "",
+        "",
+        "]",
+        "database[0].leg[1].databases[0]",
+        64,
+    ),
+    (
+        "[[schema]]\nuri = \"u\"\nelement = \"e\"\nname = ",
+        "",
+        "",
+        "",
+        "schema[0].name",
+        128,
+    ),
+    (
+        "[[schema]]\nname = \"n\"\nelement = \"e\"\nuri = ",
+        "",
+        "",
+        "",
+        "schema[0].uri",
+        128,
+    ),
+    (
+        "[[schema]]\nname = \"n\"\nuri = \"u\"\nelement = ",
+        "",
+        "",
+        "",
+        "schema[0].element",
+        128,
+    ),
+];
+
+/// Lines behind the smallest configuration by which TOML 1.1 spells keys and values in other ways,
+/// and what is told of both.
+const SPELT: [(&str, &str); 22] = [
+    // keys: bare, quoted, dotted, of inline tables
+    ("[pool]\n\"repeats\" = 11\n", "4 pool.repeats 11"),
+    ("[pool]\n'repeats'=11 # more\n", "4 pool.repeats 11"),
+    ("[ pool ]\n\trepeats = 11\n", "4 pool.repeats 11"),
+    ("[pool]\n\"a b\" = 1\n", "9 pool.a b"),
+    ("[pool]\nrepeats.x = 1\n", "3 pool.repeats"),
+    ("[pool.x]\n", "9 pool.x"),
+    (
+        "[[database.leg]]\nvia = \"alpha\"\ndatabases.x = 1\n",
+        "3 database[0].leg[1].databases",
+    ),
+    // keys and tables that stand twice
+    ("[pool]\nrepeats = 1\nrepeats = 1\n", "1 toml"),
+    ("[pool]\nrepeats = 1\n\"repeats\" = 1\n", "1 toml"),
+    ("[pool]\n[pool]\n", "1 toml"),
+    ("[target]\n", "1 toml"),
+    ("[[database.leg.via]]\n", "1 toml"),
+    // integers
+    ("[pool]\nrepeats = +10\n", "ok"),
+    ("[pool]\nrepeats = 0b1011\n", "4 pool.repeats 11"),
+    ("[pool]\nrepeats = 01\n", "1 toml"),
+    (
+        "[pool]\nrepeats = -9223372036854775808\n",
+        "4 pool.repeats -9223372036854775808",
+    ),
+    // texts
+    (
+        "[[target]]\nname = '\\u0061lpha'\naddress = \"test:0\"\n",
+        "ok",
+    ),
+    (
+        "[[target]]\nname = \"\\u0061lpha\"\naddress = \"test:0\"\n",
+        "5 alpha",
+    ),
+    (
+        "[[target]]\nname = \"\"\"\nalpha\"\"\"\naddress = \"test:0\"\n",
+        "5 alpha",
+    ),
+    // values of other kinds
+    ("[pool]\nrepeats = 1979-05-27\n", "3 pool.repeats"),
+    ("[pool]\nrepeats = true\n", "3 pool.repeats"),
+    (
+        "[[database]]\nname = \"b\"\nhide_errors = 1\n",
+        "3 database[1].hide_errors",
+    ),
+];
+
 /// The route with a group: two targets in it, one beside it, and two databases.
 const REALISTIC: &[u8] = b"[[target]]\nname = \"alpha\"\naddress = \"test:0\"\n\n\
 [[target]]\nname = \"beta\"\naddress = \"test:0\"\n\n\
@@ -302,9 +490,104 @@ fn numbers_are_taken_up_to_both_ends_of_their_ranges(rt: HostRuntime) -> Result<
     Ok(())
 }
 
+#[test]
+fn what_toml_spells_in_other_ways_is_told(rt: HostRuntime) -> Result<(), Fail> {
+    let alloc = rt.alloc();
+    for (more, wanted) in SPELT {
+        assert!(rt;
+            added_is(alloc, more.as_bytes(), wanted.as_bytes())?,
+            "{more}"
+        );
+    }
+    Ok(())
+}
+
+/// So many items, with their numbers for `#`.
+fn items(alloc: Global, item: &str, count: u32) -> Result<String, Memory> {
+    let mut all = String::new(alloc);
+    for number in 0..count {
+        let digits = format!(in alloc; "{number}")?;
+        all.push_str(item.replace(alloc, "#", digits.as_str())?.as_str())?;
+    }
+    Ok(all)
+}
+
+/// What is told of the smallest configuration with an array of so many items more behind it.
+fn told_of_items(
+    alloc: Global,
+    (before, item, behind): (&str, &str, &str),
+    count: u32,
+    wanted: &str,
+) -> Result<bool, Memory> {
+    let items = items(alloc, item, count)?;
+    let more = format!(in alloc; "{before}{items}{behind}")?;
+    added_is(alloc, more.as_bytes(), wanted.as_bytes())
+}
+
+#[test]
+fn arrays_are_taken_up_to_their_most_items(rt: HostRuntime) -> Result<(), Fail> {
+    let alloc = rt.alloc();
+    for (before, item, behind, path, there, most) in ARRAYS {
+        let lines = (before, item, behind);
+        let room = most.saturating_sub(there);
+        let over = most.saturating_add(1);
+        let wanted = format!(in alloc; "7 {path} {over}")?;
+        assert!(rt;
+            told_of_items(alloc, lines, room, "ok")?,
+            "the most of {path}"
+        );
+        assert!(rt;
+            told_of_items(alloc, lines, room.saturating_add(1), wanted.as_str())?,
+            "one more of {path}"
+        );
+    }
+    Ok(())
+}
+
+/// What is told of the smallest configuration with a text of so many octets behind it: `ok`, or that
+/// the text is out of its range.
+fn told_of_text(
+    alloc: Global,
+    (before, first, last, behind): (&str, &str, &str, &str),
+    count: u32,
+    path: Option<&str>,
+) -> Result<bool, Memory> {
+    let octets = items(alloc, "x", count)?;
+    let more = format!(in alloc; "{before}\"{first}{octets}{last}\"{behind}\n")?;
+    match path {
+        Some(path) => {
+            let wanted = format!(in alloc; "4 {path} {first}{octets}{last}")?;
+            added_is(alloc, more.as_bytes(), wanted.as_bytes())
+        }
+        None => added_is(alloc, more.as_bytes(), b"ok"),
+    }
+}
+
+#[test]
+fn texts_are_taken_up_to_their_most_octets(rt: HostRuntime) -> Result<(), Fail> {
+    let alloc = rt.alloc();
+    for (before, first, last, behind, path, most) in TEXTS {
+        let lines = (before, first, last, behind);
+        assert!(rt; told_of_text(alloc, lines, 1, None)?, "one octet of {path}");
+        assert!(rt;
+            told_of_text(alloc, lines, most, None)?,
+            "the most of {path}"
+        );
+        assert!(rt;
+            told_of_text(alloc, lines, 0, Some(path))?,
+            "none of {path}"
+        );
+        assert!(rt;
+            told_of_text(alloc, lines, most.saturating_add(1), Some(path))?,
+            "one more of {path}"
+        );
+    }
+    Ok(())
+}
+
 /// Whether a route has this class at a place, with so many members, and the leg this class.
 fn is_at(route: &Route, place: usize, name: &[u8], members: usize) -> bool {
-    match route.classes.get(place) {
+    match route.parts().classes.get(place) {
         Some(class) => class.name.as_slice() == name && class.addresses.as_slice().len() == members,
         None => false,
     }
@@ -312,7 +595,7 @@ fn is_at(route: &Route, place: usize, name: &[u8], members: usize) -> bool {
 
 /// Whether the leg at a place is that database's and that class's.
 fn is_leg(route: &Route, place: usize, database: u32, class: u32) -> bool {
-    match route.legs.get(place) {
+    match route.parts().legs.get(place) {
         Some(leg) => leg.database == database && leg.class == class,
         None => false,
     }
@@ -324,13 +607,13 @@ fn classes_are_numbered_as_legs_first_name_them(rt: HostRuntime) {
         Ok(route) => {
             assert!(rt; is_at(&route, 0, b"pair", 2), "the group");
             assert!(rt; is_at(&route, 1, b"gamma", 1), "the target");
-            assert_eq!(rt; route.classes.len(), 2);
+            assert_eq!(rt; route.parts().classes.len(), 2);
             assert!(rt; is_leg(&route, 0, 0, 0), "the leg of the first database");
             assert!(rt; is_leg(&route, 1, 1, 0), "the first leg of the other");
             assert!(rt; is_leg(&route, 2, 1, 1), "its second");
-            assert_eq!(rt; route.legs.len(), 3);
-            assert_eq!(rt; route.indexes.len(), 6);
-            assert_eq!(rt; route.pool.patience, 1000);
+            assert_eq!(rt; route.parts().legs.len(), 3);
+            assert_eq!(rt; route.parts().indexes.len(), 6);
+            assert_eq!(rt; route.parts().pool.patience, 1000);
         }
         Err(fault) => assert!(rt; false, "{fault:?}"),
     }

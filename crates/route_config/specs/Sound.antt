@@ -1,10 +1,17 @@
--- What every route keeps that is read (this project's own): its numbers are in their ranges, its lists in their sizes,
--- and a place is one of the list that it is a place of.
+-- What every route keeps (this project's own): its numbers are in their ranges, its lists in their sizes, and a place is
+-- one of the list that it is a place of.
 use Rattle.std.specs.Prelude.{ℕ, ◌<◌, ◌≤◌, List, length, All}
 use Rattle.z_types.specs.declared.limits.Limits.{Limits}
 use Rattle.route_config.specs.declared.route.PoolNumbers.{PoolNumbers}
-use Rattle.route_config.specs.declared.route.Route.{Route}
-use Rattle.route_text.specs.Sizes.{IsFrom, HasFrom}
+use Rattle.route_config.specs.declared.route.RouteParts.{RouteParts}
+
+-- a number from one to another
+abbrev pub IsFrom : ℕ → ℕ → ℕ → Type 0
+IsFrom low high n = (low ≤ n) × (n ≤ high)
+
+-- so many items
+abbrev pub HasFrom : {A : Type 0} → ℕ → ℕ → List A → Type 0
+HasFrom low high items = IsFrom low high (length items)
 
 pub record ArePoolNumbers (pool : PoolNumbers) : Type 0 where
   pub max_sessions : IsFrom 1 1000 pool.max_sessions
@@ -25,20 +32,20 @@ pub record AreLimits (limits : Limits) : Type 0 where
 abbrev pub AllBelow : ℕ → List ℕ → Type 0
 AllBelow n places = All (λ place. place < n) places
 
-pub record KeepsPlaces (route : Route) : Type 0 where
+pub record KeepsPlaces (route : RouteParts) : Type 0 where
   pub members : All (λ group. AllBelow (length route.targets) group.targets) route.groups
   pub legs : All (λ database. AllBelow (length route.legs) database.legs) route.databases
   pub databases : All (λ leg. leg.database < length route.databases) route.legs
   pub classes : All (λ leg. leg.class < length route.classes) route.legs
 
-pub record KeepsSizes (route : Route) : Type 0 where
+pub record KeepsSizes (route : RouteParts) : Type 0 where
   pub targets : HasFrom 1 64 route.targets
   pub groups : HasFrom 0 64 route.groups
   pub databases : HasFrom 1 64 route.databases
   pub indexes : HasFrom 0 64 route.indexes
   pub schemas : HasFrom 1 16 route.schemas
 
-pub record IsSound (route : Route) : Type 0 where
+pub record IsSound (route : RouteParts) : Type 0 where
   pub places : KeepsPlaces route
   pub sizes : KeepsSizes route
   pub pool : ArePoolNumbers route.pool
