@@ -3,6 +3,10 @@
 use Rattle.std.specs.Prelude.{ℕ, ◌<◌, ◌≤◌, List, length, All}
 use Rattle.z_types.specs.declared.limits.Limits.{Limits}
 use Rattle.route_config.specs.declared.route.PoolNumbers.{PoolNumbers}
+use Rattle.z_types.specs.declared.schemas.Schema.{Schema}
+use Rattle.route_config.specs.declared.route.Group.{Group}
+use Rattle.route_config.specs.declared.route.Database.{Database}
+use Rattle.route_config.specs.declared.route.RouteLeg.{RouteLeg}
 use Rattle.route_config.specs.declared.route.RouteParts.{RouteParts}
 
 -- a number from one to another
@@ -45,8 +49,33 @@ pub record KeepsSizes (route : RouteParts) : Type 0 where
   pub indexes : HasFrom 0 64 route.indexes
   pub schemas : HasFrom 1 16 route.schemas
 
+-- a name of 1 to 64 octets, and 1 to 16 members
+abbrev pub IsGroup : Group → Type 0
+IsGroup group = HasFrom 1 64 group.name × HasFrom 1 16 group.targets
+
+-- a name of 1 to 64 octets, and 1 to 16 legs
+abbrev pub IsDatabase : Database → Type 0
+IsDatabase database = HasFrom 1 64 database.name × HasFrom 1 16 database.legs
+
+-- 1 to 16 databases of 1 to 64 octets
+abbrev pub IsLeg : RouteLeg → Type 0
+IsLeg leg = HasFrom 1 16 leg.databases × All (HasFrom 1 64) leg.databases
+
+-- texts of 1 to 128 octets
+abbrev pub IsSchema : Schema → Type 0
+IsSchema schema = HasFrom 1 128 schema.name × HasFrom 1 128 schema.uri × HasFrom 1 128 schema.element
+
+pub record KeepsItems (route : RouteParts) : Type 0 where
+  pub targets : All (λ target. HasFrom 1 64 target.name) route.targets
+  pub groups : All IsGroup route.groups
+  pub databases : All IsDatabase route.databases
+  pub legs : All IsLeg route.legs
+  pub indexes : All (λ index. index.value ≤ 2147483647) route.indexes
+  pub schemas : All IsSchema route.schemas
+
 pub record IsSound (route : RouteParts) : Type 0 where
   pub places : KeepsPlaces route
   pub sizes : KeepsSizes route
+  pub items : KeepsItems route
   pub pool : ArePoolNumbers route.pool
   pub limits : AreLimits route.limits

@@ -56,15 +56,17 @@ short_target : (value : Data) → HasShortHost (target_in value).address
 unfolding target_in
 short_target value = short_value (at target_keys (codes "address") value)
 
-group_size : (path : List ℕ) (value : Data) → refusal (Table group_keys) path value ≡ None → HasFrom 1 16 (group_in value).targets
+-- a group has 1 to 16 members
+pub group-size : (path : List ℕ) (value : Data) → refusal (Table group_keys) path value ≡ None → HasFrom 1 16 (group_in value).targets
 unfolding group_in group_keys
-group_size path value h =
+group-size path value h =
     let keys = neither _ None (neither _ _ (keys-passed group_keys path value h)).1 in
     list-within text (Text Any) 1 16 (key_path path (codes "targets")) (at group_keys (codes "targets") value) (required-passed (refusal (Array 1 16 (Text Any))) (key_path path (codes "targets")) (get (codes "targets") value) keys.0)
 
-database_size : (path : List ℕ) (value : Data) → refusal (Table database_keys) path value ≡ None → HasFrom 1 16 (database_in value).legs
+-- a database has 1 to 16 legs
+pub database-size : (path : List ℕ) (value : Data) → refusal (Table database_keys) path value ≡ None → HasFrom 1 16 (database_in value).legs
 unfolding database_in database_keys
-database_size path value h =
+database-size path value h =
     let keys = neither _ None (neither _ _ (neither _ _ (keys-passed database_keys path value h)).1).1 in
     list-within leg_in (Table leg_keys) 1 16 (key_path path (codes "leg")) (at database_keys (codes "leg") value) (required-passed (refusal (Array 1 16 (Table leg_keys))) (key_path path (codes "leg")) (get (codes "leg") value) keys.0)
 
@@ -81,9 +83,9 @@ sizes tree h =
     record {
       targets = list-within target_in (Table target_keys) 1 64 (codes "target") (at top_keys (codes "target") tree) targets;
       hosts = all_listed target_in (λ target. HasShortHost target.address) short_target (unwrap_or (as_array (at top_keys (codes "target") tree)) no_items);
-      groups = array-all group_in (Table group_keys) (λ group. HasFrom 1 16 group.targets) group_size 0 64 (codes "group") (at top_keys (codes "group") tree) groups;
+      groups = array-all group_in (Table group_keys) (λ group. HasFrom 1 16 group.targets) group-size 0 64 (codes "group") (at top_keys (codes "group") tree) groups;
       databases = list-within database_in (Table database_keys) 1 64 (codes "database") (at top_keys (codes "database") tree) databases;
-      legs = array-all database_in (Table database_keys) (λ database. HasFrom 1 16 database.legs) database_size 1 64 (codes "database") (at top_keys (codes "database") tree) databases;
+      legs = array-all database_in (Table database_keys) (λ database. HasFrom 1 16 database.legs) database-size 1 64 (codes "database") (at top_keys (codes "database") tree) databases;
     }
 
 -- the address of a target's name is short, also where there is none
