@@ -3,3 +3,8 @@ pub mod Sources
 pub mod Sinks
 pub mod Files
 pub mod Targets
+pub mod Asks
+pub mod Replies
+pub mod Peers
+pub mod Wires
+pub mod Sessions

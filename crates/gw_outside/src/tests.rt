@@ -1,6 +1,7 @@
 //! Fakes of the outside: each trait can be met, and a sink that fails at named calls.
 
-ghost use Rattle.std.specs.Prelude.{[], ◌∷◌, Some, None, Ok, Err, refl, drop, if◌then◌else◌, ◌==◌};
+ghost use Rattle.std.specs.Prelude.{[], ◌∷◌, Some, None, Ok, Err, refl, drop, length, if◌then◌else◌, ◌==◌, ◌≤◌};
+ghost use Rattle.z_types.specs.Pending.{opening};
 ghost use Rattle.std.proofs.Math.Nat.{min-le_right};
 ghost use Rattle.z_types.specs.Bounds.{most_number};
 ghost use Rattle.z_types.specs.Bib1.{bib1};
@@ -11,8 +12,8 @@ use crate::*;
 use std::alloc::Global;
 use std::test::Fail;
 use z_types::{
-    Address, Condition, Diag, Item, List, Memory, Oid, Rpn, RpnQuery, ScanAnswer, ScanAsk, Term,
-    Text, World, copy,
+    Address, Ask, Condition, Diag, Item, List, Memory, Oid, Rpn, RpnQuery, ScanAnswer, ScanAsk,
+    Sitting, Term, Text, World, copy,
 };
 
 /// A sink that takes at most two octets at a call, and fails at the call of a number.
@@ -104,7 +105,7 @@ impl Files for FakeFiles {
 struct FakeTargets {}
 
 impl World for FakeTargets {
-    ghost told = { λ _. Unit {0} };
+    ghost told = { λ _. ⊥ };
 
     ghost search = { λ _ _. Ok 0 };
 
@@ -151,6 +152,162 @@ impl Targets for FakeTargets {
             entries: List::new(alloc),
         })
     }
+}
+
+/// A link over which one octet comes at each look, three in all.
+#[derive(Drop)]
+struct FakeLink {
+    bytes: Vec<u8>,
+    taken: usize,
+    looks: u8,
+    ghost within: { taken ≤ length bytes.items },
+}
+
+impl Linked for FakeLink {
+    ghost arrived = { λ link. drop link.taken link.bytes.items };
+
+    ghost peer = { λ _. None };
+}
+
+/// A wire that sends nothing.
+#[derive(Drop)]
+struct FakeWire {
+    faults: u64,
+    waits: u64,
+}
+
+impl Wire<FakeTargets> for FakeWire {
+    type Link = FakeLink;
+
+    ghost faults = { λ wire. wire.faults };
+
+    ghost waits = { λ wire. wire.waits };
+
+    ghost tally = { λ _. None };
+
+    fn dial(&mut self, alloc: Global, _: &Address) -> Dialled<FakeLink> {
+        Dialled::Link(FakeLink {
+            bytes: Vec::new(alloc),
+            taken: 0,
+            looks: 0,
+        })
+    }
+
+    fn send(&mut self, _: Global, _: &mut FakeLink, _: &[u8]) -> Sent {
+        self.faults = self.faults.saturating_add(1);
+        Sent::Failed
+    }
+
+    fn look(&mut self, _: Global, link: &mut FakeLink) -> Looked {
+        if 3 <= link.looks {
+            self.waits = self.waits.saturating_add(1);
+            return Looked::NotYet;
+        }
+        link.looks += 1;
+        match link.bytes.push(link.looks) {
+            Ok(()) => Looked::Arrived,
+            Err(_) => Looked::Memory,
+        }
+    }
+
+    fn arrived<'a>(&self, link: &'a FakeLink) -> &'a [u8] {
+        &link.bytes[link.taken..]
+    }
+
+    fn consume(&mut self, link: &mut FakeLink, count: usize) {
+        link.taken += count;
+    }
+}
+
+/// A session, and what it waits for as its backend sees it.
+#[derive(Drop)]
+struct FakeSession {
+    address: Address,
+}
+
+impl Sitting<FakeTargets> for FakeSession {
+    ghost address = { λ session. session.address };
+
+    ghost made = { λ _ _. None };
+
+    ghost pending = { λ _. opening };
+}
+
+/// A backend that hears nothing.
+#[derive(Drop)]
+struct FakeBackend {
+    dials: u64,
+    waits: u64,
+}
+
+impl Backend<FakeTargets> for FakeBackend {
+    type Session = FakeSession;
+
+    ghost faults = { λ _. 0 };
+
+    ghost waits = { λ backend. backend.waits };
+
+    ghost gones = { λ _. 0 };
+
+    ghost searches = { λ _. 0 };
+
+    ghost dials = { λ backend. backend.dials };
+
+    fn open_(&mut self, _: Global, address: &Address) -> Opening<FakeSession> {
+        self.dials = self.dials.saturating_add(1);
+        match copy(address) {
+            Ok(address) => Opening::Session(FakeSession { address }),
+            Err(_) => Opening::Memory,
+        }
+    }
+
+    fn start(&mut self, _: Global, _: &mut FakeSession, _: &Ask) -> Began {
+        unreachable!()
+    }
+
+    fn look(&mut self, _: Global, _: &mut FakeSession) -> Heard {
+        self.waits = self.waits.saturating_add(1);
+        Heard::NotYet
+    }
+}
+
+/// How far a wire comes: whether what is sent fails, and how many octets have arrived when a look
+/// finds nothing.
+fn over_wire<W: World, Wr: Wire<W>>(alloc: Global, wire: &mut Wr) -> (bool, usize) {
+    let Dialled::Link(mut link) = wire.dial(alloc, &Address::Test(0)) else {
+        return (false, 0);
+    };
+    let sent = wire.send(alloc, &mut link, b"z");
+    for _ in 0..10 {
+        if wire.look(alloc, &mut link) == Looked::NotYet {
+            break;
+        }
+    }
+    let count = wire.arrived(&link).len();
+    wire.consume(&mut link, count);
+    (sent == Sent::Failed, count)
+}
+
+/// Whether a backend waits after it has opened a session.
+fn waits<W: World, B: Backend<W>>(alloc: Global, backend: &mut B) -> bool {
+    let Opening::Session(mut session) = backend.open_(alloc, &Address::Test(0)) else {
+        return false;
+    };
+    matches!(backend.look(alloc, &mut session), Heard::NotYet)
+}
+
+#[test]
+fn fakes_of_links_meet_the_traits(rt: HostRuntime) {
+    let mut wire = FakeWire {
+        faults: 0,
+        waits: 0,
+    };
+    assert_eq!(rt;
+        over_wire::<FakeTargets, FakeWire>(rt.alloc(), &mut wire),
+        (true, 3)
+    );
+    let mut backend = FakeBackend { dials: 0, waits: 0 };
+    assert!(rt; waits::<FakeTargets, FakeBackend>(rt.alloc(), &mut backend));
 }
 
 /// Whether a write of five octets, of which the call of a number fails, is answered so and leaves this.
