@@ -2,3 +2,4 @@ pub mod Calls
 pub mod Planned
 pub mod Named
 pub mod Moments
+pub mod FakeSessions

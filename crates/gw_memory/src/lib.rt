@@ -5,6 +5,7 @@
 mod calls;
 mod clocks;
 mod files;
+mod sessions;
 mod sinks;
 mod sources;
 #[cfg(test)]
@@ -12,5 +13,6 @@ mod tests;
 
 pub use clocks::MemoryClock;
 pub use files::MemoryFiles;
+pub use sessions::{FakeBackend, FakeSession, Waiting};
 pub use sinks::MemorySink;
 pub use sources::MemorySource;
