@@ -3,3 +3,4 @@ pub mod FoundLemmas
 pub mod PlacesLemmas
 pub mod Dotted
 pub mod ScansLemmas
+pub mod PeerLemmas

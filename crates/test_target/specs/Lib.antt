@@ -7,3 +7,4 @@ pub mod Records
 pub mod Scans
 pub mod World
 pub mod WorldLaws
+pub mod Peer

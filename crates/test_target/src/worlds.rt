@@ -90,7 +90,12 @@ impl Targets for TestWorld {
 }
 
 /// The answer of a test target to a search.
-fn search_at(alloc: Global, target: u32, dbs: &List<Text>, query: &RpnQuery) -> TargetAnswer<u32>
+pub(crate) fn search_at(
+    alloc: Global,
+    target: u32,
+    dbs: &List<Text>,
+    query: &RpnQuery,
+) -> TargetAnswer<u32>
     ensures { AnswersAs result
         (search_at target (record { dbs = dbs.now; query = query.now })) }
 {
@@ -118,7 +123,12 @@ fn search_fault(
 }
 
 /// The answer of a test target to a scan.
-fn scan_at(alloc: Global, target: u32, dbs: &List<Text>, ask: &ScanAsk) -> TargetAnswer<ScanAnswer>
+pub(crate) fn scan_at(
+    alloc: Global,
+    target: u32,
+    dbs: &List<Text>,
+    ask: &ScanAsk,
+) -> TargetAnswer<ScanAnswer>
     ensures { AnswersAs result (scan_at target dbs.now ask.now) }
 {
     match scan_fault(alloc, target, dbs, &ask.attrs) {
