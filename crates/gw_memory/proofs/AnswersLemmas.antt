@@ -1,5 +1,5 @@
 -- What an answer to an ask is (this project's own)
-use Rattle.std.proofs.Common.{◌≡◌, ◌≢◌, ℕ, List, Bool, true, false, Option, None, Some, refl}
+use Rattle.std.proofs.Common.{◌≡◌, ℕ, List, false, Option, None, Some, refl}
 use Rattle.z_types.specs.Pending.{asked}
 use Rattle.z_types.specs.declared.address.Address.{Address}
 use Rattle.z_types.specs.declared.ask.Ask.{Ask}

@@ -1,5 +1,5 @@
 -- Sessions in memory (this project's own)
-use Rattle.std.specs.Prelude.{◌≡◌, ℕ, ◌≤◌, List, [], ◌∷◌, length, Option, None, Some, Result, Ok, Err, if◌then◌else◌}
+use Rattle.std.specs.Prelude.{◌≡◌, ℕ, ◌≤◌, List, [], ◌∷◌, length, Option, None, Result, Ok, Err, if◌then◌else◌}
 use Rattle.z_types.specs.declared.diagnostic.Diag.{Diag}
 use Rattle.z_types.specs.declared.records.Item.{Item}
 use Rattle.z_types.specs.declared.scan.ScanAnswer.{ScanAnswer}
@@ -9,7 +9,7 @@ use Rattle.z_types.specs.declared.ask.Ask.{Ask}
 use Rattle.z_types.specs.declared.key.SetKey.{SetKey}
 use Rattle.z_types.specs.declared.world.World as world
 use Rattle.gw_outside.specs.declared.backends.Heard.{Heard}
-use Rattle.gw_outside.specs.declared.backends.Heard.TheVariants.{Opened, Hits, Refused, Items, Gone, Scanned, NotYet, Failed, Memory}
+use Rattle.gw_outside.specs.declared.backends.Heard.TheVariants.{Refused, Items, Gone, Scanned, NotYet, Failed, Memory}
 use Rattle.gw_outside.specs.Peers.{is_named, AreRecords}
 use Rattle.gw_outside.specs.Sessions.{Made, AnswerFits, IsWorlds}
 use Rattle.gw_memory.specs.declared.sessions.Waiting.{Waiting}

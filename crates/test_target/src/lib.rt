@@ -13,8 +13,6 @@ mod scan_replies;
 mod scans;
 mod searches;
 mod syntaxes;
-#[cfg(test)]
-mod tests;
 mod worlds;
 
 pub use peers::{Peer, peer_step};

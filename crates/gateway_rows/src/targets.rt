@@ -1,44 +1,17 @@
 //! Searches, records and scans of the test targets whose answers were worked out by hand from their meaning: `a` is
 //! found at every eighth record, `b` at every second, `c` at every third, `-1` at every fifth.
 
-use crate::TestWorld;
+use crate::asks::{databases, operand, word};
 use gw_outside::{TargetAnswer, Targets};
 use std::alloc::Global;
 use std::test::Fail;
+use test_target::TestWorld;
 use z_types::{
     Address, Attr, Item, List, Memory, Oid, Rpn, RpnQuery, ScanAnswer, ScanAsk, Term, Text,
 };
 
-/// An operand of these attributes, each a type and a value.
-fn operand(alloc: Global, attrs: &[(u32, u32)], term: Term) -> Result<Rpn, Memory> {
-    let mut list = List::new(alloc);
-    for (kind, value) in attrs {
-        list.push(Attr {
-            set: None,
-            kind: *kind,
-            value: *value,
-        })?;
-    }
-    Ok(Rpn::leaf(list, term))
-}
-
-/// An operand of a Use attribute and a word.
-fn word(alloc: Global, value: u32, word: &str) -> Result<Rpn, Memory> {
-    let text = Text::copy_of(alloc, word.as_bytes())?;
-    operand(alloc, &[(1, value)], Term::General(text))
-}
-
 fn set(alloc: Global) -> Result<Rpn, Memory> {
     Ok(Rpn::operand(Text::copy_of(alloc, b"s")?))
-}
-
-/// Texts of these names.
-fn databases(alloc: Global, names: &[&str]) -> Result<List<Text>, Memory> {
-    let mut texts = List::new(alloc);
-    for name in names {
-        texts.push(Text::copy_of(alloc, name.as_bytes())?)?;
-    }
-    Ok(texts)
 }
 
 /// The hits of a search, or the number of its diagnostic, and what that is about.

@@ -1,0 +1,11 @@
+//! A client of targets (ANSI/NISO Z39.50-2003): sessions over the links of a wire. Units are written by
+//! `z_write`, framed as they come and read by `z_read`; what a reply says is taken by what was asked.
+#![tactic(auto)]
+
+mod backend;
+mod replies;
+mod session;
+mod units;
+
+pub use backend::ZBackend;
+pub use session::ZSession;
