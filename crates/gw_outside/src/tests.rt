@@ -1,7 +1,6 @@
 //! Fakes of the outside: each trait can be met, and a sink that fails at named calls.
 
 ghost use Rattle.std.specs.Prelude.{[], Some, None, Ok, Err, refl, drop, length, if◌then◌else◌, ◌==◌, ◌≤◌};
-ghost use Rattle.z_types.specs.Pending.{opening};
 ghost use Rattle.std.proofs.Math.Nat.{min-le_right};
 ghost use Rattle.z_types.specs.Bounds.{most_number};
 ghost use Rattle.z_types.specs.Bib1.{bib1};
@@ -12,8 +11,8 @@ use crate::*;
 use std::alloc::Global;
 use std::test::Fail;
 use z_types::{
-    Address, Ask, Condition, Diag, Item, List, Memory, Oid, Rpn, RpnQuery, ScanAnswer, ScanAsk,
-    Sitting, Term, Text, World, copy,
+    Address, Condition, Diag, Item, List, Memory, Oid, Rpn, RpnQuery, ScanAnswer, ScanAsk, Term,
+    Text, World, copy,
 };
 
 /// A sink that takes at most two octets at a call, and fails at the call of a number.
@@ -219,58 +218,6 @@ impl Wire<FakeTargets> for FakeWire {
     }
 }
 
-/// A session, and what it waits for as its backend sees it.
-#[derive(Drop)]
-struct FakeSession {
-    address: Address,
-}
-
-impl Sitting<FakeTargets> for FakeSession {
-    ghost address = { λ session. session.address };
-
-    ghost made = { λ _ _. None };
-
-    ghost pending = { λ _. opening };
-}
-
-/// A backend that hears nothing.
-#[derive(Drop)]
-struct FakeBackend {
-    dials: u64,
-    waits: u64,
-}
-
-impl Backend<FakeTargets> for FakeBackend {
-    type Session = FakeSession;
-
-    ghost faults = { λ _. 0 };
-
-    ghost waits = { λ backend. backend.waits };
-
-    ghost gones = { λ _. 0 };
-
-    ghost searches = { λ _. 0 };
-
-    ghost dials = { λ backend. backend.dials };
-
-    fn open_(&mut self, _: Global, address: &Address) -> Opening<FakeSession> {
-        self.dials = self.dials.saturating_add(1);
-        match copy(address) {
-            Ok(address) => Opening::Session(FakeSession { address }),
-            Err(_) => Opening::Memory,
-        }
-    }
-
-    fn start(&mut self, _: Global, _: &mut FakeSession, _: &Ask) -> Began {
-        unreachable!()
-    }
-
-    fn look(&mut self, _: Global, _: &mut FakeSession) -> Heard {
-        self.waits = self.waits.saturating_add(1);
-        Heard::NotYet
-    }
-}
-
 /// How far a wire comes: whether what is sent fails, and how many octets have arrived when a look
 /// finds nothing.
 fn over_wire<W: World, Wr: Wire<W>>(alloc: Global, wire: &mut Wr) -> (bool, usize) {
@@ -288,16 +235,8 @@ fn over_wire<W: World, Wr: Wire<W>>(alloc: Global, wire: &mut Wr) -> (bool, usiz
     (sent == Sent::Failed, count)
 }
 
-/// Whether a backend waits after it has opened a session.
-fn waits<W: World, B: Backend<W>>(alloc: Global, backend: &mut B) -> bool {
-    let Opening::Session(mut session) = backend.open_(alloc, &Address::Test(0)) else {
-        return false;
-    };
-    matches!(backend.look(alloc, &mut session), Heard::NotYet)
-}
-
 #[test]
-fn fakes_of_links_meet_the_traits(rt: HostRuntime) {
+fn a_fake_of_links_meets_the_trait(rt: HostRuntime) {
     let mut wire = FakeWire {
         faults: 0,
         waits: 0,
@@ -306,8 +245,6 @@ fn fakes_of_links_meet_the_traits(rt: HostRuntime) {
         over_wire::<FakeTargets, FakeWire>(rt.alloc(), &mut wire),
         (true, 3)
     );
-    let mut backend = FakeBackend { dials: 0, waits: 0 };
-    assert!(rt; waits::<FakeTargets, FakeBackend>(rt.alloc(), &mut backend));
 }
 
 /// Whether a write of five octets, of which the call of a number fails, is answered so and leaves this.
