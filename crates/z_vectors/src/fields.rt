@@ -4,6 +4,7 @@ use std::alloc::Global;
 use z_types::{
     Asked, Attr, Body, Close, Diag, Form, Init, Item, List, Memory, NamedRecord, Oid, Present,
     Reply, Request, Rpn, RpnQuery, Scan, ScanAnswer, ScanAsk, ScanEntry, Search, Term, Text,
+    is_oid,
 };
 
 /// The attribute set and the diagnostics of bib-1, and the record syntax XML.
@@ -273,8 +274,11 @@ fn diagnostics(alloc: Global, told: &[(u32, &'static str)]) -> Result<List<Diag>
     Ok(list)
 }
 
-/// A record in a syntax.
+/// A record in a syntax; none where that is no object identifier.
 fn record(alloc: Global, syntax: &[u32], form: Form, octets: &[u8]) -> Result<Item, Memory> {
+    if !is_oid(syntax) {
+        return Err(Memory);
+    }
     Ok(Item::Record {
         syntax: Oid::copy_of(alloc, syntax)?,
         form,
