@@ -9,6 +9,8 @@ mod encoded;
 #[cfg(test)]
 mod fields;
 #[cfg(test)]
+mod oid;
+#[cfg(test)]
 mod reply_refusals;
 #[cfg(test)]
 mod request_refusals;
