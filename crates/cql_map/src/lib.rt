@@ -9,14 +9,8 @@ mod index;
 mod leaf;
 mod map;
 mod operator;
-#[cfg(test)]
-mod reading_tokens;
-#[cfg(test)]
-mod reading_trees;
 mod relation;
 mod term;
-#[cfg(test)]
-mod tests;
 mod words;
 
 pub use fault::MapFault;

@@ -14,5 +14,3 @@ pub use bare::{Refusal, bare_text};
 pub use escape::put_escaped;
 pub use response::reply_text;
 
-#[cfg(test)]
-mod tests;

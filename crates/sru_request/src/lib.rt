@@ -20,5 +20,3 @@ pub use head::{Get, HeadGot, MOST_FIELDS, MOST_HEAD_OCTETS, read_head};
 pub use name::name_of;
 pub use query::{SruQuery, query_of};
 
-#[cfg(test)]
-mod tests;

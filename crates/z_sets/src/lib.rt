@@ -11,5 +11,3 @@ pub use expansion::expand;
 pub use fault::ExpandFault;
 pub use sets::{find_set, put_set, remove_set};
 
-#[cfg(test)]
-mod tests;

@@ -1,8 +1,8 @@
 //! Sets made of one another, and expansions at the edges of the bounds.
 
-use crate::*;
 use std::alloc::Global;
 use std::test::Fail;
+use z_sets::{ExpandFault, expand, find_set, put_set, remove_set};
 use z_types::{Attr, KnownSet, List, Memory, Oid, Rpn, RpnQuery, Term, Text};
 
 const BIB1: &[u32] = &[1, 2, 840, 10003, 3, 1];

@@ -1,6 +1,6 @@
 //! Replies octet for octet.
 
-use crate::*;
+use sru_reply::{Refusal, bare_text, reply_text};
 use std::alloc::Global;
 use std::test::Fail;
 use z_types::{List, Memory, SruAnswer, SruDiag, SruItem, Text};

@@ -1,6 +1,6 @@
 //! Heads and parameters as they come.
 
-use crate::*;
+use sru_request::{Get, HeadFault, HeadGot, QueryFault, SruQuery, name_of, query_of, read_head};
 use std::alloc::Global;
 use std::test::Fail;
 use z_types::{List, Memory, Schema, Text};

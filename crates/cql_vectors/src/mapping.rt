@@ -1,8 +1,8 @@
 //! Queries of CQL and what they are mapped to, in prefix notation: `@attr` with type and value, and
 //! operators in front. The expected attributes are those of bib-1 that docs/formats/cql.md lists.
 
-use crate::{MapFault, to_rpn};
 use cql_lex::tokens;
+use cql_map::{MapFault, to_rpn};
 use cql_parse::parse;
 use route_config::Index;
 use std::alloc::Global;
