@@ -149,6 +149,7 @@ pub fn read_header(bytes: &[u8]) -> Result<(Tag, Option<u64>, &[u8]), BerFault>
 }
 
 /// Reads the tag and the length that octets begin with.
+#[inline(always)]
 pub fn header(bytes: &[u8]) -> Result<Header, BerFault>
     ensures { IsHeaderAnswer bytes.now result }
 {
