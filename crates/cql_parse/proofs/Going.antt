@@ -1,5 +1,5 @@
 -- What one part of a query answers, from what its own parts answer.
-use Rattle.std.proofs.Common.{◌≡◌, ◌↔◌, ℕ, suc, ◌<◌, ◌≤◌, true, List, [], ◌∷◌, ◌++◌, reverse, Option, Some, None, option_map, Result, Ok, Err, Bor, ⊎_elim, inl, inr, refl, sym, ◌∙◌, subst, ap, arith}
+use Rattle.std.proofs.Common.{◌≡◌, ◌↔◌, ℕ, suc, ◌<◌, ◌≤◌, true, List, [], ◌∷◌, Option, Some, None, option_map, Result, Ok, Err, Bor, ⊎_elim, inl, inr, refl, sym, ◌∙◌, subst, ap, arith}
 use Rattle.cql_lex.specs.declared.token.Token.{Token}
 use Rattle.cql_parse.specs.declared.tree.Modifier.{Modifier}
 use Rattle.cql_parse.specs.declared.tree.Head.{Head}
@@ -21,7 +21,6 @@ use Rattle.cql_parse.specs.Nesting.{nesting}
 use Rattle.cql_parse.specs.ParserAnswers.{Finds}
 use Rattle.cql_parse.specs.ParserBrackets.{IsFull}
 use Rattle.cql_parse.specs.ParserState.{left_of, due_of, Makes, Ends, Completes, Goes, Unwinds, Finishes, Builds, Shallow}
-use Rattle.std.proofs.lemmas.List.{reverse-append}
 use Rattle.std.proofs.lemmas.Bool.{cases_lt}
 use Rattle.cql_parse.proofs.Steps.{bracket_step, clause_step, prefix_step, boolean_step, sort_step, end_step, close_step}
 use Rattle.cql_parse.proofs.Deeper.{completes_deep, ends_deep, nesting_least, nesting_open}
@@ -44,19 +43,13 @@ open_full text n due old new x ts NoQuery o h = absurd h
 open_full text n due old new x ts Deep o h = λ t c. inr (rw (nesting_open n x ts o) (omega (arith, h, nesting_least (suc n) ts)))
 open_full text n due old new x ts Memory o h = tt
 
--- the last frame is the innermost
-pub reverse_push : (xs : List Frame) (x : Frame) → reverse (xs ++ x ∷ []) ≡ x ∷ reverse xs
-reverse_push xs x = simp reverse-append
-
-pub open_goes : (text : List ℕ) (n : ℕ) (left : Option LeftOperand) (old new : List Frame) (x : Lexeme) (rest : Bor (List Token)) → is_open x.class ≡ true → new ≡ old ++ Bracket left ∷ [] → Goes text n (operand (option_map left_of left)) (reverse old) (x ∷ lexemes text rest.now) (reverse new) (Ok (Operand None, rest))
+pub open_goes : (text : List ℕ) (n : ℕ) (left : Option LeftOperand) (old new : List Frame) (x : Lexeme) (rest : Bor (List Token)) → is_open x.class ≡ true → new ≡ Bracket left ∷ old → Goes text n (operand (option_map left_of left)) old (x ∷ lexemes text rest.now) new (Ok (Operand None, rest))
 open_goes text n left old new x rest o e = λ t.
-    let frames : reverse new ≡ Bracket left ∷ reverse old = ap reverse e ∙ reverse_push old (Bracket left) in
-    subst (λ (fs : List Frame). Completes (operand (option_map left_of left)) (reverse old) (x ∷ lexemes text rest.now) t ↔ Completes (operand None) fs (lexemes text rest.now) t) (sym frames) (bracket_step left (reverse old) x (lexemes text rest.now) t o)
+    subst (λ (fs : List Frame). Completes (operand (option_map left_of left)) old (x ∷ lexemes text rest.now) t ↔ Completes (operand None) fs (lexemes text rest.now) t) (sym e) (bracket_step left old x (lexemes text rest.now) t o)
 
-pub prefix_goes : (text : List ℕ) (n : ℕ) (left : Option LeftOperand) (old new : List Frame) (ts : List Lexeme) (name : Option (List ℕ)) (uri : List ℕ) (rest : Bor (List Token)) → IsPrefix ts name uri (lexemes text rest.now) → new ≡ old ++ Prefix left name uri ∷ [] → Goes text n (operand (option_map left_of left)) (reverse old) ts (reverse new) (Ok (Operand None, rest))
+pub prefix_goes : (text : List ℕ) (n : ℕ) (left : Option LeftOperand) (old new : List Frame) (ts : List Lexeme) (name : Option (List ℕ)) (uri : List ℕ) (rest : Bor (List Token)) → IsPrefix ts name uri (lexemes text rest.now) → new ≡ Prefix left name uri ∷ old → Goes text n (operand (option_map left_of left)) old ts new (Ok (Operand None, rest))
 prefix_goes text n left old new ts name uri rest p e = λ t.
-    let frames : reverse new ≡ Prefix left name uri ∷ reverse old = ap reverse e ∙ reverse_push old (Prefix left name uri) in
-    subst (λ (fs : List Frame). Completes (operand (option_map left_of left)) (reverse old) ts t ↔ Completes (operand None) fs (lexemes text rest.now) t) (sym frames) (prefix_step left (reverse old) ts name uri (lexemes text rest.now) t p)
+    subst (λ (fs : List Frame). Completes (operand (option_map left_of left)) old ts t ↔ Completes (operand None) fs (lexemes text rest.now) t) (sym e) (prefix_step left old ts name uri (lexemes text rest.now) t p)
 
 pub clause_goes : (text : List ℕ) (n : ℕ) (left : Option LeftOperand) (fs : List Frame) (ts : List Lexeme) (head : Option Head) (term : List ℕ) (rest : Bor (List Token)) (g : Grown) (made : Tree) → IsClause ts head term (lexemes text rest.now) → g.tree ≡ join (option_map left_of left) made → made ≡ clause head term → Goes text n (operand (option_map left_of left)) fs ts fs (Ok (After g, rest))
 clause_goes text n left fs ts head term rest g made c e m = λ t.
@@ -96,13 +89,12 @@ close_deep query old new x left inner ts c u t h =
     completes_deep (join (option_map left_of left) inner.tree) new ts t ((close_step left new inner.tree x ts t c).0 ((u (x ∷ ts) t).0 ((close_ends query old x ts t c).0 h)))
 
 -- a prefix assignment that makes a query too deep makes the whole so
-pub unwind_deep : (whole : Tree) (old cur new left_over : List Frame) (query : Tree) (left : Option LeftOperand) (name : Option (List ℕ)) (uri : List ℕ) (made : Tree) (e : Stop) → ((rest : List Lexeme) (t : Tree) → Ends old whole rest t ↔ Ends (reverse cur) query rest t) → cur ≡ new ++ Prefix left name uri ∷ [] → depth made ≤ depth (join (option_map left_of left) (assigned name uri query)) → Makes (Err e) made → Unwinds whole old left_over (Err e)
+pub unwind_deep : (whole : Tree) (old cur new left_over : List Frame) (query : Tree) (left : Option LeftOperand) (name : Option (List ℕ)) (uri : List ℕ) (made : Tree) (e : Stop) → ((rest : List Lexeme) (t : Tree) → Ends old whole rest t ↔ Ends cur query rest t) → cur ≡ Prefix left name uri ∷ new → depth made ≤ depth (join (option_map left_of left) (assigned name uri query)) → Makes (Err e) made → Unwinds whole old left_over (Err e)
 unwind_deep whole old cur new left_over query left name uri made NoQuery same frames has h = absurd h
 unwind_deep whole old cur new left_over query left name uri made Memory same frames has h = tt
 unwind_deep whole old cur new left_over query left name uri made Deep same frames has h = λ rest t ends.
-    let inner : reverse cur ≡ Prefix left name uri ∷ reverse new = ap reverse frames ∙ reverse_push new (Prefix left name uri) in
-    let here = subst (λ (fs : List Frame). Ends fs query rest t) inner ((same rest t).0 ends) in
-    omega (arith, h, has, ends_deep (reverse new) (join (option_map left_of left) (assigned name uri query)) rest t here)
+    let here = subst (λ (fs : List Frame). Ends fs query rest t) frames ((same rest t).0 ends) in
+    omega (arith, h, has, ends_deep new (join (option_map left_of left) (assigned name uri query)) rest t here)
 
 -- where no tokens are left and no bracket is open, the query is whole
 pub finish_whole : (query : Tree) (old new : List Frame) (g : Grown) → Unwinds query old new (Ok (Whole g)) → (t : Tree) → Completes (after query) old [] t ↔ (t ≡ g.tree)

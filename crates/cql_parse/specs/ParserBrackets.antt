@@ -1,10 +1,15 @@
--- Which frames of an unfinished query are brackets (this project's own).
-use Rattle.std.specs.Prelude.{◌≡◌, ℕ, Bool, true, false}
+-- What an unfinished query is within: brackets and prefix assignments (this project's own).
+use Rattle.std.specs.Prelude.{◌≡◌, ℕ, List, Bool, true, false}
 use Rattle.cql_parse.specs.declared.fault.Stop.{Stop}
 use Rattle.cql_parse.specs.declared.fault.Stop.TheVariants.{NoQuery, Deep, Memory}
 use Rattle.cql_parse.specs.declared.frame.Frame.{Frame}
 use Rattle.cql_parse.specs.declared.frame.Frame.TheVariants.{Bracket, Prefix}
 use Rattle.z_types.specs.Bounds.{most_query_depth}
+
+-- the frames, the innermost first, and how many of them are brackets
+pub record Within : Type 0 where
+  pub frames : List Frame
+  pub brackets : ℕ
 
 abbrev pub is_bracket : Frame → Bool
 is_bracket (Bracket left) = true

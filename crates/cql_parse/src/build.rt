@@ -5,7 +5,7 @@ ghost use Rattle.cql_parse.specs.Classes.{is_open, is_boolean, is_sortby, is_clo
 ghost use Rattle.cql_parse.specs.Lexemes.{lexemes, starts};
 ghost use Rattle.cql_parse.specs.Grammar.{after};
 ghost use Rattle.cql_parse.specs.ParserState.{due_of, Unwinds, Finishes, Builds, Shallow, closed_in};
-ghost use Rattle.cql_parse.specs.ParserSteps.{frames_of, operand_of, GoesOnFront, GoesOnTokens};
+ghost use Rattle.cql_parse.specs.ParserSteps.{operand_of, GoesOnFront, GoesOnTokens};
 ghost use Rattle.cql_parse.specs.ParserSteps.{NestsOnFront, NestsOnTokens, KeepsNestingFront, KeepsNestingTokens};
 
 use crate::clauses::{clause, keys, modifiers, prefix};
@@ -126,7 +126,7 @@ fn read_sort<'a>(
 
 /// Puts the prefix assignments that end with a query around it, up to the brackets that it is in.
 fn unwind(alloc: Global, stack: &mut Stack, query: Grown) -> Result<Ended, Stop>
-    ensures unwinds { Unwinds query.tree (frames_of stack.old) (frames_of stack.new) result }
+    ensures unwinds { Unwinds query.tree stack.old.frames stack.new.frames result }
     ensures brackets { IfOk result (λ e. stack.old.brackets ≡ stack.new.brackets + closed_in e) }
 {
     let mut query = query;
@@ -155,6 +155,7 @@ fn close_bracket<'a>(
     ensures nested { NestsOnFront text.now stack.old front.entry stack.new result }
     ensures shorter { IfOk result (λ next. length next.1.now ≤ length front.entry.rest.now) }
 {
+    stack.are_few();
     match unwind(alloc, stack, query)? {
         Ended::Inner(left, query) => {
             let query = grow::join(alloc, left, query)?;
@@ -231,7 +232,7 @@ fn step<'a>(
 
 /// Ends a query where the tokens end.
 fn finish(alloc: Global, state: State, stack: &mut Stack) -> Result<Grown, Stop>
-    ensures finishes { Finishes (due_of state) (frames_of stack.old) result }
+    ensures finishes { Finishes (due_of state) stack.old.frames result }
     ensures shallow { Shallow result }
 {
     let State::After(query) = state else {
@@ -255,5 +256,6 @@ pub fn build(alloc: Global, text: &[u8], tokens: &[Token]) -> Result<Grown, Stop
         state = next;
         rest = left;
     }
+    stack.are_few();
     finish(alloc, state, &mut stack)
 }

@@ -1,23 +1,39 @@
-//! The brackets and prefix assignments that an unfinished query is within, the innermost last.
+//! The brackets and prefix assignments that an unfinished query is within.
 
-ghost use Rattle.std.specs.Prelude.{◌≡◌, ◌≤◌, ◌+◌, [], count_by, OnOk, IfErr};
-ghost use Rattle.cql_parse.specs.ParserBrackets.{is_bracket, IsFull};
+ghost use Rattle.std.specs.Prelude.{◌≡◌, ◌≤◌, ◌+◌, [], OnOk, IfErr};
+ghost use Rattle.cql_parse.specs.ParserBrackets.{IsFull};
 ghost use Rattle.z_types.specs.Bounds.{most_query_depth};
 
 use crate::fault::Stop;
 use crate::frame::{Frame, LeftOperand};
 use std::alloc::Global;
+use std::marker::Model;
 use z_types::{MOST_QUERY_DEPTH, Memory, Text};
 
 /// The frames, and how many of them are brackets, at most 48.
 #[derive(Drop)]
 pub struct Stack {
     /// The frames, the innermost last.
-    pub frames: Vec<Frame>,
+    frames: Vec<Frame>,
     /// How many of them are brackets.
-    pub brackets: u32,
-    ghost counted: { brackets ≡ count_by is_bracket frames.items },
-    ghost shallow: { brackets ≤ most_query_depth },
+    brackets: u32,
+}
+
+impl Model for Stack {
+    ghost use Rattle.std.specs.Prelude.{◌≡◌, ◌≤◌, reverse, count_by};
+    ghost use Rattle.std.specs.Coded.{codes};
+    ghost use Rattle.cql_parse.specs.contracts.tree.Cql as cql;
+    ghost use Rattle.cql_parse.specs.ParserBrackets.{Within, is_bracket};
+    ghost use Rattle.z_types.specs.Bounds.{most_query_depth};
+
+    ghost Value = { Within };
+
+    ghost coded = { Prim.hlevel (codes, cql.the_row.coded) };
+
+    ghost view = { λ s. record { frames = reverse s.frames.items; brackets = s.brackets } };
+
+    ghost invariant = { λ s.
+        (s.brackets ≡ count_by is_bracket s.frames.items) × (s.brackets ≤ most_query_depth) };
 }
 
 impl Stack {
@@ -25,13 +41,20 @@ impl Stack {
 
     /// No frames.
     pub fn new(alloc: Global) -> Stack
-        ensures frames { result.frames.items ≡ [] }
+        ensures frames { result.frames ≡ [] }
         ensures brackets { result.brackets ≡ 0 }
     {
         Stack {
             frames: Vec::new(alloc),
             brackets: 0,
         }
+    }
+
+    /// At most 48 brackets are open.
+    pub fn are_few(&self)
+        ensures { self.now.brackets ≤ most_query_depth }
+    {
+        let _ = &self.brackets;
     }
 
     /// Opens brackets; without memory, or where 48 are open, nothing is changed.

@@ -3,7 +3,7 @@ use Rattle.std.proofs.lemmas.Result.{err_from_is_err_and}
 use Rattle.cql_parse.specs.Lexemes.{lexemes}
 use Rattle.cql_parse.specs.Grammar.{operand, IsPrefix}
 use Rattle.cql_parse.specs.ParserState.{left_of}
-use Rattle.std.proofs.Common.{option_map, reverse}
+use Rattle.std.proofs.Common.{option_map}
 use Rattle.cql_parse.proofs.Steps.{no_prefix}
 use Rattle.cql_parse.proofs.Going.{Goes_none, prefix_goes}
 use Rattle.std.proofs.Common.{ap}
@@ -18,13 +18,13 @@ returns-in_err-name-clause-goes c =
     let ts = lexemes text c.args.tokens.now in
     let left = option_map left_of c.args.left in
     let p = err_from_is_err_and c.from_residual.result c.from_residual.ensures.1 in
-    rw (p.1, p.2) (Goes_none text old.brackets (operand left) (reverse old.frames.items) (reverse old.frames.items) ts (λ (q : Option (List ℕ) × List ℕ). IsPrefix ts q.0 q.1) c.in_err-name.field-0.0 (λ none t. no_prefix left (reverse old.frames.items) ts t c.requires none) c.in_err-name.ensures.found)
+    rw (p.1, p.2) (Goes_none text old.brackets (operand left) old.frames old.frames ts (λ (q : Option (List ℕ) × List ℕ). IsPrefix ts q.0 q.1) c.in_err-name.field-0.0 (λ none t. no_prefix left old.frames ts t c.requires none) c.in_err-name.ensures.found)
 
 pub returns-clause-goes : goal.returns-clause-goes
 returns-clause-goes c =
     let text = c.args.text.now in
     let old = c.args.stack.now in
-    prefix_goes text old.brackets c.args.left old.frames.items c.push_prefix.new.self.frames.items (lexemes text c.args.tokens.now) c.in_ok-name.name c.in_ok-name.uri c.in_ok-name.rest c.in_ok-name.ensures.found c.in_ok-push_prefix.ensures.frames
+    prefix_goes text old.brackets c.args.left old.frames c.push_prefix.new.self.frames (lexemes text c.args.tokens.now) c.in_ok-name.name c.in_ok-name.uri c.in_ok-name.rest c.in_ok-name.ensures.found c.in_ok-push_prefix.ensures.frames
 
 pub returns-clause-nested : goal.returns-clause-nested
 returns-clause-nested c =

@@ -1,4 +1,4 @@
-use Rattle.std.proofs.Common.{◌↔◌, ◌<◌, reverse, length}
+use Rattle.std.proofs.Common.{◌↔◌, ◌<◌, length}
 use Rattle.cql_parse.specs.Tree.{Tree}
 use Rattle.cql_parse.specs.Lexemes.{lexemes}
 use Rattle.cql_parse.specs.Grammar.{IsQuery}
@@ -10,7 +10,7 @@ use Rattle.z_types.specs.Bounds.{most_query_depth}
 -- the tokens left make the same trees of what is read, and the same nesting
 abbrev pub invariant-parts : goal.invariant-parts
 invariant-parts l =
-    ((t : Tree) → IsQuery (lexemes l.text l.tokens) t ↔ Completes (due_of l.state) (reverse l.stack.frames.items) (lexemes l.text l.rest) t)
+    ((t : Tree) → IsQuery (lexemes l.text l.tokens) t ↔ Completes (due_of l.state) l.stack.frames (lexemes l.text l.rest) t)
     × ((most_query_depth < nesting 0 (lexemes l.text l.tokens)) ↔ (most_query_depth < nesting l.stack.brackets (lexemes l.text l.rest)))
 
 abbrev pub decreases-parts : goal.decreases-parts
