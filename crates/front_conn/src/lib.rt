@@ -12,6 +12,3 @@ pub use laws::{
     ends_answered, stands_at_start, stands_when_ended, stands_when_fed, stands_when_written,
 };
 pub use stepped::Stepped;
-
-#[cfg(test)]
-mod tests;

@@ -1,8 +1,12 @@
-//! The worked rows: what targets answer, each case worked out by hand. All of it is tests, over public
-//! calls alone.
+//! What targets answer, how connections begin and what pages say, each case worked out by hand. All of
+//! it is tests, over public calls alone.
 #![tactic(auto)]
 
 #[cfg(test)]
 mod asks;
+#[cfg(test)]
+mod connections;
+#[cfg(test)]
+mod pages;
 #[cfg(test)]
 mod targets;

@@ -12,6 +12,3 @@ pub use client::answer;
 pub use page::print;
 pub use reports::{ClientReport, Report};
 pub use runs::run;
-
-#[cfg(test)]
-mod tests;

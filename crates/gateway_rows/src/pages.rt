@@ -1,6 +1,6 @@
 //! Pages of reports, by `docs/formats/replay.md`.
 
-use crate::*;
+use replay::{ClientReport, Report, print};
 use std::alloc::Global;
 use std::test::Fail;
 use z_types::{End, List, Mark, Memory, Text};
