@@ -13,4 +13,3 @@ mod xml;
 pub use bare::{Refusal, bare_text};
 pub use escape::put_escaped;
 pub use response::reply_text;
-

@@ -19,4 +19,3 @@ pub use faults::{HeadFault, QueryFault};
 pub use head::{Get, HeadGot, MOST_FIELDS, MOST_HEAD_OCTETS, read_head};
 pub use name::name_of;
 pub use query::{SruQuery, query_of};
-

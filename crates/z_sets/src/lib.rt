@@ -10,4 +10,3 @@ mod sets;
 pub use expansion::expand;
 pub use fault::ExpandFault;
 pub use sets::{find_set, put_set, remove_set};
-
