@@ -38,7 +38,7 @@ pub(crate) fn present_due(
     ensures ready { IfOk result (IsReady spent.now) }
 {
     let set = check_present(alloc, route, spent, sets, present)?;
-    Ok(fetch_due(&route.limits, spent, present, set)?)
+    Ok(fetch_due(&route.parts().limits, spent, present, set)?)
 }
 
 /// The set that a Present names, where no check refuses.
@@ -58,7 +58,7 @@ fn check_present<'a>(
     refuse_where(alloc, is_long, Condition::ElementSetNameNotValid, b"long")?;
     let set = check_set(alloc, sets, &present.set_name)?;
     check_range(alloc, present, set)?;
-    check_number(alloc, &route.limits, spent, present)?;
+    check_number(alloc, &route.parts().limits, spent, present)?;
     Ok(set)
 }
 

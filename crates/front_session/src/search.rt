@@ -34,7 +34,7 @@ pub(crate) fn search_due(
 {
     let legs = check_search(alloc, route, spent, sets, search)?;
     let query = expanded(alloc, &search.query, &legs, sets)?;
-    let room = room_left(&route.limits, spent);
+    let room = room_left(&route.parts().limits, spent);
     Ok(Due::Works(search_work(search, legs, query, room)?))
 }
 
@@ -50,11 +50,11 @@ fn check_search(
     ensures { AnswersChecks (search_checks route.now (client_with spent.now sets.now) search.now)
         (λ legs. found_legs route.now search.now.dbs ≡ Ok legs) result }
 {
-    check_searches(alloc, &route.limits, spent)?;
+    check_searches(alloc, &route.parts().limits, spent)?;
     let _query = served(&search.query)?;
     check_elements(alloc, search)?;
     let legs = check_databases(alloc, route, &search.dbs)?;
-    check_name(alloc, &route.limits, spent, sets, search)?;
+    check_name(alloc, &route.parts().limits, spent, sets, search)?;
     Ok(legs)
 }
 

@@ -69,7 +69,7 @@ impl FrontSession {
         ensures { IsAdmitted route.now request.now self.old self.new result }
     {
         let spent = self.spent();
-        if are_units_spent(&route.limits, &spent) {
+        if are_units_spent(&route.parts().limits, &spent) {
             return Admitted::Limited;
         }
         if !is_in_place(self.accepted, request) {

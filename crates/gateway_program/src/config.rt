@@ -78,6 +78,7 @@ fn real_target(route: &Route) -> Option<&Target>
         find (λ target. not (is_test target.address)) route.now.targets }
 {
     route
+        .parts()
         .targets
         .as_slice()
         .iter()

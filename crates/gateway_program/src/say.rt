@@ -63,8 +63,8 @@ pub(crate) fn config_line(alloc: Global, fault: &RouteFault) -> Result<Text, Mem
 pub(crate) fn check_line(alloc: Global, route: &Route) -> Result<Text, Memory>
     ensures { IfOk result (λ line. line ≡ check_line route.now) }
 {
-    let databases = format!(in alloc; "{}", route.databases.len())?;
-    let classes = format!(in alloc; "{}", route.classes.len())?;
+    let databases = format!(in alloc; "{}", route.parts().databases.len())?;
+    let classes = format!(in alloc; "{}", route.parts().classes.len())?;
     let mut line = Text::new(alloc);
     line.append(b"ok databases ")?;
     line.append(databases.as_bytes())?;

@@ -6,7 +6,7 @@ ghost use Rattle.std.specs.Prelude.{◌≡◌, ◌≤◌, IfOk, length};
 ghost use Rattle.gateway_rules.specs.Works.{CanBegin};
 
 use crate::plain_outcome;
-use route_config::{Class, Database, Members, Route, RouteLeg};
+use route_config::{Class, Database, Members, Route, RouteLeg, RouteParts};
 use std::alloc::Global;
 use std::test::Fail;
 use test_target::TestWorld;
@@ -78,13 +78,17 @@ fn classes(alloc: Global) -> Result<List<Class>, Memory> {
     Ok(list)
 }
 
-/// The route of these.
+/// The route of these, which are sound.
 fn route(alloc: Global) -> Result<Route, Memory> {
-    let mut route = Route::smallest(alloc)?;
-    route.databases = databases(alloc)?;
-    route.legs = legs(alloc)?;
-    route.classes = classes(alloc)?;
-    Ok(route)
+    let mut parts = RouteParts::smallest(alloc)?;
+    parts.databases = databases(alloc)?;
+    parts.legs = legs(alloc)?;
+    parts.classes = classes(alloc)?;
+    if parts.are_sound() {
+        Ok(Route::new(parts))
+    } else {
+        Route::smallest(alloc)
+    }
 }
 
 /// The word `a` by Use 4.

@@ -1,2 +1,4 @@
 pub mod Lookup
+pub mod Names
 pub mod Smallest
+pub mod Sound

@@ -12,7 +12,7 @@ use z_types::{Address, List, Memory, Text, copy};
 pub fn database_named<'a>(route: &'a Route, name: &[u8]) -> Option<&'a Database>
     ensures { option_copied result ≡ database_named route.now name.now }
 {
-    route.databases.as_slice().iter().find(|database| database
+    route.parts().databases.as_slice().iter().find(|database| database
         .name
         .as_slice()
         .eq_ignore_ascii_case(name))
@@ -22,7 +22,7 @@ pub fn database_named<'a>(route: &'a Route, name: &[u8]) -> Option<&'a Database>
 pub fn first_address(route: &Route, class: u32) -> Option<&Address>
     ensures { option_copied result ≡ first_address route.now class }
 {
-    route.classes.get(class as usize)?.addresses.get(0)
+    route.parts().classes.get(class as usize)?.addresses.get(0)
 }
 
 /// The names of the targets, in order.
@@ -30,7 +30,7 @@ pub fn target_names(alloc: Global, route: &Route) -> Result<List<Text>, Memory>
     ensures { IfOk result (λ names. names ≡ target_names route.now) }
 {
     let mut names = List::new(alloc);
-    for target in route.targets.as_slice() {
+    for target in route.parts().targets.as_slice() {
         names.push(copy(&target.name)?)?;
     }
     Ok(names)

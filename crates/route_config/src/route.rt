@@ -1,7 +1,11 @@
 //! The route and its parts. A number that names a target, database, leg or class is its place in
 //! the route's list of that kind, counted from 0.
 
+ghost use Rattle.std.specs.Prelude.{◌≡◌};
+ghost use Rattle.route_config.specs.Sound.{IsSound};
+
 use crate::Members;
+use std::marker::Model;
 use z_types::{Address, Limits, List, Schema, Text};
 
 /// A target.
@@ -79,9 +83,9 @@ pub struct Index {
     pub value: u32,
 }
 
-/// Where searches go.
+/// What a route is made of.
 #[derive(Drop)]
-pub struct Route {
+pub struct RouteParts {
     /// The targets, in file order.
     pub targets: List<Target>,
     /// The groups, in file order.
@@ -100,4 +104,40 @@ pub struct Route {
     pub indexes: List<Index>,
     /// The record schemas of SRU.
     pub schemas: List<Schema>,
+}
+
+/// Where searches go. Its numbers are in their ranges, its lists in their sizes, and every place is
+/// one of the list that it is a place of.
+#[derive(Drop)]
+pub struct Route {
+    parts: RouteParts,
+}
+
+impl Model for Route {
+    ghost use Rattle.route_config.specs.declared.route.RouteParts.{RouteParts};
+    ghost use Rattle.route_config.specs.Sound.{IsSound};
+
+    ghost Value = { RouteParts };
+
+    ghost view = { λ route. route.parts };
+
+    ghost invariant = { λ route. IsSound route.parts };
+}
+
+impl Route {
+    /// The route of these parts.
+    pub fn new(parts: RouteParts) -> Route
+        requires sound { IsSound parts }
+        ensures same { result ≡ parts }
+    {
+        Route { parts }
+    }
+
+    /// Its parts.
+    pub fn parts(&self) -> &RouteParts
+        ensures same { result.now ≡ self.now }
+        ensures sound { IsSound self.now }
+    {
+        &self.parts
+    }
 }

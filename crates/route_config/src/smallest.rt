@@ -4,7 +4,7 @@ ghost use Rattle.std.specs.Prelude.{◌≡◌, IfOk, [], ◌∷◌};
 ghost use Rattle.route_config.specs.Smallest.{smallest_route};
 
 use crate::{
-    Class, Database, Members, PoolNumbers, Route, RouteLeg, Target, default_indexes,
+    Class, Database, Members, PoolNumbers, Route, RouteLeg, RouteParts, Target, default_indexes,
     default_schemas,
 };
 use std::alloc::Global;
@@ -25,7 +25,16 @@ impl Route {
     pub fn smallest(alloc: Global) -> Result<Route, Memory>
         ensures { IfOk result (λ route. route ≡ smallest_route) }
     {
-        Ok(Route {
+        Ok(Route::new(RouteParts::smallest(alloc)?))
+    }
+}
+
+impl RouteParts {
+    /// What the route of the smallest configuration is made of.
+    pub fn smallest(alloc: Global) -> Result<RouteParts, Memory>
+        ensures { IfOk result (λ parts. parts ≡ smallest_route) }
+    {
+        Ok(RouteParts {
             targets: one(alloc, smallest_target(alloc)?)?,
             groups: List::new(alloc),
             databases: one(alloc, smallest_database(alloc)?)?,

@@ -3,6 +3,7 @@ pub mod TextLemmas
 pub mod HeldLemmas
 pub mod RangeLemmas
 pub mod SizeLemmas
+pub mod KeptItems
 pub mod PlaceLemmas
 pub mod SoundLemmas
 pub mod TreeLemmas

@@ -12,8 +12,8 @@ use Rattle.route_text.specs.declared.values.Values.{Values}
 use Rattle.route_text.specs.Texts.{same_text}
 use Rattle.route_text.specs.Whole.{target_names, vias}
 use Rattle.route_text.specs.RouteOf.{place_of, group_of, databases_from, leg_of, legs_from, firsts, class_names, class_of, route_of}
-use Rattle.route_text.specs.Sizes.{HasFrom, HasSizes}
-use Rattle.route_text.specs.Sound.{AllBelow, KeepsPlaces}
+use Rattle.route_config.specs.Sound.{HasFrom, AllBelow, KeepsPlaces}
+use Rattle.route_text.specs.Sizes.{HasSizes}
 
 -- what holds of every item holds of all
 all_each : {A : Type 0} (P : A → Type 0) → ((x : A) → P x) → (xs : List A) → All P xs

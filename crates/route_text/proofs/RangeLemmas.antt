@@ -8,11 +8,11 @@ use Rattle.std.proofs.lemmas.Bool.Decides.{nat_tests}
 use Rattle.toml.specs.Data.{Data, Items, no_items, item, Members, as_integer, as_array, as_table}
 use Rattle.route_text.specs.declared.fault.RouteFault.{RouteFault}
 use Rattle.route_text.specs.declared.fault.RouteFault.TheVariants.{OutOfRange, TooMany}
-use Rattle.route_text.specs.Texts.{is_from}
+use Rattle.route_config.specs.Names.{is_from}
 use Rattle.route_text.specs.Path.{item_path}
 use Rattle.route_text.specs.Kinds.{required, default, Kind, Number, Array, Table, Keys, key_names}
 use Rattle.route_text.specs.Refusal.{refusal, of_kind, of_keys, of_items, of_others, at_key, unless, count, is_within}
-use Rattle.route_text.specs.Sizes.{IsFrom, HasFrom}
+use Rattle.route_config.specs.Sound.{IsFrom, HasFrom}
 use Rattle.route_text.specs.Values.{held, number, list, list_of}
 
 -- of two refusals that come to nothing each is nothing
@@ -28,15 +28,16 @@ count_list : {A : Type 0} (read : Data → A) (items : Items) → count items �
 count_list read no_items = refl
 count_list read (item value rest) = grind (arith, count_list read rest)
 
-from_parts : (low high n : ℕ) → is_from low high n ≡ true → IsFrom low high n
-from_parts low high n h = (grind (arith, nat_tests, and_parts (nat_le low n) (nat_le n high) h), grind (arith, nat_tests, and_parts (nat_le low n) (nat_le n high) h))
+-- a number that is tested to be in a range is in it
+pub from-parts : (low high n : ℕ) → is_from low high n ≡ true → IsFrom low high n
+from-parts low high n h = (grind (arith, nat_tests, and_parts (nat_le low n) (nat_le n high) h), grind (arith, nat_tests, and_parts (nat_le low n) (nat_le n high) h))
 
 list_within : {A : Type 0} (read : Data → A) (each : Kind) (low high : ℕ) (path : List ℕ) (content : Option Items)
     → of_kind path content (λ items. option_or (unless (is_from low high (count items)) (TooMany path (count items))) (of_items (refusal each) path 0 items)) ≡ None
     → HasFrom low high (list_of read (unwrap_or content no_items))
 list_within read each low high path None h = absurd (cc)
 list_within read each low high path (Some items) h =
-    let within = from_parts low high (count items) (passed _ _ (neither _ _ h).0) in
+    let within = from-parts low high (count items) (passed _ _ (neither _ _ h).0) in
     rw (← count_list read items) within
 
 -- an array has as many items as its range says
@@ -83,7 +84,7 @@ default-passed other check path (Some value) passes h = h
 
 -- a whole number from one to another is as far from nought
 within_abs : (low high : ℕ) (n : ℤ) → int_le (pos low) n && int_le n (pos high) ≡ true → IsFrom low high (nat_abs n)
-within_abs low high (pos m) h = from_parts low high m h
+within_abs low high (pos m) h = from-parts low high m h
 within_abs low high (negsuc m) h = absurd (cc)
 
 number_of_integer : (low high : ℕ) (path : List ℕ) (content : Option ℤ) → of_kind path content (λ n. unless (is_within low high n) (OutOfRange path (signed_decimal n))) ≡ None

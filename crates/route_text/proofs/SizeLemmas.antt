@@ -4,8 +4,8 @@ use Rattle.std.specs.Option.{unwrap_or}
 use Rattle.std.specs.List.{AllByRecursion, find, flat_map}
 use Rattle.std.proofs.lemmas.List.{length-map, length-append}
 use Rattle.std.proofs.lemmas.List.Elements.{All-cons, All-nil}
-use Rattle.std.proofs.lemmas.Bool.Decides.{nat_tests}
 use Rattle.toml.specs.Data.{Data, Items, no_items, item, get, array, as_array}
+use Rattle.z_types.specs.declared.address.Address.{Address}
 use Rattle.z_types.specs.declared.address.Address.TheVariants.{Test, Tcp}
 use Rattle.z_types.specs.Members.{HasShortHost, AreMembers}
 use Rattle.route_config.specs.declared.route.Target.{Target}
@@ -13,57 +13,72 @@ use Rattle.route_text.specs.declared.values.GroupValues.{GroupValues}
 use Rattle.route_text.specs.declared.values.DatabaseValues.{DatabaseValues}
 use Rattle.route_text.specs.declared.values.Values.{Values}
 use Rattle.route_text.specs.declared.rule.TextRule.TheVariants.{Any}
-use Rattle.route_text.specs.Texts.{same_text, is_from, number_from, address_of, parts}
+use Rattle.route_config.specs.Names.{is_from}
+use Rattle.route_text.specs.Texts.{same_text, is_decimal, number_of_digits, address_of, parts}
 use Rattle.route_text.specs.Path.{key_path}
 use Rattle.route_text.specs.Kinds.{Text, Array, Table}
 use Rattle.route_text.specs.Keys.{target_keys, group_keys, leg_keys, database_keys, top_keys}
 use Rattle.route_text.specs.Refusal.{refusal}
 use Rattle.route_text.specs.Values.{at, list_of, text, address_in, target_in, group_in, leg_in, database_in, values_in}
 use Rattle.route_text.specs.Whole.{is_among, target_names, vias}
-use Rattle.route_text.specs.RouteOf.{address_of as address_named, addresses_of, members_of, firsts, class_names}
-use Rattle.route_text.specs.Sizes.{HasFrom, HasSizes}
+use Rattle.route_text.specs.RouteOf.{address_of as address_named, addresses_of, members_of, firsts, class_names, class_of}
+use Rattle.route_config.specs.Sound.{IsFrom, HasFrom, IsAddress}
+use Rattle.route_text.specs.Sizes.{HasSizes}
 use Rattle.route_text.specs.Configuration.{first_refusal}
-use Rattle.route_text.proofs.RangeLemmas.{neither, list-within, array-all, keys-passed, required-passed, default-passed}
+use Rattle.route_text.proofs.RangeLemmas.{neither, from-parts, list-within, array-all, keys-passed, required-passed, default-passed}
 
--- a host is as short as its address was tested to be
-tcp_short : (test small : Bool) (host : List ℕ) (port : Option ℕ) → (small ≡ true → length host ≤ 64) → HasShortHost (unwrap_or (if test && small then option_map (Tcp host) port else None) (Test 0))
-tcp_short false small host port h = tt
-tcp_short true false host port h = tt
-tcp_short true true host None h = tt
-tcp_short true true host (Some number) h = h refl
+nought : IsAddress (Test 0)
+nought = omega arith
 
-test_short : (test : Bool) (number : Option ℕ) → HasShortHost (unwrap_or (if test then option_map Test number else None) (Test 0))
-test_short false number = tt
-test_short true None = tt
-test_short true (Some number) = tt
+-- an address is in its ranges, where its text was tested to be
+test_kept : (test decimal within : Bool) (n : ℕ) → (within ≡ true → IsFrom 0 999999 n) → IsAddress (unwrap_or (if test then option_map Test (if decimal && within then Some n else None) else None) (Test 0))
+test_kept false decimal within n h = nought
+test_kept true false within n h = nought
+test_kept true true false n h = nought
+test_kept true true true n h = (h refl).1
 
-short_of_parts : (parts : List (List ℕ)) → HasShortHost (unwrap_or (address_of parts) (Test 0))
-short_of_parts [] = tt
-short_of_parts (a ∷ []) = tt
-short_of_parts (a ∷ b ∷ []) = test_short (same_text a (codes "test")) (number_from 0 999999 b)
-short_of_parts (a ∷ b ∷ c ∷ []) = tcp_short (same_text a (codes "tcp")) (is_from 1 64 (length b)) b (number_from 1 65535 c) (λ t. grind (arith, nat_tests, t))
-short_of_parts (a ∷ b ∷ c ∷ d ∷ rest) = tt
+tcp_kept : (test small decimal within : Bool) (host : List ℕ) (n : ℕ) → (small ≡ true → HasFrom 1 64 host) → (within ≡ true → IsFrom 1 65535 n)
+    → IsAddress (unwrap_or (if test && small then option_map (Tcp host) (if decimal && within then Some n else None) else None) (Test 0))
+tcp_kept false small decimal within host n h g = nought
+tcp_kept true false decimal within host n h g = nought
+tcp_kept true true false within host n h g = nought
+tcp_kept true true true false host n h g = nought
+tcp_kept true true true true host n h g = (h refl, g refl)
+
+kept_of_parts : (parts : List (List ℕ)) → IsAddress (unwrap_or (address_of parts) (Test 0))
+kept_of_parts [] = nought
+kept_of_parts (a ∷ []) = nought
+kept_of_parts (a ∷ b ∷ []) =
+    let n = number_of_digits b in
+    test_kept (same_text a (codes "test")) (is_decimal b) (is_from 0 999999 n) n (from-parts 0 999999 n)
+kept_of_parts (a ∷ b ∷ c ∷ []) =
+    let n = number_of_digits c in
+    tcp_kept (same_text a (codes "tcp")) (is_from 1 64 (length b)) (is_decimal c) (is_from 1 65535 n) b n (from-parts 1 64 (length b)) (from-parts 1 65535 n)
+kept_of_parts (a ∷ b ∷ c ∷ d ∷ rest) = nought
 
 all_listed : {A : Type 0} (read : Data → A) (P : A → Type 0) → ((value : Data) → P (read value)) → (items : Items) → AllByRecursion P (list_of read items)
 all_listed read P each no_items = tt
 all_listed read P each (item value rest) = (each value, all_listed read P each rest)
 
-short_value : (value : Data) → HasShortHost (address_in value)
-short_value value = short_of_parts (parts (text value))
+-- an address that is read is in its ranges
+pub address-kept : (value : Data) → IsAddress (address_in value)
+address-kept value = kept_of_parts (parts (text value))
 
-short_target : (value : Data) → HasShortHost (target_in value).address
+target_kept : (value : Data) → IsAddress (target_in value).address
 unfolding target_in
-short_target value = short_value (at target_keys (codes "address") value)
+target_kept value = address-kept (at target_keys (codes "address") value)
 
-group_size : (path : List ℕ) (value : Data) → refusal (Table group_keys) path value ≡ None → HasFrom 1 16 (group_in value).targets
+-- a group has 1 to 16 members
+pub group-size : (path : List ℕ) (value : Data) → refusal (Table group_keys) path value ≡ None → HasFrom 1 16 (group_in value).targets
 unfolding group_in group_keys
-group_size path value h =
+group-size path value h =
     let keys = neither _ None (neither _ _ (keys-passed group_keys path value h)).1 in
     list-within text (Text Any) 1 16 (key_path path (codes "targets")) (at group_keys (codes "targets") value) (required-passed (refusal (Array 1 16 (Text Any))) (key_path path (codes "targets")) (get (codes "targets") value) keys.0)
 
-database_size : (path : List ℕ) (value : Data) → refusal (Table database_keys) path value ≡ None → HasFrom 1 16 (database_in value).legs
+-- a database has 1 to 16 legs
+pub database-size : (path : List ℕ) (value : Data) → refusal (Table database_keys) path value ≡ None → HasFrom 1 16 (database_in value).legs
 unfolding database_in database_keys
-database_size path value h =
+database-size path value h =
     let keys = neither _ None (neither _ _ (neither _ _ (keys-passed database_keys path value h)).1).1 in
     list-within leg_in (Table leg_keys) 1 16 (key_path path (codes "leg")) (at database_keys (codes "leg") value) (required-passed (refusal (Array 1 16 (Table leg_keys))) (key_path path (codes "leg")) (get (codes "leg") value) keys.0)
 
@@ -79,21 +94,26 @@ sizes tree h =
     let databases = required-passed (refusal (Array 1 64 (Table database_keys))) (codes "database") (get (codes "database") tree) (neither _ _ from_database).0 in
     record {
       targets = list-within target_in (Table target_keys) 1 64 (codes "target") (at top_keys (codes "target") tree) targets;
-      hosts = all_listed target_in (λ target. HasShortHost target.address) short_target (unwrap_or (as_array (at top_keys (codes "target") tree)) no_items);
-      groups = array-all group_in (Table group_keys) (λ group. HasFrom 1 16 group.targets) group_size 0 64 (codes "group") (at top_keys (codes "group") tree) groups;
+      addresses = all_listed target_in (λ target. IsAddress target.address) target_kept (unwrap_or (as_array (at top_keys (codes "target") tree)) no_items);
+      groups = array-all group_in (Table group_keys) (λ group. HasFrom 1 16 group.targets) group-size 0 64 (codes "group") (at top_keys (codes "group") tree) groups;
       databases = list-within database_in (Table database_keys) 1 64 (codes "database") (at top_keys (codes "database") tree) databases;
-      legs = array-all database_in (Table database_keys) (λ database. HasFrom 1 16 database.legs) database_size 1 64 (codes "database") (at top_keys (codes "database") tree) databases;
+      legs = array-all database_in (Table database_keys) (λ database. HasFrom 1 16 database.legs) database-size 1 64 (codes "database") (at top_keys (codes "database") tree) databases;
     }
 
--- the address of a target's name is short, also where there is none
-picked : (b : Bool) (target : Target) (rest : Option Target) → HasShortHost target.address → HasShortHost (unwrap_or (option_map (λ target. target.address) rest) (Test 0))
-    → HasShortHost (unwrap_or (option_map (λ target. target.address) (cond b (Some target) rest)) (Test 0))
+-- the address of a target's name is in its ranges, also where there is none
+picked : (b : Bool) (target : Target) (rest : Option Target) → IsAddress target.address → IsAddress (unwrap_or (option_map (λ target. target.address) rest) (Test 0))
+    → IsAddress (unwrap_or (option_map (λ target. target.address) (cond b (Some target) rest)) (Test 0))
 picked true target rest one other = one
 picked false target rest one other = other
 
-short_named : (targets : List Target) (name : List ℕ) → AllByRecursion (λ target. HasShortHost target.address) targets → HasShortHost (address_named targets name)
-short_named [] name all = tt
-short_named (target ∷ targets) name all = picked (same_text name target.name) target (find (λ target. same_text name target.name) targets) all.0 (short_named targets name all.1)
+named : (targets : List Target) (name : List ℕ) → AllByRecursion (λ target. IsAddress target.address) targets → IsAddress (address_named targets name)
+named [] name all = nought
+named (target ∷ targets) name all = picked (same_text name target.name) target (find (λ target. same_text name target.name) targets) all.0 (named targets name all.1)
+
+-- and so its host is short
+short : (address : Address) → IsAddress address → HasShortHost address
+short (Test number) h = tt
+short (Tcp host port) h = h.0.1
 
 picked_group : (b : Bool) (group : GroupValues) (rest : Option GroupValues) (name : List ℕ) → HasFrom 1 16 group.targets → HasFrom 1 16 (unwrap_or (option_map (λ group. group.targets) rest) (name ∷ []))
     → HasFrom 1 16 (unwrap_or (option_map (λ group. group.targets) (cond b (Some group) rest)) (name ∷ []))
@@ -116,8 +136,14 @@ members-named values name sizes =
     record {
       some = rw same size.0;
       few = rw same size.1;
-      short = all_of_each HasShortHost (address_named values.targets) (λ name. short_named values.targets name sizes.hosts) (members_of values.groups name);
+      short = all_of_each HasShortHost (address_named values.targets) (λ name. short (address_named values.targets name) (named values.targets name sizes.addresses)) (members_of values.groups name);
     }
+
+-- a class's addresses are in their ranges
+pub classes-kept : (values : Values) → HasSizes values → All (λ class. All IsAddress class.addresses) (map (class_of values) (class_names values))
+classes-kept values sizes =
+    all_of_each (λ class. All IsAddress class.addresses) (class_of values)
+    (λ name. all_of_each IsAddress (address_named values.targets) (λ member. named values.targets member sizes.addresses) (members_of values.groups name)) (class_names values)
 
 -- no more names come for the first time than come at all
 if_known : (b : Bool) (n : ℕ) (known more : List (List ℕ)) (name : List ℕ) → length known ≤ n → length more ≤ n → length (if b then known else name ∷ more) ≤ suc n

@@ -12,11 +12,11 @@ use Rattle.route_text.specs.Refusal.{refusal, of_key, of_keys}
 use Rattle.route_text.specs.Values.{held, number, pool_in, limits_in, group_in, index_in, schema_in, values_in, at}
 use Rattle.route_text.specs.Whole.{twice, no_such, target_names, group_names, member_names, vias, of_whole}
 use Rattle.route_text.specs.RouteOf.{route_of}
-use Rattle.route_text.specs.Sizes.{IsFrom}
-use Rattle.route_text.specs.Sound.{ArePoolNumbers, AreLimits, IsSound}
+use Rattle.route_config.specs.Sound.{IsFrom, ArePoolNumbers, AreLimits, IsSound}
 use Rattle.route_text.specs.Configuration.{first_refusal}
 use Rattle.route_text.proofs.RangeLemmas.{neither, passed, list-within, keys-passed, default-passed, number-within}
 use Rattle.route_text.proofs.SizeLemmas.{sizes}
+use Rattle.route_text.proofs.KeptItems.{indexes-pass, schemas-pass, kept-items}
 use Rattle.route_text.proofs.PlaceLemmas.{places, databases_length}
 
 -- a number with a default in its range is in its range
@@ -79,14 +79,6 @@ empty_limits : refusal (Table limit_keys) (codes "limit") (table no_members) ≡
 unfolding limit_keys
 empty_limits = refl
 
-indexes_pass : refusal (Array 0 64 (Table index_keys)) (codes "index") default_indexes ≡ None
-unfolding index_keys default_indexes
-indexes_pass = refl
-
-schemas_pass : refusal (Array 1 16 (Table schema_keys)) (codes "schema") default_schemas ≡ None
-unfolding schema_keys default_schemas
-schemas_pass = refl
-
 -- what is read from a tree that is refused for nothing is sound
 pub sound : (tree : Data) → first_refusal tree ≡ None → IsSound (route_of (values_in tree))
 unfolding top_keys values_in route_of
@@ -101,8 +93,8 @@ sound tree h =
     let seven = neither _ None six.1 in
     let pool = default-passed (table no_members) (refusal (Table pool_keys)) (codes "pool") (get (codes "pool") tree) empty_pool four.0 in
     let limits = default-passed (table no_members) (refusal (Table limit_keys)) (codes "limit") (get (codes "limit") tree) empty_limits five.0 in
-    let indexes = default-passed default_indexes (refusal (Array 0 64 (Table index_keys))) (codes "index") (get (codes "index") tree) indexes_pass six.0 in
-    let schemas = default-passed default_schemas (refusal (Array 1 16 (Table schema_keys))) (codes "schema") (get (codes "schema") tree) schemas_pass seven.0 in
+    let indexes = default-passed default_indexes (refusal (Array 0 64 (Table index_keys))) (codes "index") (get (codes "index") tree) indexes-pass six.0 in
+    let schemas = default-passed default_schemas (refusal (Array 1 16 (Table schema_keys))) (codes "schema") (get (codes "schema") tree) schemas-pass seven.0 in
     let groups = default-passed (array no_items) (refusal (Array 0 64 (Table group_keys))) (codes "group") (get (codes "group") tree) refl two.0 in
     record {
       places = places (values_in tree) kept;
@@ -113,6 +105,7 @@ sound tree h =
         indexes = list-within index_in (Table index_keys) 0 64 (codes "index") (at top_keys (codes "index") tree) indexes;
         schemas = list-within schema_in (Table schema_keys) 1 16 (codes "schema") (at top_keys (codes "schema") tree) schemas;
       };
+      items = kept-items tree h;
       pool = pool_numbers (at top_keys (codes "pool") tree) (keys-passed pool_keys (codes "pool") (at top_keys (codes "pool") tree) pool) (ttl_order (values_in tree) (neither _ _ h).1);
       limits = limit_numbers (at top_keys (codes "limit") tree) (keys-passed limit_keys (codes "limit") (at top_keys (codes "limit") tree) limits);
     }

@@ -9,7 +9,7 @@ use Rattle.toml.specs.View.{view, items_view, table_view}
 use Rattle.toml.specs.declared.value.Value.{Value}
 use Rattle.route_text.specs.declared.fault.RouteFault.{RouteFault}
 use Rattle.route_text.specs.declared.fault.RouteFault.TheVariants.{Memory, Toml, TooMany}
-use Rattle.route_text.specs.Texts.{is_from}
+use Rattle.route_config.specs.Names.{is_from}
 use Rattle.route_text.specs.Kinds.{Need, Kind}
 use Rattle.route_text.specs.Keys.{nothing}
 use Rattle.route_text.specs.Refusal.{refusal, of_key, of_items, of_kind, unless, count}

@@ -10,7 +10,8 @@ use Rattle.toml.specs.Data.{Data, Items, no_items, item, Members, no_members, me
 use Rattle.route_text.specs.declared.fault.RouteFault.{RouteFault}
 use Rattle.route_text.specs.declared.fault.RouteFault.TheVariants.{Missing, WrongKind, OutOfRange, TooMany, Unknown}
 use Rattle.route_text.specs.Path.{key_path, item_path}
-use Rattle.route_text.specs.Texts.{fits, address, is_from, same_text}
+use Rattle.route_config.specs.Names.{is_from}
+use Rattle.route_text.specs.Texts.{fits, address, same_text}
 use Rattle.route_text.specs.Kinds.{Need, required, default, Kind, Text, Address, Number, Flag, Array, Table, Keys, no_keys, key, key_names}
 
 -- nothing where the test holds, else the refusal

@@ -1,39 +1,18 @@
 -- What each text of the configuration may be (this project's own).
-use Rattle.std.specs.Prelude.{◌≡◌, ◌<◌, ◌≤◌, MatchOption, ℕ, ◌-◌, ◌==◌, ◌&&◌, ◌||◌, Bool, true, false, not, nat_le, List, [], ◌∷◌, map, length, Option, Some, None, codes, if◌then◌else◌}
-use Rattle.std.specs.List.{list_any, list_all, slice_split, position}
+use Rattle.std.specs.Prelude.{◌≡◌, ◌<◌, ◌≤◌, MatchOption, ℕ, ◌-◌, ◌==◌, ◌&&◌, Bool, true, false, not, List, [], ◌∷◌, map, length, Option, Some, None, codes, if◌then◌else◌}
+use Rattle.std.specs.List.{list_all, slice_split}
 use lib.Pointwise.{pointwise}
-use Rattle.std.specs.Option.{option_map, option_map_or}
+use Rattle.std.specs.Option.{option_map}
 use Rattle.std.specs.Int.Digits.{number_from_digits_after}
 use Rattle.z_types.specs.declared.address.Address.{Address}
 use Rattle.z_types.specs.declared.address.Address.TheVariants.{Test, Tcp}
+use Rattle.route_config.specs.Names.{is_from, is_name, is_database_name, is_index_name}
 use Rattle.route_text.specs.declared.rule.TextRule.{TextRule}
 use Rattle.route_text.specs.declared.rule.TextRule.TheVariants.{Any, Name, DatabaseName, UpTo, IndexName}
 
 -- the same octets
 abbrev pub same_text : List ℕ → List ℕ → Bool
 same_text = pointwise ◌==◌
-
--- a number from one to another
-abbrev pub is_from : ℕ → ℕ → ℕ → Bool
-is_from low high n = nat_le low n && nat_le n high
-
--- space, tab, CR, LF
-abbrev pub is_white : ℕ → Bool
-is_white c = ((c == 32 || c == 9) || c == 13) || c == 10
-
-abbrev pub has_white : List ℕ → Bool
-has_white = list_any is_white
-
--- 1 to 64 octets, none of them white space
-abbrev pub is_name : List ℕ → Bool
-is_name text = is_from 1 64 (length text) && not (has_white text)
-
--- `/` and `?` part a path and its query
-abbrev pub is_delimiter : ℕ → Bool
-is_delimiter c = c == 47 || c == 63
-
-abbrev pub has_delimiter : List ℕ → Bool
-has_delimiter = list_any is_delimiter
 
 abbrev pub is_digit : ℕ → Bool
 is_digit c = is_from 48 57 c
@@ -79,18 +58,10 @@ parts = slice_split (λ c. c == 58)
 abbrev pub address : List ℕ → Option Address
 address text = address_of (parts text)
 
--- where the first dot stands
-abbrev pub first_dot : List ℕ → Option ℕ
-first_dot = position (λ c. c == 46)
-
--- a dot with text on both sides of the first one
-abbrev pub has_prefix : List ℕ → Bool
-has_prefix text = option_map_or (is_from 1 (length text - 2)) (first_dot text) false
-
 -- the text keeps the rule
 abbrev pub fits : TextRule → List ℕ → Bool
 fits Any text = true
 fits Name text = is_name text
-fits DatabaseName text = is_name text && not (has_delimiter text)
+fits DatabaseName text = is_database_name text
 fits (UpTo most) text = is_from 1 most (length text)
-fits IndexName text = has_prefix text
+fits IndexName text = is_index_name text

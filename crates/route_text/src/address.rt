@@ -8,7 +8,7 @@ ghost use Rattle.route_text.specs.Reads.{ReadsKind};
 ghost use Rattle.route_text.specs.Texts.{IsWithin, address, address_of, number_from, number_after, is_decimal, is_digit, all_digits, parts};
 
 use crate::RouteFault;
-use crate::rule::is_from;
+use route_config::is_from;
 use std::alloc::{AllocError, Global};
 use toml::Value;
 use z_types::{Address, Memory, Text};

@@ -7,8 +7,8 @@ ghost use Rattle.route_text.specs.Kinds.{Text as TextKind, Number as NumberKind,
 ghost use Rattle.route_text.specs.Values.{text, number, flag};
 ghost use Rattle.route_text.specs.Reads.{ReadsKind, IsArray, IsTable};
 
-use crate::rule::is_from;
 use crate::{RouteFault, TextRule};
+use route_config::is_from;
 use std::alloc::Global;
 use toml::{Table, Value};
 use z_types::{Memory, Text};

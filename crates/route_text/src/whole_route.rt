@@ -1,4 +1,4 @@
-//! The route of the values.
+//! What the route of the values is made of.
 
 ghost use Rattle.std.specs.Prelude.{◌≡◌, IfOk};
 ghost use Rattle.route_text.specs.RouteOf.{route_of};
@@ -10,15 +10,15 @@ use crate::leg::{databases_of, legs_of};
 use crate::names::names_of;
 use crate::route::{firsts, groups_of};
 use crate::whole::vias;
-use route_config::Route;
+use route_config::RouteParts;
 use std::alloc::Global;
 use z_types::Memory;
 
-/// The route of the values of a configuration that is refused for nothing.
+/// What the route is made of, of the values of a configuration that is refused for nothing.
 #[tactic(auto, unfolding(crate::specs::RouteOf::route_of), using(crate::proofs::SizeLemmas::counts))]
-pub fn route_of(alloc: Global, values: Values) -> Result<Route, Memory>
+pub fn route_of(alloc: Global, values: Values) -> Result<RouteParts, Memory>
     requires { HasSizes values }
-    ensures { IfOk result (λ route. route ≡ route_of values) }
+    ensures { IfOk result (λ parts. parts ≡ route_of values) }
 {
     let targets = names_of(alloc, values.targets.as_slice())?;
     let vias = vias(alloc, &values)?;
@@ -27,7 +27,7 @@ pub fn route_of(alloc: Global, values: Values) -> Result<Route, Memory>
     let databases = databases_of(alloc, values.databases.as_slice())?;
     let legs = legs_of(alloc, names.as_slice(), values.databases.as_slice())?;
     let classes = classes_of(alloc, &values, names.as_slice())?;
-    Ok(Route {
+    Ok(RouteParts {
         targets: values.targets,
         groups,
         databases,

@@ -587,7 +587,7 @@ fn texts_are_taken_up_to_their_most_octets(rt: HostRuntime) -> Result<(), Fail> 
 
 /// Whether a route has this class at a place, with so many members, and the leg this class.
 fn is_at(route: &Route, place: usize, name: &[u8], members: usize) -> bool {
-    match route.classes.get(place) {
+    match route.parts().classes.get(place) {
         Some(class) => class.name.as_slice() == name && class.addresses.as_slice().len() == members,
         None => false,
     }
@@ -595,7 +595,7 @@ fn is_at(route: &Route, place: usize, name: &[u8], members: usize) -> bool {
 
 /// Whether the leg at a place is that database's and that class's.
 fn is_leg(route: &Route, place: usize, database: u32, class: u32) -> bool {
-    match route.legs.get(place) {
+    match route.parts().legs.get(place) {
         Some(leg) => leg.database == database && leg.class == class,
         None => false,
     }
@@ -607,13 +607,13 @@ fn classes_are_numbered_as_legs_first_name_them(rt: HostRuntime) {
         Ok(route) => {
             assert!(rt; is_at(&route, 0, b"pair", 2), "the group");
             assert!(rt; is_at(&route, 1, b"gamma", 1), "the target");
-            assert_eq!(rt; route.classes.len(), 2);
+            assert_eq!(rt; route.parts().classes.len(), 2);
             assert!(rt; is_leg(&route, 0, 0, 0), "the leg of the first database");
             assert!(rt; is_leg(&route, 1, 1, 0), "the first leg of the other");
             assert!(rt; is_leg(&route, 2, 1, 1), "its second");
-            assert_eq!(rt; route.legs.len(), 3);
-            assert_eq!(rt; route.indexes.len(), 6);
-            assert_eq!(rt; route.pool.patience, 1000);
+            assert_eq!(rt; route.parts().legs.len(), 3);
+            assert_eq!(rt; route.parts().indexes.len(), 6);
+            assert_eq!(rt; route.parts().pool.patience, 1000);
         }
         Err(fault) => assert!(rt; false, "{fault:?}"),
     }

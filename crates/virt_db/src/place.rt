@@ -24,9 +24,10 @@ pub struct LentLeg<'a> {
 pub fn leg_at(route: &Route, place: u32) -> Option<LentLeg<'_>>
     ensures { option_map lent_leg result ≡ leg_at route.now place }
 {
-    let leg = route.legs.get(place as usize)?;
-    let database = route.databases.get(leg.database as usize)?;
-    let class = route.classes.get(leg.class as usize)?;
+    let parts = route.parts();
+    let leg = parts.legs.get(place as usize)?;
+    let database = parts.databases.get(leg.database as usize)?;
+    let class = parts.classes.get(leg.class as usize)?;
     let address = class.addresses.get(0)?;
     Some(LentLeg {
         database,

@@ -1,22 +1,24 @@
 //! Names of databases of a small route, one letter each.
 
 use crate::*;
-use route_config::{Database, Route, RouteLeg};
+use route_config::{Database, Route, RouteLeg, RouteParts};
 use std::alloc::Global;
+use std::process::Abort;
 use std::test::Fail;
 use z_types::{Address, List, Memory, Text};
 
 /// The smallest route with three databases more: d has its one leg, t has two of its own, and m has
 /// the first leg 16 times.
-fn route(alloc: Global) -> Result<Route, Memory> {
-    let mut route = Route::smallest(alloc)?;
+fn route(rt: &impl Abort, alloc: Global) -> Result<Route, Memory> {
+    let mut parts = RouteParts::smallest(alloc)?;
     for database in [0, 2, 2] {
-        route.legs.push(leg(alloc, database)?)?;
+        parts.legs.push(leg(alloc, database)?)?;
     }
-    route.databases.push(database(alloc, b"d", &[0])?)?;
-    route.databases.push(database(alloc, b"t", &[1, 2])?)?;
-    route.databases.push(database(alloc, b"m", &[0; 16])?)?;
-    Ok(route)
+    parts.databases.push(database(alloc, b"d", &[0])?)?;
+    parts.databases.push(database(alloc, b"t", &[1, 2])?)?;
+    parts.databases.push(database(alloc, b"m", &[0; 16])?)?;
+    assert!(rt; parts.are_sound());
+    Ok(Route::new(parts))
 }
 
 fn leg(alloc: Global, database: u32) -> Result<RouteLeg, Memory> {
@@ -72,7 +74,7 @@ fn is_too_many(answer: Result<List<u32>, DbFault>, wanted: u64) -> bool {
 #[test]
 fn legs_come_in_the_order_named_and_each_name_once(rt: HostRuntime) -> Result<(), Fail> {
     let alloc = rt.alloc();
-    let route = route(alloc)?;
+    let route = route(&rt, alloc)?;
     let rows: [(&[u8], &[u32]); 6] = [
         (b"d", &[0]),
         (b"D", &[0]),
@@ -90,7 +92,7 @@ fn legs_come_in_the_order_named_and_each_name_once(rt: HostRuntime) -> Result<()
 #[test]
 fn names_are_counted_before_they_are_looked_up(rt: HostRuntime) -> Result<(), Fail> {
     let alloc = rt.alloc();
-    let route = route(alloc)?;
+    let route = route(&rt, alloc)?;
     let unknown: [(&[u8], &[u8]); 4] = [
         (b"", b""),
         (b"dUx", b"U"),
@@ -113,7 +115,7 @@ fn names_are_counted_before_they_are_looked_up(rt: HostRuntime) -> Result<(), Fa
 #[test]
 fn a_leg_is_lent_with_its_database_and_class(rt: HostRuntime) -> Result<(), Fail> {
     let alloc = rt.alloc();
-    let route = route(alloc)?;
+    let route = route(&rt, alloc)?;
     match leg_at(&route, 3) {
         Some(leg) => {
             assert_eq!(rt; leg.database.name.as_slice(), b"t".as_slice());

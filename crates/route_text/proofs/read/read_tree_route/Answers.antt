@@ -8,7 +8,7 @@ route_of-requires c =
     let found = c.in_ok-values.ensures in
     rw found.1 (sizes (view c.args.tree.now) found.0)
 
-pub returns-clause-sound : goal.returns-clause-sound
-returns-clause-sound c =
+pub new-requires : goal.new-requires
+new-requires c =
     let found = c.in_ok-values.ensures in
-    rw (c.in_ok-route_of.ensures, found.1) (sound (view c.args.tree.now) found.0)
+    rw (c.in_ok-route_of.ensures, found.1) (record { sound = sound (view c.args.tree.now) found.0 })
