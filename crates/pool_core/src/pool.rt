@@ -186,7 +186,7 @@ impl<W: World, S: Sitting<W>> Pool<W, S> {
         Ok(Pool {
             sessions: Vec::new(alloc),
             given: 0,
-            numbers: route.pool,
+            numbers: route.parts().pool,
             fulls: 0,
             opens: 0,
             booked: 0,

@@ -8,7 +8,7 @@ ghost use Rattle.pool_core.specs.Fake.{no_hits, no_record, no_scan};
 
 use crate::Pool;
 use pool_sets::{Door, Parts, Pooled, Seat, SetTable, Taken};
-use route_config::{Members, Route};
+use route_config::{Members, Route, RouteParts};
 use std::alloc::Global;
 use std::test::Fail;
 use z_types::{
@@ -129,10 +129,20 @@ struct Trial {
     key: SetKey,
 }
 
+/// The smallest route with so many sessions of a class, 1 to 1000.
+fn route_of(alloc: Global, max_sessions: u32) -> Result<Route, Memory> {
+    let mut parts = RouteParts::smallest(alloc)?;
+    parts.pool.max_sessions = max_sessions;
+    if parts.are_sound() {
+        Ok(Route::new(parts))
+    } else {
+        Route::smallest(alloc)
+    }
+}
+
 /// A trial with so many sessions of a class, whose second member is at that test target.
 fn trial_of(alloc: Global, max_sessions: u32, second: u32) -> Result<Trial, Memory> {
-    let mut route = Route::smallest(alloc)?;
-    route.pool.max_sessions = max_sessions;
+    let route = route_of(alloc, max_sessions)?;
     let members = two(alloc, 0, second)?;
     let key = key_of(alloc, b"a")?;
     let pool = Pool::new(alloc, &route)?;
