@@ -1,5 +1,5 @@
-//! What targets answer, how connections begin and what pages say, each case worked out by hand. All of
-//! it is tests, over public calls alone.
+//! What targets answer, what comes of works, how connections begin and what pages say, each case worked
+//! out by hand. All of it is tests, over public calls alone.
 #![tactic(auto)]
 
 #[cfg(test)]
@@ -10,3 +10,5 @@ mod connections;
 mod pages;
 #[cfg(test)]
 mod targets;
+#[cfg(test)]
+mod works;

@@ -5,7 +5,5 @@
 mod hits;
 mod outcomes;
 mod records;
-#[cfg(test)]
-mod tests;
 
 pub use outcomes::plain_outcome;

@@ -5,7 +5,7 @@
 ghost use Rattle.std.specs.Prelude.{◌≡◌, ◌≤◌, IfOk, length};
 ghost use Rattle.gateway_rules.specs.Works.{CanBegin};
 
-use crate::plain_outcome;
+use package::plain_outcome;
 use route_config::{Class, Database, Members, Route, RouteLeg, RouteParts};
 use std::alloc::Global;
 use std::test::Fail;
