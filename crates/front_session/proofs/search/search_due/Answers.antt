@@ -24,4 +24,4 @@ pub returns-clause-due : goal.returns-clause-due
 returns-clause-due c =
     let client = client_with c.args.spent.now c.args.sets.now in
     let works = search_works c.args.route.now client c.args.search.now c.in_ok-legs.legs c.in_ok-query.query c.in_ok-legs.ensures.0 c.in_ok-legs.ensures.1 c.in_ok-query.ensures in
-    rw (c.in_ok-search_work.ensures, c.room_left-room.ensures.room) works
+    rw (c.in_ok-search_work.ensures, c.room_left-room.ensures.room, c.parts.ensures.same) works
