@@ -28,43 +28,38 @@ fn prints(alloc: Global, report: &Report, page: &[u8]) -> Result<bool, Memory> {
     Ok(print(alloc, report)?.as_slice() == page)
 }
 
+/// The page of a client without octets and marks.
+const SILENT: &[u8] = b"client 1\nbytes -\nmarks -\nend Finished\nclients 1 requests 0\n";
+
+/// The marks of the first of three clients, and their page.
+const MARKS: &[Mark] = &[
+    Mark::Plain,
+    Mark::Link,
+    Mark::Silent(3),
+    Mark::Gone,
+    Mark::Full(64),
+];
+
+const SEVERAL: &[u8] = b"client 2\nbytes 00ab\n\
+marks Plain Link Silent:3 Gone Full:64\nend Cut 12\n\
+client 30\nbytes ff\nmarks Plain\nend Malformed 0\n\
+client 10000\nbytes -\nmarks -\nend Closed\n\
+clients 3 requests 6\n";
+
 #[test]
 fn a_page_has_four_lines_for_each_client_and_one_of_sums(rt: HostRuntime) -> Result<(), Fail> {
     let alloc = rt.alloc();
     let empty = report(alloc, &[])?;
-    assert!(rt;
-        prints(alloc, &empty, b"clients 0 requests 0\n")?,
-        "no client"
-    );
+    let page = b"clients 0 requests 0\n";
+    assert!(rt; prints(alloc, &empty, page)?, "no client");
     let silent = report(alloc, &[(1, &[], &[], End::Finished)])?;
-    assert!(rt;
-        prints(
-            alloc,
-            &silent,
-            b"client 1\nbytes -\nmarks -\nend Finished\nclients 1 requests 0\n"
-        )?,
-        "no octets and no marks"
-    );
-    let marks = [
-        Mark::Plain,
-        Mark::Link,
-        Mark::Silent(3),
-        Mark::Gone,
-        Mark::Full(64),
-    ];
+    assert!(rt; prints(alloc, &silent, SILENT)?, "no octets and no marks");
     let clients: [(u32, &[u8], &[Mark], End); 3] = [
-        (2, &[0, 0xab], &marks, End::Cut(12)),
+        (2, &[0, 0xab], MARKS, End::Cut(12)),
         (30, &[0xff], &[Mark::Plain], End::Malformed(0)),
         (10000, &[], &[], End::Closed),
     ];
     let several = report(alloc, &clients)?;
-    assert!(rt;
-        prints(
-            alloc,
-            &several,
-            b"client 2\nbytes 00ab\nmarks Plain Link Silent:3 Gone Full:64\nend Cut 12\nclient 30\nbytes ff\nmarks Plain\nend Malformed 0\nclient 10000\nbytes -\nmarks -\nend Closed\nclients 3 requests 6\n"
-        )?,
-        "three clients"
-    );
+    assert!(rt; prints(alloc, &several, SEVERAL)?, "three clients");
     Ok(())
 }

@@ -177,77 +177,46 @@ const FORM: &[u8] = b"operation=searchRetrieve&version=1.1";
 /// A request that is taken.
 const WHOLE: &[u8] = b"version=1.2&operation=searchRetrieve&query=dc.title%3Da+b";
 
+/// A query, the number of its diagnostic, and what that is about.
+type Refused = (&'static [u8], u32, &'static [u8]);
+
+/// Queries whose operation and version are wrong.
+const FORMLESS: &[Refused] = &[
+    (b"version=", 7, b"operation"),
+    (b"operation=scan", 4, b"scan"),
+    (b"operation=searchRetrieve", 7, b"version"),
+    (b"operation=searchRetrieve&version=2.0", 5, b"1.2"),
+];
+
+/// What is wrong behind them.
+const REFUSED: &[Refused] = &[
+    (b"", 7, b"query"),
+    (b"&query=a&startRecord=0", 6, b"startRecord"),
+    (b"&query=a&startRecord=2147483648", 6, b"startRecord"),
+    (b"&query=a&maximumRecords=%2B1", 6, b"maximumRecords"),
+    (b"&query=a&maximumRecords=2147483648", 6, b"maximumRecords"),
+    (b"&query=a&recordPacking=XML", 71, b"XML"),
+    (b"&query=a&recordSchema=a+b", 66, b"a b"),
+    (b"&query=a&sortKeys=t&recordSchema=m", 66, b"m"),
+    (b"&query=a&y=1&sortKeys=t", 80, b""),
+    (b"&query=a&z=&y=1&x=1", 8, b"y"),
+    // names are compared exactly
+    (b"&query=a&X-y=1", 8, b"X-y"),
+    (b"&query=a&startrecord=2", 8, b"startrecord"),
+];
+
 #[test]
 fn the_first_check_that_fails_is_told(rt: HostRuntime) -> Result<(), Fail> {
     let alloc = rt.alloc();
-    for (query, number, details) in [
-        (b"version=".as_slice(), 7, b"operation".as_slice()),
-        (b"operation=scan".as_slice(), 4, b"scan".as_slice()),
-        (
-            b"operation=searchRetrieve".as_slice(),
-            7,
-            b"version".as_slice(),
-        ),
-        (
-            b"operation=searchRetrieve&version=2.0".as_slice(),
-            5,
-            b"1.2".as_slice(),
-        ),
-    ] {
+    for (query, number, details) in FORMLESS {
         assert!(rt;
-            is_refused(alloc, query, b"", b"1.2", number, details),
+            is_refused(alloc, query, b"", b"1.2", *number, details),
             "{number}"
         );
     }
-    for (query, number, details) in [
-        (b"".as_slice(), 7, b"query".as_slice()),
-        (
-            b"&query=a&startRecord=0".as_slice(),
-            6,
-            b"startRecord".as_slice(),
-        ),
-        (
-            b"&query=a&startRecord=2147483648".as_slice(),
-            6,
-            b"startRecord".as_slice(),
-        ),
-        (
-            b"&query=a&maximumRecords=%2B1".as_slice(),
-            6,
-            b"maximumRecords".as_slice(),
-        ),
-        (
-            b"&query=a&maximumRecords=2147483648".as_slice(),
-            6,
-            b"maximumRecords".as_slice(),
-        ),
-        (
-            b"&query=a&recordPacking=XML".as_slice(),
-            71,
-            b"XML".as_slice(),
-        ),
-        (
-            b"&query=a&recordSchema=a+b".as_slice(),
-            66,
-            b"a b".as_slice(),
-        ),
-        (
-            b"&query=a&sortKeys=t&recordSchema=m".as_slice(),
-            66,
-            b"m".as_slice(),
-        ),
-        (b"&query=a&y=1&sortKeys=t".as_slice(), 80, b"".as_slice()),
-        (b"&query=a&z=&y=1&x=1".as_slice(), 8, b"y".as_slice()),
-        // names are compared exactly
-        (b"&query=a&X-y=1".as_slice(), 8, b"X-y".as_slice()),
-        (
-            b"&query=a&startrecord=2".as_slice(),
-            8,
-            b"startrecord".as_slice(),
-        ),
-    ] {
+    for (query, number, details) in REFUSED {
         assert!(rt;
-            is_refused(alloc, FORM, query, b"1.1", number, details),
+            is_refused(alloc, FORM, query, b"1.1", *number, details),
             "{number}"
         );
     }
