@@ -3,6 +3,7 @@
 #![tactic(auto)]
 
 pub mod arrivals;
+pub mod backend;
 pub mod replies;
 pub mod session;
 pub mod sets;
