@@ -35,9 +35,13 @@ module _ {S : Type 0} where
     set_ttl = n.set_ttl;
   }
 
-  -- it begins without sessions
+  -- it begins without sessions, behind the last number that was given
+  abbrev pub pool_after : PoolNumbers → ℕ → PoolView S
+  pool_after n last = record { pool = pool_of n last []; fulls = 0; opens = 0; booked = 0 }
+
+  -- 0 is the last before the first
   abbrev pub new_pool : PoolNumbers → PoolView S
-  new_pool n = record { pool = pool_of n 0 []; fulls = 0; opens = 0; booked = 0 }
+  new_pool n = pool_after n 0
 
   -- another pool with the same counts
   abbrev pub with_pool : Pool S → PoolView S → PoolView S

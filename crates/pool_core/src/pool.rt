@@ -8,7 +8,7 @@ ghost use Rattle.pool_sets.specs.Sessions.{is_out, idle_parts, with_stand};
 ghost use Rattle.pool_sets.specs.Plain.{stays_open, with_fresh_sets, fresh_sessions, expire, take_with, take_any, open_one, lost, without_seat, put, redial_member};
 ghost use Rattle.pool_sets.specs.Doors.{TakenFits, one_more, is_full, is_dial, is_booked};
 ghost use Rattle.pool_sets.specs.Kept.{TableKept};
-ghost use Rattle.pool_core.specs.PoolView.{Gives, IsReuse, IsFresh, IsOpened, IsAny, idle_place, holder_place, at_member, new_pool, with_pool, after_book, after_redial};
+ghost use Rattle.pool_core.specs.PoolView.{Gives, IsReuse, IsFresh, IsOpened, IsAny, idle_place, holder_place, at_member, new_pool, pool_after, with_pool, after_book, after_redial};
 
 use crate::Spot;
 use crate::choice::{holder_place, idle_place, is_seat, member_for, open_in, seat_place};
@@ -191,6 +191,21 @@ impl<W: World, S: Sitting<W>> Pool<W, S> {
             opens: 0,
             booked: 0,
         })
+    }
+
+    /// A pool without sessions that goes on behind a number, so that no seat of a pool that gave
+    /// numbers up to that one fits a session of this one.
+    pub fn after(alloc: Global, numbers: PoolNumbers, last: u64) -> Pool<W, S>
+        ensures { result ≡ pool_after numbers last }
+    {
+        Pool {
+            sessions: Vec::new(alloc),
+            given: last,
+            numbers,
+            fulls: 0,
+            opens: 0,
+            booked: 0,
+        }
     }
 
     /// Gives the session at a place, which is the first idle one that holds the key.
