@@ -5,8 +5,6 @@ mod choice;
 mod door;
 mod pool;
 mod spot;
-#[cfg(test)]
-mod tests;
 
 pub use pool::Pool;
 pub use spot::Spot;

@@ -7,8 +7,6 @@ mod laws;
 mod pooled;
 mod sessions;
 mod table;
-#[cfg(test)]
-mod tests;
 
 pub use doors::{Door, Seat, Taken};
 pub use laws::{full_exactly, put_is_reused};

@@ -2,37 +2,26 @@
 
 ghost use Rattle.std.specs.Prelude.{◌<◌};
 
-use crate::{SetTable, full_exactly, put_is_reused};
+use crate::sessions::key_for;
+use pool_sets::{SetTable, full_exactly, put_is_reused};
 use std::alloc::Global;
 use std::test::Fail;
-use z_types::{List, Memory, Oid, Rpn, RpnQuery, SetKey, Term, Text};
+use z_types::{Memory, Text};
 
-/// The key of a search for a term in a database.
-fn key_in(alloc: Global, database: &[u8], term: i64) -> Result<SetKey, Memory> {
-    let mut dbs = List::new(alloc);
-    dbs.push(Text::copy_of(alloc, database)?)?;
-    let root = Rpn::leaf(List::new(alloc), Term::Number(term));
-    let attr_set = Oid::copy_of(alloc, &[1, 2, 840, 10003, 3, 1])?;
-    Ok(SetKey {
-        dbs,
-        query: RpnQuery { attr_set, root },
-    })
-}
-
-/// Makes room for the set of a term and records it, with as many hits.
-fn search(alloc: Global, table: &mut SetTable, term: u32, now: u64) -> Result<(), Memory> {
-    let key = key_in(alloc, b"D", term as i64)?;
+/// Makes room for the set of a search for a number and records it, with three hits.
+fn search(alloc: Global, table: &mut SetTable, number: i64, now: u64) -> Result<(), Memory> {
+    let key = key_for(alloc, number)?;
     let slot = table.room();
-    table.record_(slot, key, term, now)
+    table.record_(slot, key, 3, now)
 }
 
-/// A table of that many sets after searches for terms at moments.
-fn table_of(alloc: Global, max: u32, searches: &[(u32, u64)]) -> Result<SetTable, Memory>
+/// A table of that many sets after searches for numbers at moments.
+fn table_of(alloc: Global, max: u32, searches: &[(i64, u64)]) -> Result<SetTable, Memory>
     requires { 0 < max }
 {
     let mut table = SetTable::new(alloc, max)?;
-    for (term, now) in searches {
-        search(alloc, &mut table, *term, *now)?;
+    for (number, now) in searches {
+        search(alloc, &mut table, *number, *now)?;
     }
     Ok(table)
 }
@@ -40,7 +29,7 @@ fn table_of(alloc: Global, max: u32, searches: &[(u32, u64)]) -> Result<SetTable
 #[test]
 fn room_for_a_second_set_in_a_table_of_one_forgets_the_first(rt: HostRuntime) -> Result<(), Fail> {
     let alloc = rt.alloc();
-    let first = key_in(alloc, b"D", 3)?;
+    let first = key_for(alloc, 3)?;
     let mut table = table_of(alloc, 1, &[(3, 5)])?;
     assert_eq!(rt; table.holds(&first), Some(0));
     assert_eq!(rt; table.room(), 0);
@@ -52,10 +41,11 @@ fn room_for_a_second_set_in_a_table_of_one_forgets_the_first(rt: HostRuntime) ->
 #[test]
 fn the_least_recently_used_set_goes_first(rt: HostRuntime) -> Result<(), Fail> {
     let alloc = rt.alloc();
-    let first = key_in(alloc, b"D", 3)?;
-    let elsewhere = key_in(alloc, b"E", 3)?;
+    let first = key_for(alloc, 3)?;
+    let mut elsewhere = key_for(alloc, 3)?;
+    elsewhere.dbs.push(Text::copy_of(alloc, b"E")?)?;
     let mut table = table_of(alloc, 2, &[(3, 5), (4, 6)])?;
-    assert_eq!(rt; table.find(&elsewhere, 7), None, "another database");
+    assert_eq!(rt; table.find(&elsewhere, 7), None, "other databases");
     assert_eq!(rt; table.holds(&first), Some(0), "no use");
     assert_eq!(rt; table.find(&first, 7), Some((0, 3)), "a use");
     for (place, used) in [(0, Some(7)), (1, Some(6)), (2, None)] {
