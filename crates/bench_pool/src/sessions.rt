@@ -1,0 +1,117 @@
+//! Sessions that rest, each with ten sets of one query, at targets of which nothing is told.
+
+ghost use Rattle.std.specs.Prelude.{◌≡◌, All, Some, IfOk, OnOk, refl, decimal};
+ghost use Rattle.z_types.specs.Pending.{resting};
+ghost use Rattle.z_types.specs.declared.address.Address.TheVariants.{Test};
+ghost use Rattle.bench_pool.specs.Still.{no_hits, no_record, no_scan, key_in};
+ghost use Rattle.pool_sets.specs.Kept.{IsKept};
+
+use pool_sets::{Parts, Pooled, SetTable};
+use std::alloc::Global;
+use z_types::{
+    Address, List, Memory, Oid, Rpn, RpnQuery, SetKey, Sitting, Term, Text, World, copy,
+};
+
+/// How many sets a session holds.
+const SETS: u32 = 10;
+
+/// Targets of which nothing is told.
+#[derive(Drop)]
+pub struct Quiet {}
+
+impl World for Quiet {
+    ghost told = { λ _. ⊥ };
+
+    ghost search = { λ _ _. no_hits };
+
+    ghost record_ = { λ _ _ _ _ _. no_record };
+
+    ghost scan = { λ _ _ _. no_scan };
+
+    ghost hits_are_counts = { λ _ _. tt };
+
+    ghost whole_is_not_gone = { λ _ _ _ _ _. refl };
+}
+
+/// A session that made a set of its query in each database, under the database's name.
+#[derive(Drop)]
+pub struct Still {
+    query: RpnQuery,
+}
+
+impl Sitting<Quiet> for Still {
+    ghost address = { λ _. Test 0 };
+
+    ghost made = { λ s name. Some (key_in name s.query, 3) };
+
+    ghost pending = { λ _. resting };
+}
+
+/// The query for a number.
+fn query_for(alloc: Global, number: u32) -> Result<RpnQuery, Memory> {
+    let root = Rpn::leaf(List::new(alloc), Term::Number(number as i64));
+    let attr_set = Oid::copy_of(alloc, &[1, 2, 840, 10003, 3, 1])?;
+    Ok(RpnQuery { attr_set, root })
+}
+
+/// The name of a slot.
+fn name_of(alloc: Global, slot: u32) -> Result<Text, Memory>
+    ensures { IfOk result (λ name. name ≡ decimal slot) }
+{
+    let name = format!(in alloc; "{slot}")?;
+    Text::copy_of(alloc, name.as_bytes())
+}
+
+/// The key of a query in the database of a slot's name.
+fn key_under(alloc: Global, slot: u32, query: &RpnQuery) -> Result<SetKey, Memory>
+    ensures { IfOk result (λ key. key ≡ key_in (decimal slot) query.now) }
+{
+    let name = name_of(alloc, slot)?;
+    let mut dbs = List::new(alloc);
+    dbs.push(name)?;
+    let query = copy(query)?;
+    Ok(SetKey { dbs, query })
+}
+
+/// The key of a session's set.
+pub fn key_of(alloc: Global, number: u32, slot: u32) -> Result<SetKey, Memory> {
+    let query = query_for(alloc, number)?;
+    key_under(alloc, slot, &query)
+}
+
+/// Makes room for a set of the session's query and records it.
+fn add(alloc: Global, table: &mut SetTable, session: &Still) -> Result<(), Memory>
+    requires kept { All (IsKept ⟦<Quiet as World>⟧ ⟦<Still as Sitting<Quiet>>⟧ session.now)
+        table.old.entries }
+    ensures kept { OnOk result (All (IsKept ⟦<Quiet as World>⟧ ⟦<Still as Sitting<Quiet>>⟧
+        session.now) table.new.entries) }
+{
+    let slot = table.room();
+    let key = key_under(alloc, slot, &session.query)?;
+    table.record_(slot, key, 3, 0)
+}
+
+/// A table of sets of the session's query.
+fn table_of(alloc: Global, session: &Still) -> Result<SetTable, Memory>
+    ensures kept { IfOk result (λ table. All (IsKept ⟦<Quiet as World>⟧
+        ⟦<Still as Sitting<Quiet>>⟧ session.now) table.entries) }
+{
+    let mut table = SetTable::new(alloc, SETS)?;
+    for _ in 0..SETS {
+        add(alloc, &mut table, session)?;
+    }
+    Ok(table)
+}
+
+/// A session with sets of the number's query.
+pub fn holding(alloc: Global, number: u32) -> Result<Pooled<Quiet, Still>, Memory> {
+    let query = query_for(alloc, number)?;
+    let session = Still { query };
+    let table = table_of(alloc, &session)?;
+    let address = Address::Test(0);
+    Ok(Pooled::join(Parts {
+        session,
+        table,
+        address,
+    }))
+}
