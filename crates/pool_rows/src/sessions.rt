@@ -2,6 +2,7 @@
 
 ghost use Rattle.std.specs.Prelude.{◌≡◌, Some, Ok, IfOk};
 ghost use Rattle.z_types.specs.Pending.{resting};
+ghost use Rattle.z_types.specs.declared.ask.Ask.TheVariants.{Search};
 ghost use Rattle.gw_outside.specs.Asks.{MaySearch};
 ghost use Rattle.pool_sets.specs.Kept.{slot_name};
 
@@ -40,7 +41,18 @@ pub(crate) fn open_at<W: World, B: Backend<W>>(
     }
 }
 
+/// A search for the key under the name of the first slot.
+fn ask_for(alloc: Global, key: &SetKey) -> Result<Ask, Memory>
+    ensures { IfOk result (λ ask. ask ≡ Search (slot_name 0) key.now) }
+{
+    Ok(Ask::Search {
+        name: Text::copy_of(alloc, b"0")?,
+        key: copy(key)?,
+    })
+}
+
 /// The hits of a search under the name of the first slot.
+#[tactic(auto, using(crate::proofs::KeyLemmas::made_there))]
 fn search<W: World, B: Backend<W>>(
     alloc: Global,
     backend: &mut B,
@@ -56,12 +68,10 @@ fn search<W: World, B: Backend<W>>(
         → W.search (B.Session.address session.new) key.now ≡ Ok hits) }
     ensures address { B.Session.address session.new ≡ B.Session.address session.old }
 {
-    let name = Text::copy_of(alloc, b"0")?;
-    let key = copy(key)?;
-    let ask = Ask::Search { name, key };
-    if backend.start(alloc, session, &ask) != Began::Started {
+    let ask = ask_for(alloc, key)?;
+    let Began::Started = backend.start(alloc, session, &ask) else {
         return Err(Memory);
-    }
+    };
     match backend.look(alloc, session) {
         Heard::Hits(hits) => Ok(hits),
         _ => Err(Memory),
