@@ -1,7 +1,7 @@
 #!/bin/bash
 # Times how z_ber reads one unit of 1 MiB, of several shapes, and one of a tenth of it; many children also beside
-# the time of a plain pass over the same octets. Ends with status 1 where many children are walked at less than
-# 500 MB/s.
+# the time of a plain pass over the same octets; then how it checks all elements, by elements.sh. Ends with status 1
+# where many children are walked at less than 500 MB/s, or a shape is checked at less than 300 MB/s.
 . "$(dirname "$0")/readers.sh"
 
 # How many times as long as a plain pass over the same octets it takes to walk a sample.
@@ -25,4 +25,5 @@ compare ber-open 1000000 4
 echo "A unit with one child, asked for at each 256 octets, then one of indefinite length"
 compare ber-pieces 1048000 2000
 compare ber-open-pieces 1000000 1
+"$(dirname "$0")/elements.sh" || status=1
 exit $status

@@ -27,7 +27,9 @@ fn a_sink_keeps_each_piece_and_fails_at_the_writes_that_are_listed(
     for (failing, written, left) in [
         (0, true, b"abcde".as_slice()),
         (1, false, b""),
+        (2, false, b"ab"),
         (3, false, b"abcd"),
+        (4, true, b"abcde"),
     ] {
         let mut parts = MemorySink::taking(alloc, 2, numbers(alloc, &[failing])?);
         assert_eq!(rt; write_all(&mut parts, b"abcde"), written, "at {failing}");
