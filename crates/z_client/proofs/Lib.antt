@@ -1,0 +1,5 @@
+pub mod ArrivalLemmas
+pub mod SetsLemmas
+pub mod TrueReplies
+pub mod TrueAsks
+pub mod TrueLooks
