@@ -1,15 +1,15 @@
 -- A unit arrives over a link that tells its peer (X.690:2021, 8.1; what links tell is this project's own)
-use Rattle.std.proofs.Common.{◌≡◌, ◌∙◌, ◌⊎◌, inl, inr, ℕ, zero, suc, ◌≤◌, List, [], ◌∷◌, ◌++◌, append_assoc, length, take, drop, Option, None, Some, refl, sym, ap, subst}
+use Rattle.std.proofs.Common.{◌≡◌, ◌∙◌, inl, inr, ℕ, zero, suc, List, [], ◌++◌, append_assoc, length, take, drop, Option, None, Some, refl, sym, ap, subst}
 use Rattle.std.proofs.lemmas.List.{take-append-drop, append-nil, append_cancel_left}
 use Rattle.z_ber.specs.Due.{Stands, StandsOn}
 use Rattle.z_ber.specs.Element.{end_of_contents}
 use Rattle.z_ber.specs.Frames.{IsFrame, IsExtent}
-use Rattle.z_ber.specs.Header.{IsOpenFor, IsBadFor, Begins, IsHeader}
+use Rattle.z_ber.specs.Header.{IsOpenFor}
 use Rattle.z_ber.specs.declared.tag.Tag.{Tag}
 use Rattle.z_ber.proofs.OneSplit.{frame_begins_no_other}
 use Rattle.z_ber.proofs.TreeLaws.{head_some}
 use Rattle.gw_outside.specs.Peers.{Peer}
-use Rattle.gw_outside.specs.Wires.{HandsOver, ArrivesFrom}
+use Rattle.gw_outside.specs.Wires.{HandsOver}
 use Rattle.z_client.specs.declared.arrivals.Arrival.{Arrival}
 use Rattle.z_client.specs.declared.arrivals.Arrival.TheVariants.{Unit as Whole, NotYet, Breach, Failed, Memory}
 use Rattle.z_client.specs.Arrivals.{ArrivalFits, CameFrom, ArrivesBy, IsInFront, IsLooked}

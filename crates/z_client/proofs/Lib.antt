@@ -3,3 +3,5 @@ pub mod SetsLemmas
 pub mod TrueReplies
 pub mod TrueAsks
 pub mod TrueLooks
+pub mod HearingLemmas
+pub mod LookLemmas

@@ -1,5 +1,5 @@
 -- The result sets of a session by their names (this project's own)
-use Rattle.std.proofs.Common.{◌≡◌, ◌∙◌, ℕ, Bool, true, false, cond, not, List, [], ◌∷◌, Option, None, Some, filter, refl, sym, ap}
+use Rattle.std.proofs.Common.{◌≡◌, ◌∙◌, ℕ, Bool, true, false, cond, not, List, [], ◌∷◌, Option, None, Some, refl, sym, ap}
 use Rattle.z_types.specs.equality.Tests.{text_exact}
 use Rattle.z_types.specs.declared.key.SetKey.{SetKey}
 use Rattle.gw_outside.specs.Peers.{is_named}

@@ -1,6 +1,6 @@
 -- A true peer that takes an ask is one that owes its reply (this project's own)
-use Rattle.std.proofs.Common.{◌≡◌, ◌≢◌, ◌∙◌, ◌⊎◌, inl, inr, ℕ, ◌+◌, ◌≤◌, pos, Bool, true, false, cond, List, [], ◌∷◌, ◌++◌, Option, None, Some, Result, Ok, Err, option_and_then, refl, sym, ap, subst}
-use Rattle.z_types.specs.Pending.{Pending, resting, opening, asked, broken}
+use Rattle.std.proofs.Common.{◌≡◌, ◌∙◌, ◌⊎◌, inl, inr, ℕ, ◌+◌, ◌≤◌, pos, cond, List, [], ◌∷◌, ◌++◌, Option, None, Some, Ok, option_and_then, refl, sym, ap, subst}
+use Rattle.z_types.specs.Pending.{resting, asked}
 use Rattle.z_types.specs.declared.address.Address.{Address}
 use Rattle.z_types.specs.declared.ask.Ask.{Ask}
 use Rattle.z_types.specs.declared.ask.Ask.TheVariants.{Search, Present, Scan}
@@ -11,12 +11,12 @@ use Rattle.z_types.specs.declared.requests.Present.{Present as PresentRequest}
 use Rattle.z_types.specs.declared.world.World as world
 use Rattle.gw_outside.specs.Asks.{MayAsk, MayPresent, MaySearch}
 use Rattle.gw_outside.specs.declared.backends.Heard.{Heard}
-use Rattle.gw_outside.specs.Peers.{NamedSet, Peer, TakesRequest, AreLeft, StayHeld, PresentAnswered, SearchAnswered, OthersStay, IsPeerStep, is_named, held, set_of}
+use Rattle.gw_outside.specs.Peers.{NamedSet, Peer, TakesRequest, AreLeft, StayHeld, PresentAnswered, IsPeerStep, held, set_of}
 use Rattle.gw_outside.specs.Replies.{present_said}
-use Rattle.gw_outside.specs.Sessions.{Made, IsWorlds, RecordsOf}
-use Rattle.z_client.specs.Heard.{heard_of, records_heard}
+use Rattle.gw_outside.specs.Sessions.{Made, RecordsOf}
+use Rattle.z_client.specs.Heard.{records_heard}
 use Rattle.z_client.specs.Units.{request_of}
-use Rattle.z_client.specs.TrueSession.{HoldsOrNothing, HoldsSearched, AreTrueSets, IsTrueReply, Owes, IsTruePeer}
+use Rattle.z_client.specs.TrueSession.{HoldsOrNothing, AreTrueSets, IsTrueReply, IsTruePeer}
 use Rattle.z_client.proofs.TrueReplies.{no_operand, search_reply_true, scan_reply_true, presented_true, not_held_true}
 
 -- what is left of sets, or stays, is the set or nothing

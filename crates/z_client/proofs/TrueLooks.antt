@@ -1,26 +1,21 @@
 -- A true peer whose reply has come and was heard is one of a session that rests (this project's own)
-use Rattle.std.proofs.Common.{◌≡◌, ◌∙◌, ◌⊎◌, inl, inr, ℕ, Bool, true, false, cond, List, [], ◌∷◌, Option, None, Some, Result, Ok, Err, refl, sym, ap, subst}
-use Rattle.z_ber.specs.Element.{Forest}
-use Rattle.z_ber.specs.Place.{IsUnit}
+use Rattle.std.proofs.Common.{◌≡◌, ◌∙◌, inl, ℕ, Bool, true, false, cond, List, [], ◌∷◌, Option, None, Some, Ok, refl, sym, ap, subst}
 use Rattle.z_ber.proofs.TreeLaws.{element_one}
-use Rattle.unit_forms.specs.declared.refusal.Refusal.{Refusal}
 use Rattle.unit_forms.specs.Reading.Units.{reply_in}
 use Rattle.z_types.specs.Pending.{Pending, IsPending, resting, opening, asked, broken}
 use Rattle.z_types.specs.declared.address.Address.{Address}
-use Rattle.z_types.specs.declared.ask.Ask.{Ask}
 use Rattle.z_types.specs.declared.ask.Ask.TheVariants.{Search, Present, Scan}
-use Rattle.z_types.specs.declared.diagnostic.Diag.{Diag}
 use Rattle.z_types.specs.declared.key.SetKey.{SetKey}
 use Rattle.z_types.specs.declared.replies.Reply.{Reply}
 use Rattle.z_types.specs.declared.world.World as world
 use Rattle.gw_outside.specs.declared.backends.Heard.{Heard}
 use Rattle.gw_outside.specs.declared.backends.Heard.TheVariants.{Opened, Hits, Refused, Items, Gone, Scanned, NotYet, Failed, Memory}
-use Rattle.gw_outside.specs.Peers.{NamedSet, Peer, is_named, held, set_of}
-use Rattle.gw_outside.specs.Sessions.{Made, Fits, IsWorlds, made_by, made_after, pending_after}
+use Rattle.gw_outside.specs.Peers.{NamedSet, Peer, is_named, set_of}
+use Rattle.gw_outside.specs.Sessions.{Made, Fits, IsWorlds, made_after, pending_after}
 use Rattle.gw_outside.specs.Wires.{HandsOver, IsReplyUnit}
 use Rattle.z_read.specs.Read.{IsReplyRead}
 use Rattle.z_client.specs.Heard.{heard_of}
-use Rattle.z_client.specs.TrueSession.{HoldsOrNothing, HoldsSearched, AreTrueSets, IsTrueReply, Owes, IsTruePeer, HasCome}
+use Rattle.z_client.specs.TrueSession.{HoldsOrNothing, AreTrueSets, IsTrueReply, Owes, IsTruePeer, HasCome}
 
 same_key : (key own : SetKey) (hits found : ℕ) → ◌≡◌ {A = Option (SetKey × ℕ)} (Some (own, found)) (Some (key, hits)) → own ≡ key
 same_key key own hits found e =

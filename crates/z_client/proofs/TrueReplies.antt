@@ -1,12 +1,11 @@
 -- What is heard of a true peer's reply is the world's (this project's own)
-use Rattle.std.proofs.Common.{◌≡◌, ◌≢◌, ◌∙◌, ◌⊎◌, inl, inr, ℕ, ◌+◌, ◌≤◌, pos, Bool, true, false, cond, ◌&&◌, List, [], ◌∷◌, ◌++◌, length, Option, None, Some, Result, Ok, Err, option_map, option_and_then, nat_le, refl, sym, ap, subst}
+use Rattle.std.proofs.Common.{◌≡◌, ◌∙◌, ℕ, Bool, true, false, cond, ◌&&◌, List, length, Option, None, Some, Result, Ok, Err, option_map, option_and_then, nat_le, refl, sym, ap, subst}
 use Rattle.z_types.specs.Bib1.{is_gone}
 use Rattle.z_types.specs.Bounds.{most_number}
 use Rattle.z_types.specs.Tree.{Tree, leaf, operand, and, or, and_not}
-use Rattle.z_types.specs.Pending.{Pending, resting, opening, asked, broken}
+use Rattle.z_types.specs.Pending.{asked}
 use Rattle.z_types.specs.declared.address.Address.{Address}
-use Rattle.z_types.specs.declared.ask.Ask.{Ask}
-use Rattle.z_types.specs.declared.ask.Ask.TheVariants.{Search, Present, Scan}
+use Rattle.z_types.specs.declared.ask.Ask.TheVariants.{Search, Scan}
 use Rattle.z_types.specs.declared.diagnostic.Diag.{Diag}
 use Rattle.z_types.specs.declared.key.SetKey.{SetKey}
 use Rattle.z_types.specs.declared.records.Item.{Item}
@@ -14,13 +13,13 @@ use Rattle.z_types.specs.declared.replies.Reply.{Reply}
 use Rattle.z_types.specs.declared.scan.ScanAnswer.{ScanAnswer}
 use Rattle.z_types.specs.declared.scan.ScanAsk.{ScanAsk}
 use Rattle.z_types.specs.declared.world.World as world
-use Rattle.gw_outside.specs.Asks.{HasNoSet, MayPresent}
+use Rattle.gw_outside.specs.Asks.{HasNoSet}
 use Rattle.gw_outside.specs.declared.backends.Heard.{Heard}
-use Rattle.gw_outside.specs.declared.backends.Heard.TheVariants.{Opened, Hits, Refused, Items, Gone, Scanned, NotYet, Failed, Memory}
-use Rattle.gw_outside.specs.Peers.{HasNoOperand, AreRecords, IsPresented, IsNotHeld}
-use Rattle.gw_outside.specs.Replies.{search_said, present_said, scan_said}
+use Rattle.gw_outside.specs.declared.backends.Heard.TheVariants.{Hits, Refused, Items, Gone, Scanned}
+use Rattle.gw_outside.specs.Peers.{HasNoOperand, IsPresented, IsNotHeld}
+use Rattle.gw_outside.specs.Replies.{search_said, scan_said}
 use Rattle.gw_outside.specs.Sessions.{Made, IsWorlds, RecordsOf}
-use Rattle.z_client.specs.Heard.{hits_heard, search_heard, gone_or_refused, items_heard, records_heard, scan_heard}
+use Rattle.z_client.specs.Heard.{search_heard, records_heard, scan_heard}
 
 -- a query without sets has no operand that is one
 pub no_operand : (tree : Tree) → HasNoSet tree → HasNoOperand tree
@@ -31,15 +30,15 @@ no_operand (or l r) h = (no_operand l h.0, no_operand r h.1)
 no_operand (and_not l r) h = (no_operand l h.0, no_operand r h.1)
 
 -- what is heard where a test passes
-heard_if : (P : Heard → Type 0) (b : Bool) (one heard : Heard) → P one → cond b (Some one) None ≡ Some heard → P heard
+pub heard_if : (P : Heard → Type 0) (b : Bool) (one heard : Heard) → P one → cond b (Some one) None ≡ Some heard → P heard
 heard_if P true one heard p e = let same : one ≡ heard = cc in subst P same p
 heard_if P false one heard p e = absurd cc
 
-heard_is : (P : Heard → Type 0) (one heard : Heard) → P one → Some one ≡ Some heard → P heard
+pub heard_is : (P : Heard → Type 0) (one heard : Heard) → P one → Some one ≡ Some heard → P heard
 heard_is P one heard p e = let same : one ≡ heard = cc in subst P same p
 
 -- one of two things is heard
-heard_of_two : (P : Heard → Type 0) (b : Bool) (one two heard : Heard) → P one → P two → Some (cond b one two) ≡ Some heard → P heard
+pub heard_of_two : (P : Heard → Type 0) (b : Bool) (one two heard : Heard) → P one → P two → Some (cond b one two) ≡ Some heard → P heard
 heard_of_two P true one two heard p q e = let same : one ≡ heard = cc in subst P same p
 heard_of_two P false one two heard p q e = let same : two ≡ heard = cc in subst P same q
 

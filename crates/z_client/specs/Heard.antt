@@ -1,5 +1,5 @@
 -- What is heard of a reply by what is pending (ANSI/NISO Z39.50-2003, 3.2.1 to 3.2.3 and 3.2.8); a reply that is none to it is a breach
-use Rattle.std.specs.Prelude.{◌≡◌, ◌⊎◌, ℕ, ◌&&◌, Bool, List, ◌++◌, length, Option, None, Some, option_map, option_and_then, Result, Ok, Err, nat_le, if◌then◌else◌}
+use Rattle.std.specs.Prelude.{◌≡◌, ◌⊎◌, ℕ, ◌&&◌, List, ◌++◌, length, Option, None, Some, option_map, option_and_then, Result, Ok, Err, nat_le, if◌then◌else◌}
 use Rattle.z_types.specs.Bib1.{is_gone}
 use Rattle.z_types.specs.Bounds.{most_number}
 use Rattle.z_types.specs.Pending.{Pending, resting, opening, asked, broken}

@@ -1,5 +1,5 @@
 -- What a session waits for, and the result sets that it made (this project's own)
-use Rattle.std.specs.Prelude.{ℕ, not, List, [], ◌∷◌, filter, Option, None, Some, if◌then◌else◌}
+use Rattle.std.specs.Prelude.{ℕ, not, List, [], ◌∷◌, filter, None, Some, if◌then◌else◌}
 use Rattle.z_types.specs.Pending.{Pending, resting, opening, asked, broken}
 use Rattle.gw_outside.specs.Peers.{is_named}
 use Rattle.gw_outside.specs.Sessions.{Made}

@@ -1,5 +1,5 @@
 -- The units that are sent to targets (ANSI/NISO Z39.50-2003, 3.2.1 to 3.2.3 and 3.2.8), none with a referenceId
-use Rattle.std.specs.Prelude.{ℕ, ◌+◌, ◌^◌, pos, true, List, Option, None}
+use Rattle.std.specs.Prelude.{◌+◌, ◌^◌, pos, true, None}
 use Rattle.z_types.specs.Bounds.{most_unit_octets}
 use Rattle.z_types.specs.declared.ask.Ask.{Ask}
 use Rattle.z_types.specs.declared.ask.Ask.TheVariants.{Search, Present, Scan}

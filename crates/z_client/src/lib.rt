@@ -4,6 +4,8 @@
 
 pub mod arrivals;
 pub mod backend;
+pub mod hearing;
+pub mod listening;
 pub mod replies;
 pub mod session;
 pub mod sets;

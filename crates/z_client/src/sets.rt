@@ -1,6 +1,7 @@
 //! What a session waits for, and the result sets that it made.
 
-ghost use Rattle.std.specs.Prelude.{◌≡◌, ℕ, List, ◌∷◌, OnOk, if◌then◌else◌};
+ghost use Rattle.std.specs.Prelude.{◌≡◌, ◌≤◌, ℕ, List, ◌∷◌, OnOk, OnErr, if◌then◌else◌};
+ghost use Rattle.std.specs.Vec.{vec_capacity, vec_len};
 ghost use Rattle.gw_outside.specs.Peers.{is_named};
 ghost use Rattle.gw_outside.specs.Sessions.{made_by, made_after};
 ghost use Rattle.z_client.specs.Sets.{pending_of, made_in, without};
@@ -33,10 +34,12 @@ pub struct FoundSet {
 }
 
 /// Keeps what was heard of what was waited for: the set of a search that succeeded takes the place of
-/// what its name had, and one that was refused leaves its name without a set.
+/// what its name had, and one that was refused leaves its name without a set. Without memory nothing is
+/// changed.
 pub(crate) fn keep(sets: &mut Vec<FoundSet>, waited: Waiting, heard: &Heard) -> Result<(), Memory>
-    ensures { (name : List ℕ) → OnOk result (made_in sets.new.items name
+    ensures ok { (name : List ℕ) → OnOk result (made_in sets.new.items name
         ≡ made_after (pending_of waited) heard.now (made_in sets.old.items) name) }
+    ensures err { OnErr result (sets.new.items ≡ sets.old.items) }
 {
     match waited {
         Waiting::Answer(Ask::Search { name, key }) => keep_search(sets, name, key, heard),
@@ -52,9 +55,10 @@ fn keep_search(
     key: SetKey,
     heard: &Heard,
 ) -> Result<(), Memory>
-    ensures { (other : List ℕ) → OnOk result (made_in sets.new.items other
+    ensures ok { (other : List ℕ) → OnOk result (made_in sets.new.items other
         ≡ (if is_named name other then made_by key heard.now (made_in sets.old.items other)
         else made_in sets.old.items other)) }
+    ensures err { OnErr result (sets.new.items ≡ sets.old.items) }
 {
     match heard {
         Heard::Hits(hits) => {
@@ -71,16 +75,22 @@ fn keep_search(
 
 /// Puts a set under its name, in the place of what the name had.
 fn put(sets: &mut Vec<FoundSet>, set: FoundSet) -> Result<(), Memory>
-    ensures { OnOk result (sets.new.items ≡ set ∷ without set.name sets.old.items) }
+    ensures ok { OnOk result (sets.new.items ≡ set ∷ without set.name sets.old.items) }
+    ensures err { OnErr result (sets.new.items ≡ sets.old.items) }
 {
+    sets.reserve(1)?;
     forget(sets, &set.name);
-    sets.insert(0, set)?;
-    Ok(())
+    match sets.insert(0, set) {
+        Ok(()) => Ok(()),
+        Err(_) => unreachable!(),
+    }
 }
 
 /// Leaves a name without a set.
 fn forget(sets: &mut Vec<FoundSet>, name: &Text)
-    ensures { sets.new.items ≡ without name.now sets.old.items }
+    ensures sets { sets.new.items ≡ without name.now sets.old.items }
+    ensures shorter { vec_len sets.new ≤ vec_len sets.old }
+    ensures room { vec_capacity sets.new ≡ vec_capacity sets.old }
 {
     sets.retain(|set| set.name != *name);
 }

@@ -1,6 +1,4 @@
-use Rattle.std.proofs.Common.{rules, arith, ◌≡◌, ◌∙◌, None, Some, subst}
-use Rattle.z_ber.specs.Frames.{IsFrame}
-use Rattle.z_ber.specs.Header.{IsOpenFor}
+use Rattle.std.proofs.Common.{rules, arith, ◌∙◌, None, Some, subst}
 use Rattle.z_client.specs.Arrivals.{IsInFront}
 use Rattle.z_client.proofs.ArrivalLemmas.{front_fits, front_arrives, look_fits, look_arrives, look_stands, look_comes}
 use Rattle.z_client.proofs.arrivals.await_unit.Goals as goal
