@@ -1,7 +1,8 @@
 -- What a look keeps of a session (this project's own)
-use Rattle.std.proofs.Common.{◌≡◌, ◌≢◌, ◌∙◌, inr, ℕ, Bool, true, false, cond, List, take, drop, Option, None, Some, Result, Ok, Err, IfOk, IfErr, OnOk, MatchResult, is_err, refl, sym, subst}
+use Rattle.std.proofs.Common.{inl, ◌≡◌, ◌≢◌, ◌∙◌, inr, ℕ, Bool, true, false, cond, List, take, drop, Option, None, Some, Result, Ok, Err, IfOk, IfErr, OnOk, MatchResult, is_err, refl, sym, subst}
 use Rattle.std.proofs.lemmas.List.{take-append-drop}
 use Rattle.z_ber.specs.Frames.{IsFrame}
+use Rattle.z_ber.specs.Header.{IsBadFor}
 use Rattle.z_types.specs.Pending.{Pending, IsPending, resting, opening, asked, broken}
 use Rattle.z_types.specs.declared.address.Address.{Address}
 use Rattle.z_types.specs.declared.ask.Ask.TheVariants.{Search, Present, Scan}
@@ -138,6 +139,11 @@ module _ (arrived : List ℕ) (p : Pending) where
   pub breach_not_failed : (said : Result Heard (List ℕ)) → Said said → IfOk said (λ heard. heard ≢ Failed)
   breach_not_failed (Ok heard) m = λ e. let no : ◌≡◌ {A = Heard} Memory Failed = sym m ∙ e in absurd cc
   breach_not_failed (Err octets) m = tt
+
+  -- octets that begin with no unit
+  pub bad_breach : (said : Result Heard (List ℕ)) → Said said → IsBadFor IsFrame arrived → IfErr said (λ octets. IsBreach p octets)
+  bad_breach (Ok heard) m bad = tt
+  bad_breach (Err octets) m bad = inl (subst (λ o. IsBadFor IsFrame o) (sym m) bad)
 
   -- octets that begin with a whole unit of which nothing is heard
   pub another_breach : (size : ℕ) (said : Result Heard (List ℕ)) → Said said → IsFrame (take size arrived) → IsHeardIn p (take size arrived) None

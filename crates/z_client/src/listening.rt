@@ -1,22 +1,64 @@
 //! A look of a session at its link: what is heard of the unit that has arrived, or a breach.
 
-ghost use Rattle.std.specs.Prelude.{◌≡◌, ◌≢◌, ◌≤◌, ℕ, List, length, take, drop, false, IfOk, IfErr, MatchResult};
+ghost use Rattle.std.specs.Prelude.{◌≡◌, ◌≢◌, ◌≤◌, ℕ, List, length, take, Ok, false, IfOk, IfErr, MatchResult};
 ghost use Rattle.z_ber.specs.Frames.{IsFrame};
+ghost use Rattle.z_ber.specs.Header.{IsOpenFor};
 ghost use Rattle.z_types.specs.Pending.{IsPending, broken};
 ghost use Rattle.gw_outside.specs.Counts.{Rose, one_more};
 ghost use Rattle.gw_outside.specs.Sessions.{Fits, IsWorlds, made_after, pending_after, is_not_yet};
 ghost use Rattle.z_client.specs.Heard.{IsBreach};
 ghost use Rattle.z_client.specs.Looks.{IsHeardIn, EndsWait, HasArrived, answer_of};
 ghost use Rattle.z_client.specs.Sets.{made_in, pending_of};
-ghost use Rattle.z_client.specs.TrueSession.{IsTrueSession};
+ghost use Rattle.z_client.specs.TrueSession.{IsKept, IsTrueSession};
 
+use crate::arrivals::{Arrival, await_unit};
 use crate::hearing::heard_in;
 use crate::session::Parts;
 use crate::sets::{Waiting, keep};
 use gw_outside::{Heard, Wire};
 use std::alloc::Global;
+use std::mem;
 use z_ber::Scan;
 use z_types::{Memory, Text, World};
+
+/// Looks for the reply that a session waits for. A breach gives the octets that had arrived.
+pub(crate) fn listen<W: World, N: Wire<W>>(
+    wire: &mut N,
+    alloc: Global,
+    parts: &mut Parts<N::Link>,
+) -> Result<Heard, Text>
+    requires pending { IsPending (pending_of parts.old.waiting) }
+    requires kept { IsKept W.World N.Link.Linked parts.old }
+    ensures fits { Fits (pending_of parts.old.waiting) (answer_of result) }
+    ensures worlds { W.told parts.old.address → IsWorlds W.World parts.old.address
+        (made_in parts.old.made.items) (pending_of parts.old.waiting) (answer_of result) }
+    ensures pending { pending_of parts.new.waiting
+        ≡ pending_after (pending_of parts.old.waiting) (answer_of result) }
+    ensures made { (name : List ℕ) → made_in parts.new.made.items name
+        ≡ made_after (pending_of parts.old.waiting) (answer_of result)
+        (made_in parts.old.made.items) name }
+    ensures address { parts.new.address ≡ parts.old.address }
+    ensures kept { IsTrueSession W.World N.Link.Linked parts.new }
+    ensures breach { IfErr result (λ octets. IsBreach (pending_of parts.old.waiting) octets) }
+    ensures last { IfErr result (λ octets. octets ≡ N.Link.arrived parts.new.link) }
+    ensures not_yet { result ≡ Ok Heard.NotYet
+        → IsOpenFor IsFrame (N.Link.arrived parts.new.link) }
+    ensures failed { result ≡ Ok Heard.Failed → Rose (N.faults wire.old) (N.faults wire.new) }
+    ensures faults { N.faults wire.old ≤ N.faults wire.new }
+    ensures waits { N.waits wire.new ≡ one_more (is_not_yet (answer_of result)) (N.waits wire.old) }
+{
+    let waiting = mem::replace(&mut parts.waiting, Waiting::Broken);
+    match await_unit(wire, alloc, &mut parts.link, &mut parts.scan) {
+        Arrival::Unit(size) => hear(wire, alloc, parts, waiting, size),
+        Arrival::NotYet => {
+            parts.waiting = waiting;
+            Ok(Heard::NotYet)
+        }
+        Arrival::Breach => breach(wire, alloc, &parts.link),
+        Arrival::Failed => Ok(Heard::Failed),
+        Arrival::Memory => Ok(Heard::Memory),
+    }
+}
 
 /// What is heard of the unit of so many octets that has arrived. A breach gives the octets that had.
 #[tactic(auto, using(crate::proofs::HearingLemmas::heard_ends, crate::proofs::LookLemmas::memory_worlds))]
