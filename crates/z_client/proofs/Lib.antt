@@ -5,3 +5,4 @@ pub mod TrueAsks
 pub mod TrueLooks
 pub mod HearingLemmas
 pub mod LookLemmas
+pub mod SendLemmas

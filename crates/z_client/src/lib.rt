@@ -7,6 +7,7 @@ pub mod backend;
 pub mod hearing;
 pub mod listening;
 pub mod replies;
+pub mod sending;
 pub mod session;
 pub mod sets;
 pub mod units;
