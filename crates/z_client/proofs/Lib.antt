@@ -6,3 +6,5 @@ pub mod TrueLooks
 pub mod HearingLemmas
 pub mod LookLemmas
 pub mod SendLemmas
+pub mod SizeLemmas
+pub mod UnitLemmas

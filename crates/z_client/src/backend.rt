@@ -1,6 +1,6 @@
 //! Sessions with targets over the links of a wire.
 
-ghost use Rattle.std.specs.Prelude.{◌+◌};
+ghost use Rattle.std.specs.Prelude.{◌≡◌, ◌+◌};
 ghost use Rattle.gw_outside.specs.Counts.{one_more};
 ghost use Rattle.gw_outside.specs.Sessions.{is_search, is_gone};
 

@@ -4,9 +4,11 @@
 ghost use Rattle.std.specs.Prelude.{◌≡◌, IfOk};
 ghost use Rattle.z_types.specs.declared.ask.Ask.TheVariants as Asks;
 ghost use Rattle.unit_forms.specs.Requests.{spell_request};
+ghost use Rattle.gw_outside.specs.Wires.{IsRequestUnit};
 ghost use Rattle.z_client.specs.Units.{init_request, request_of};
 
 use std::alloc::Global;
+use z_laws::{written_requests_are_read, written_requests_are_units};
 use z_types::{
     Ask, Asked, Init, List, MOST_UNIT_OCTETS, Memory, Oid, Present, Request, Scan, ScanAsk, Search,
     SetKey, Text, copy,
@@ -20,9 +22,12 @@ const OWN_VERSIONS: u32 = 7;
 const OWN_OPTIONS: u32 = 16515;
 
 /// The unit of the Init that opens a session.
+#[tactic(auto, using(crate::proofs::UnitLemmas::init_is_unit))]
 pub(crate) fn init_unit(alloc: Global) -> Result<Text, Memory>
-    ensures { IfOk result (λ unit. unit ≡ spell_request init_request) }
+    ensures { IfOk result (λ unit. IsRequestUnit unit init_request) }
 {
+    written_requests_are_units();
+    written_requests_are_read();
     let init = Init {
         ref_id: None,
         versions: OWN_VERSIONS,
