@@ -4,8 +4,10 @@ use Rattle.z_types.specs.Pending.{Pending, IsPending, resting, opening, asked, b
 use Rattle.z_types.specs.declared.address.Address.{Address}
 use Rattle.z_types.specs.declared.ask.Ask.{Ask}
 use Rattle.z_types.specs.declared.world.World as world
-use Rattle.gw_outside.specs.Asks.{MayAsk}
-use Rattle.gw_outside.specs.Peers.{Peer, new_peer, TakesRequest, IsShortRequest}
+use Rattle.z_types.specs.declared.ask.Ask.TheVariants.{Search, Present, Scan}
+use Rattle.z_types.specs.Tree.{Tree, leaf, operand, and, or, and_not}
+use Rattle.gw_outside.specs.Asks.{MayAsk, HasNoSet}
+use Rattle.gw_outside.specs.Peers.{Peer, new_peer, TakesRequest, IsShortRequest, HasShortOperands}
 use Rattle.gw_outside.specs.Sessions.{Made}
 use Rattle.gw_outside.specs.Wires.{IsNewPeer, IsRequestUnit, PeerTakes}
 use Rattle.z_client.specs.Sets.{made_in}
@@ -48,3 +50,24 @@ module _ {W : Type 0} (w : world.Ghosts W) (address : Address) where
   told_asks made ask unit None new t may takes is short = absurd t
   told_asks made ask unit (Some old) None t may takes is short = absurd takes
   told_asks made ask unit (Some old) (Some new) t may takes is short = asks_true w address made ask old new t may (takes (request_of ask) is short)
+
+-- a query without sets has no names of sets that are long
+no_long_operand : (tree : Tree) → HasNoSet tree → HasShortOperands tree
+no_long_operand (leaf attrs term) h = tt
+no_long_operand (operand name) h = absurd h
+no_long_operand (and l r) h = (no_long_operand l h.0, no_long_operand r h.1)
+no_long_operand (or l r) h = (no_long_operand l h.0, no_long_operand r h.1)
+no_long_operand (and_not l r) h = (no_long_operand l h.0, no_long_operand r h.1)
+
+-- what may be asked is a request whose texts are short
+pub may_short : (made : Made) (ask : Ask) → MayAsk made ask → IsShortRequest (request_of ask)
+may_short made (Search name key) may = record {
+  ref_id = tt;
+  name = may.short;
+  dbs = may.databases.each;
+  small_element = tt;
+  medium_element = tt;
+  query = no_long_operand key.query.root may.no_set;
+}
+may_short made (Present name first count syntax element) may = (tt, may.short, may.short_element)
+may_short made (Scan dbs ask) may = (tt, may.databases.each)

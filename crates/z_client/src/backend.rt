@@ -1,6 +1,8 @@
 //! Sessions with targets over the links of a wire.
 
-ghost use Rattle.std.specs.Prelude.{◌≡◌, ◌+◌};
+ghost use Rattle.std.specs.Prelude.{◌≡◌, ◌+◌, IfOk};
+ghost use Rattle.unit_forms.specs.Requests.{spell_request};
+ghost use Rattle.z_client.specs.Units.{request_of};
 ghost use Rattle.gw_outside.specs.Counts.{one_more};
 ghost use Rattle.gw_outside.specs.Sessions.{is_search, is_gone};
 
@@ -74,13 +76,10 @@ impl<W: World, N: Wire<W>> Backend<W> for ZBackend<N> {
         }
     }
 
+    #[tactic(auto, using(crate::proofs::SendLemmas::rests_unbroken, crate::proofs::SendLemmas::may_short))]
     fn start(&mut self, alloc: Global, session: &mut ZSession<W, N::Link>, ask: &Ask) -> Began {
         let parts = &mut session.parts;
-        let Ok(own) = copy(ask) else {
-            parts.waiting = Waiting::Broken;
-            return Began::Memory;
-        };
-        let Ok(unit) = ask_unit(alloc, ask) else {
+        let Ok((own, unit)) = asked(alloc, ask) else {
             parts.waiting = Waiting::Broken;
             return Began::Memory;
         };
@@ -105,6 +104,15 @@ impl<W: World, N: Wire<W>> Backend<W> for ZBackend<N> {
             }
         }
     }
+}
+
+/// An ask of one's own, and its unit.
+fn asked(alloc: Global, ask: &Ask) -> Result<(Ask, Text), Memory>
+    ensures own { IfOk result (λ made. made.0 ≡ ask.now) }
+    ensures unit { IfOk result (λ made. made.1 ≡ spell_request (request_of ask.now)) }
+{
+    let unit = ask_unit(alloc, ask)?;
+    Ok((copy(ask)?, unit))
 }
 
 /// How many searches were begun after an ask that was sent.
