@@ -1,10 +1,15 @@
 //! Sessions with targets over the links of a wire.
 
-ghost use Rattle.std.specs.Prelude.{◌≡◌, ◌+◌, IfOk};
+ghost use Rattle.std.specs.Prelude.{◌≡◌, ◌≢◌, ◌≤◌, ◌+◌, ℕ, List, IfOk};
+ghost use Rattle.z_ber.specs.Frames.{IsFrame};
+ghost use Rattle.z_ber.specs.Header.{IsOpenFor};
+ghost use Rattle.z_types.specs.Pending.{IsPending};
 ghost use Rattle.unit_forms.specs.Requests.{spell_request};
 ghost use Rattle.z_client.specs.Units.{request_of};
-ghost use Rattle.gw_outside.specs.Counts.{one_more};
-ghost use Rattle.gw_outside.specs.Sessions.{is_search, is_gone};
+ghost use Rattle.gw_outside.specs.Counts.{Rose, one_more};
+ghost use Rattle.gw_outside.specs.Sessions.{Fits, IsWorlds, made_after, pending_after, is_search, is_gone, is_not_yet};
+ghost use Rattle.z_client.specs.Heard.{IsBreach};
+ghost use Rattle.z_client.specs.Sets.{made_in, pending_of};
 
 use crate::listening::listen;
 use crate::sending::{greet, send_ask};
@@ -91,18 +96,42 @@ impl<W: World, N: Wire<W>> Backend<W> for ZBackend<N> {
     }
 
     #[tactic(auto, using(crate::proofs::SendLemmas::waits_unbroken))]
-    fn look(&mut self, alloc: Global, session: &mut ZSession<W, N::Link>) -> Heard {
-        match listen(&mut self.wire, alloc, &mut session.parts) {
+    fn look(&mut self, alloc: Global, session: &mut ZSession<W, N::Link>) -> Heard
+        requires { IsPending (pending_of session.old.waiting) }
+        ensures fits { Fits (pending_of session.old.waiting) result }
+        ensures worlds { W.told session.old.address → IsWorlds W.World session.old.address
+            (made_in session.old.made.items) (pending_of session.old.waiting) result }
+        ensures pending { pending_of session.new.waiting
+            ≡ pending_after (pending_of session.old.waiting) result }
+        ensures made { (name : List ℕ) → made_in session.new.made.items name
+            ≡ made_after (pending_of session.old.waiting) result
+            (made_in session.old.made.items) name }
+        ensures address { session.new.address ≡ session.old.address }
+        ensures failed { result ≡ Heard.Failed → Rose (N.faults self.old.wire + self.old.breaches)
+            (N.faults self.new.wire + self.new.breaches) }
+        ensures faults { N.faults self.old.wire + self.old.breaches
+            ≤ N.faults self.new.wire + self.new.breaches }
+        ensures waits { N.waits self.new.wire ≡ one_more (is_not_yet result) (N.waits self.old.wire) }
+        ensures gones { self.new.gones ≡ one_more (is_gone result) self.old.gones }
+        ensures searches { self.new.searches ≡ self.old.searches }
+        ensures dials { self.new.dials ≡ self.old.dials }
+        ensures not_yet { result ≡ Heard.NotYet
+            → IsOpenFor IsFrame (N.Link.arrived session.new.link) }
+        ensures breach { self.new.breaches ≢ self.old.breaches
+            → IsBreach (pending_of session.old.waiting) self.new.last }
+        ensures last { self.new.breaches ≢ self.old.breaches
+            → self.new.last ≡ N.Link.arrived session.new.link }
+    {
+        let octets = match listen(&mut self.wire, alloc, &mut session.parts) {
             Ok(heard) => {
                 self.gones = gones_after(self.gones, &heard);
-                heard
+                return heard;
             }
-            Err(octets) => {
-                self.last = octets;
-                self.breaches = self.breaches.saturating_add(1);
-                Heard::Failed
-            }
-        }
+            Err(octets) => octets,
+        };
+        self.last = octets;
+        self.breaches = self.breaches.saturating_add(1);
+        Heard::Failed
     }
 }
 
