@@ -1,8 +1,10 @@
 -- What a look keeps of a session (this project's own)
-use Rattle.std.proofs.Common.{inl, ◌≡◌, ◌≢◌, ◌∙◌, inr, ℕ, Bool, true, false, cond, List, take, drop, Option, None, Some, Result, Ok, Err, IfOk, IfErr, OnOk, MatchResult, is_err, refl, sym, subst}
+use Rattle.std.proofs.Common.{inl, ◌≡◌, ◌≢◌, ◌∙◌, inr, ℕ, Bool, true, false, cond, List, take, drop, Option, None, Some, Result, Ok, Err, IfOk, IfErr, OnOk, MatchResult, is_err, refl, sym, subst, []}
 use Rattle.std.proofs.lemmas.List.{take-append-drop}
 use Rattle.z_ber.specs.Frames.{IsFrame}
 use Rattle.z_ber.specs.Header.{IsBadFor}
+use Rattle.z_client.specs.declared.arrivals.Arrival.TheVariants.{Unit as Whole, NotYet as NotCome}
+use Rattle.z_client.specs.Arrivals.{ArrivesBy}
 use Rattle.z_types.specs.Pending.{Pending, IsPending, resting, opening, asked, broken}
 use Rattle.z_types.specs.declared.address.Address.{Address}
 use Rattle.z_types.specs.declared.ask.Ask.TheVariants.{Search, Present, Scan}
@@ -14,8 +16,8 @@ use Rattle.gw_outside.specs.Peers.{Peer, is_named}
 use Rattle.gw_outside.specs.Sessions.{Made, Fits, IsWorlds, RecordsOf, made_after}
 use Rattle.z_client.specs.Heard.{IsBreach}
 use Rattle.z_client.specs.Looks.{IsHeardIn, EndsWait, IsToldCome, answer_of}
-use Rattle.z_client.specs.TrueSession.{IsToldTrue}
-use Rattle.z_client.proofs.TrueLooks.{come_worlds, come_rests}
+use Rattle.z_client.specs.TrueSession.{IsToldTrue, IsTruePeer}
+use Rattle.z_client.proofs.TrueLooks.{come_worlds, come_rests, has_come}
 
 -- ---- answers that say nothing
 
@@ -160,3 +162,18 @@ module _ (arrived : List ℕ) (p : Pending) where
 pub on_ok : {A E P : Type 0} (said : Result A E) → is_err said ≡ false → OnOk said P → P
 on_ok (Ok a) e p = p
 on_ok (Err why) e p = absurd cc
+
+module _ {W : Type 0} (w : world.Ghosts W) (address : Address) (made : Made) (p : Pending) where
+  -- where nothing has come a peer stays true
+  pub not_yet_true : (old new : Option Peer) (arrived : List ℕ) → IsToldTrue w address made p old → ArrivesBy old new arrived NotCome
+      → (arrived ≡ []) × IsToldTrue w address made p new
+  not_yet_true None new arrived t by = absurd t
+  not_yet_true (Some old) None arrived t by = absurd by
+  not_yet_true (Some old) (Some new) arrived t by = (by.1, subst (λ at. IsTruePeer w address made p at) (sym by.0) t)
+
+  -- a unit that has come is the reply that is owed
+  pub unit_come : (old new : Option Peer) (arrived : List ℕ) (size : ℕ) → IsPending p → IsToldTrue w address made p old
+      → ArrivesBy old new arrived (Whole size) → IsToldCome w address made p new (take size arrived) × (drop size arrived ≡ [])
+  unit_come None new arrived size is t by = absurd t
+  unit_come (Some old) None arrived size is t by = absurd by
+  unit_come (Some old) (Some new) arrived size is t by = (has_come w address made p old new (take size arrived) is t by.0, by.1)

@@ -1,5 +1,8 @@
+use Rattle.std.proofs.Common.{take, refl, sym, subst}
+use Rattle.z_client.specs.Looks.{IsToldCome}
+use Rattle.z_client.specs.TrueSession.{IsToldTrue}
 use Rattle.z_client.specs.Sets.{made_in, pending_of}
-use Rattle.z_client.proofs.LookLemmas.{failed_worlds, memory_worlds, breach_fits, breach_worlds, breach_made, breach_last, bad_breach}
+use Rattle.z_client.proofs.LookLemmas.{not_yet_true, unit_come, failed_worlds, memory_worlds, breach_fits, breach_worlds, breach_made, breach_last, bad_breach}
 use Rattle.z_client.proofs.listening.listen.Goals as goal
 
 pub returns-in-Breach-clause-fits : goal.returns-in-Breach-clause-fits
@@ -23,3 +26,27 @@ returns-in-Failed-clause-worlds g c = λ told. failed_worlds g.W.World c.args.pa
 
 pub returns-in-Memory-clause-worlds : goal.returns-in-Memory-clause-worlds
 returns-in-Memory-clause-worlds g c = λ told. memory_worlds g.W.World c.args.parts.now.address (made_in c.args.parts.now.made.items) (pending_of c.args.parts.now.waiting)
+
+pub hear-requires-clause-arrived : goal.hear-requires-clause-arrived
+hear-requires-clause-arrived g c =
+    let come = λ (told : g.W.World.told c.args.parts.now.address). unit_come g.W.World c.args.parts.now.address (made_in c.args.parts.now.made.items) (pending_of c.args.parts.now.waiting)
+    (g.N.Link.Linked.peer c.args.parts.now.link) (g.N.Link.Linked.peer c.await_unit.new.link) (g.N.Link.Linked.arrived c.await_unit.new.link)
+    c.in-Unit.size c.requires.pending (c.requires.kept.peer told) (c.in-Unit.ensures.peer (c.requires.kept.nothing told)) in
+    record {
+      come = λ told. subst (λ waiting. IsToldCome g.W.World c.args.parts.now.address (made_in c.args.parts.now.made.items) (pending_of waiting)
+          (g.N.Link.Linked.peer c.await_unit.new.link) (take c.in-Unit.size (g.N.Link.Linked.arrived c.await_unit.new.link)))
+          (sym c.replace-waiting.ensures.value) (come told).0;
+      all = λ told. (come told).1;
+    }
+
+pub returns-in-NotYet-clause-kept : goal.returns-in-NotYet-clause-kept
+returns-in-NotYet-clause-kept g c = λ waits.
+    let still = λ (told : g.W.World.told c.args.parts.now.address). not_yet_true g.W.World c.args.parts.now.address (made_in c.args.parts.now.made.items) (pending_of c.args.parts.now.waiting)
+    (g.N.Link.Linked.peer c.args.parts.now.link) (g.N.Link.Linked.peer c.await_unit.new.link) (g.N.Link.Linked.arrived c.await_unit.new.link)
+    (c.requires.kept.peer told) (c.in-NotYet.ensures.peer (c.requires.kept.nothing told)) in
+    record {
+      scanned = c.in-NotYet.ensures.scanned refl;
+      nothing = λ told. (still told).0;
+      peer = λ told. subst (λ waiting. IsToldTrue g.W.World c.args.parts.now.address (made_in c.args.parts.now.made.items) (pending_of waiting)
+          (g.N.Link.Linked.peer c.await_unit.new.link)) (sym c.replace-waiting.ensures.value) (still told).1;
+    }
