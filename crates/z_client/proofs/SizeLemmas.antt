@@ -1,10 +1,10 @@
 -- How many octets written elements take (X.690:2021, 8.1.2, 8.1.3, 8.3 and 8.6)
-use Rattle.std.proofs.Common.{arith, ◌≡◌, ◌∙◌, ℕ, ◌+◌, ◌*◌, ◌/◌, ◌%◌, ◌^◌, ◌<◌, ◌≤◌, pos, Bool, true, false, cond, nat_lt, List, [], ◌∷◌, ◌++◌, length, map, reverse, slice_index_or, refl}
+use Rattle.std.proofs.Common.{arith, ◌≡◌, ℕ, ◌+◌, ◌/◌, ◌%◌, ◌^◌, ◌<◌, ◌≤◌, pos, Bool, true, false, cond, nat_lt, List, [], ◌∷◌, ◌++◌, length, map, reverse, slice_index_or, refl}
 use Rattle.std.specs.Int.Digits.{digits_of}
 use Rattle.std.proofs.lemmas.Int.Digits.{length-digits_of-le}
 use Rattle.std.proofs.lemmas.List.{length-append, length-map, length-reverse}
 use Rattle.z_ber.specs.declared.tag.Tag.{Tag}
-use Rattle.z_ber.specs.Written.{element, tag_octets, length_octets, septets, bits_octets, unused_bits, mirror, int_octets, natural_octets}
+use Rattle.z_ber.specs.Written.{element, tag_octets, length_octets, septets, bits_octets, mirror, int_octets, natural_octets}
 use Rattle.unit_forms.specs.Fields.{primitive, bits_field, number_field}
 
 septets_small : (n : ℕ) → n < 2 ^ 33 → length (septets n) ≤ 5

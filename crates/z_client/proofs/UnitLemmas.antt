@@ -1,5 +1,5 @@
 -- What is sent is a unit (ANSI/NISO Z39.50-2003, 3.2.1)
-use Rattle.std.proofs.Common.{arith, rules, ◌≡◌, ◌≤◌, ℕ, List, length, Result, Ok, Err, IfOk, ◌++◌, None, refl, sym, subst}
+use Rattle.std.proofs.Common.{arith, ◌≡◌, ◌≤◌, ℕ, List, length, Result, Ok, Err, IfOk, ◌++◌, None, refl, sym, subst}
 use Rattle.z_types.specs.Bounds.{most_unit_octets}
 use Rattle.std.proofs.lemmas.List.{length-append}
 use Rattle.unit_forms.specs.Fields.{constructed, bits_field, number_field}
@@ -9,7 +9,7 @@ use Rattle.z_client.proofs.SizeLemmas.{element_small, bits_small, number_small}
 use Rattle.unit_forms.specs.Requests.{spell_request, init_fields}
 use Rattle.gw_outside.specs.Wires.{IsRequestUnit}
 use Rattle.z_laws.specs.Laws.{WrittenRequestsAreUnits, WrittenRequestsAreRead}
-use Rattle.z_laws.specs.Readable.{IsReadable, IsReadableInit}
+use Rattle.z_laws.specs.Readable.{IsReadable}
 use Rattle.z_client.specs.Units.{init_request}
 
 init_readable : IsReadable init_request

@@ -111,7 +111,8 @@ impl<W: World, N: Wire<W>> Backend<W> for ZBackend<N> {
             (N.faults self.new.wire + self.new.breaches) }
         ensures faults { N.faults self.old.wire + self.old.breaches
             ≤ N.faults self.new.wire + self.new.breaches }
-        ensures waits { N.waits self.new.wire ≡ one_more (is_not_yet result) (N.waits self.old.wire) }
+        ensures waits { N.waits self.new.wire
+            ≡ one_more (is_not_yet result) (N.waits self.old.wire) }
         ensures gones { self.new.gones ≡ one_more (is_gone result) self.old.gones }
         ensures searches { self.new.searches ≡ self.old.searches }
         ensures dials { self.new.dials ≡ self.old.dials }
