@@ -20,8 +20,3 @@ IsReadInFront IsOfKind spell bytes (Some x) = IsOfKind x.0 × (bytes ≡ spell x
 abbrev pub IsLentAs : (List ℕ → Type 0) → (List ℕ → List ℕ) → List ℕ → Option (Bor (List ℕ)) → Type 0
 IsLentAs IsOfKind spell bytes None = (octets : List ℕ) → IsOfKind octets → bytes ≡ spell octets → ⊥
 IsLentAs IsOfKind spell bytes (Some octets) = IsOfKind octets.now × (bytes ≡ spell octets.now)
-
--- octets of a kind in front, and the rest, which are both lent
-abbrev pub IsLentInFront : (List ℕ → Type 0) → (List ℕ → List ℕ) → List ℕ → Option (Bor (List ℕ) × Bor (List ℕ)) → Type 0
-IsLentInFront IsOfKind spell bytes None = (octets rest : List ℕ) → IsOfKind octets → bytes ≡ spell octets ++ rest → ⊥
-IsLentInFront IsOfKind spell bytes (Some x) = IsOfKind x.0.now × (bytes ≡ spell x.0.now ++ x.1.now)
