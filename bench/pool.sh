@@ -3,21 +3,9 @@
 # ten sets each: any session, one that holds a set that the first holds or the last, and one where none holds the
 # set. Prints medians of 5 runs and by how much they grow: such a pool looks at each session, so it may grow with
 # their number, and nothing is demanded. The status is 1 where a run fails.
-root=$(cd "$(dirname "$0")/.." && pwd) || exit 1
-program=$root/crates/bench_pool/out/bench_pool
-
-(cd "$root/crates/bench_pool" && rt run -- any 1 1) >/dev/null 2>&1 || {
-    echo "bench_pool was not built" >&2
-    exit 1
-}
-
-# Nanoseconds that so many takes and puts take with so many idle sessions, and the making of the pool.
-nanoseconds() {
-    local begun
-    begun=$(date +%s%N)
-    "$program" "$1" "$2" "$3" >/dev/null || exit 1
-    echo $(($(date +%s%N) - begun))
-}
+bench=bench_pool
+words="any 1 1"
+. "$(dirname "$0")/readers.sh"
 
 # The median of 5 runs, in nanoseconds of one take and put, without the making of the pool.
 turn() {

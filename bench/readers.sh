@@ -1,13 +1,16 @@
-# Times the program bench_readers; the scripts beside this one read it.
+# Times the program `bench`, which is bench_readers where nothing else is said; the scripts beside this one read it.
+# `words` are those of a run that is tried when it is built.
 root=$(cd "$(dirname "${BASH_SOURCE[0]}")/.." && pwd) || exit 1
-program=$root/crates/bench_readers/out/bench_readers
+bench=${bench:-bench_readers}
+program=$root/crates/$bench/out/$bench
 
-(cd "$root/crates/bench_readers" && rt run -- ber-flat 100 1) >/dev/null 2>&1 || {
-    echo "bench_readers was not built" >&2
+# shellcheck disable=SC2086
+(cd "$root/crates/$bench" && rt run -- ${words:-ber-flat 100 1}) >/dev/null 2>&1 || {
+    echo "$bench was not built" >&2
     exit 1
 }
 
-# Nanoseconds that it takes to read a sample of about so many octets so many times.
+# Nanoseconds that the program takes for a shape of so many octets, or sessions, so many times.
 nanoseconds() {
     local begun
     begun=$(date +%s%N)

@@ -1,6 +1,6 @@
 //! Sessions that rest, each with ten sets of one query, at targets of which nothing is told.
 
-ghost use Rattle.std.specs.Prelude.{◌≡◌, All, Some, IfOk, OnOk, refl, decimal};
+ghost use Rattle.std.specs.Prelude.{◌≡◌, All, Some, IfOk, OnOk, [], ◌∷◌, refl, decimal};
 ghost use Rattle.z_types.specs.Pending.{resting};
 ghost use Rattle.z_types.specs.declared.address.Address.TheVariants.{Test};
 ghost use Rattle.bench_pool.specs.Still.{no_hits, no_record, no_scan, key_in};
@@ -74,7 +74,9 @@ fn key_under(alloc: Global, slot: u32, query: &RpnQuery) -> Result<SetKey, Memor
 }
 
 /// The key of a session's set.
-pub fn key_of(alloc: Global, number: u32, slot: u32) -> Result<SetKey, Memory> {
+pub fn key_of(alloc: Global, number: u32, slot: u32) -> Result<SetKey, Memory>
+    ensures { IfOk result (λ key. key.dbs ≡ decimal slot ∷ []) }
+{
     let query = query_for(alloc, number)?;
     key_under(alloc, slot, &query)
 }
@@ -104,7 +106,9 @@ fn table_of(alloc: Global, session: &Still) -> Result<SetTable, Memory>
 }
 
 /// A session with sets of the number's query.
-pub fn holding(alloc: Global, number: u32) -> Result<Pooled<Quiet, Still>, Memory> {
+pub fn holding(alloc: Global, number: u32) -> Result<Pooled<Quiet, Still>, Memory>
+    ensures { IfOk result (λ pooled. pooled.address ≡ Test 0) }
+{
     let query = query_for(alloc, number)?;
     let session = Still { query };
     let table = table_of(alloc, &session)?;

@@ -1,6 +1,6 @@
 //! Places of the merged order of 16 legs.
 
-ghost use Rattle.std.specs.Prelude.{◌<◌, ◌≤◌, length};
+ghost use Rattle.std.specs.Prelude.{◌≡◌, ◌<◌, ◌≤◌, length};
 ghost use Rattle.z_types.specs.MergedOrder as merged_order;
 
 use multi_merge::{locate, total};
@@ -8,7 +8,9 @@ use multi_merge::{locate, total};
 /// Locates so many records, all over the merged order of 16 legs of which the first has so many hits,
 /// the second half as many, the third a third, and so on; answers the hits, and the sum of the records'
 /// ranks.
-pub fn locate_all(size: usize, times: u32) -> (usize, u64) {
+pub fn locate_all(size: usize, times: u32) -> (usize, u64)
+    ensures { result.0 ≡ size }
+{
     let hits = hits_of(u32::try_from(size).unwrap_or(u32::MAX));
     let all = total(&hits);
     let mut ranks = 0u64;

@@ -1,5 +1,7 @@
 //! Scripts of replays, read.
 
+ghost use Rattle.std.specs.Prelude.{◌≡◌, IfOk};
+
 use script::{ScriptFault, read_script};
 use std::alloc::Global;
 use z_types::{List, Memory, Text};
@@ -51,7 +53,9 @@ fn events(alloc: Global, script: &Text) -> Result<u64, Memory> {
 
 /// Reads a script of about so many octets so many times, and answers its octets and how many events
 /// were read in all.
-pub fn read(alloc: Global, shape: Shape, size: usize, times: u32) -> Result<(usize, u64), Memory> {
+pub fn read(alloc: Global, shape: Shape, size: usize, times: u32) -> Result<(usize, u64), Memory>
+    ensures { times ≡ 0 → IfOk result (λ read. read.1 ≡ 0) }
+{
     let script = script_of(alloc, shape, size)?;
     let mut read = 0u64;
     for _ in 0..times {

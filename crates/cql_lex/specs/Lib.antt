@@ -3,4 +3,5 @@ pub mod Tokens
 pub mod Spans
 pub mod OneReading
 pub mod Numbers
+pub mod Sentences
 pub mod Refusals

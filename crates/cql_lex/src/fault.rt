@@ -41,6 +41,11 @@ impl From<Memory> for LexFault {
 }
 
 impl fmt::Display for LexFault {
+    ghost use Rattle.std.specs.Prelude.{Some};
+    ghost use Rattle.cql_lex.specs.Sentences.{sentence};
+
+    ghost output = { λ fault. Some (sentence fault) };
+
     fn fmt<W: fmt::Write>(&self, f: &mut fmt::Formatter<W>) -> fmt::Result {
         match self {
             LexFault::OpenQuote(place) => write!(f, "what begins at octet {place} has no end"),

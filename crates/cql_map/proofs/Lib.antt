@@ -1,5 +1,6 @@
 pub mod NameLemmas
 pub mod TermLemmas
 pub mod FaultLemmas
+pub mod SentenceLemmas
 pub mod KeepsMeaning
 mod WorkedQueries

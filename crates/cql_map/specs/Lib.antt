@@ -9,3 +9,4 @@ pub mod Meaning
 pub mod Mapped
 pub mod Faults
 pub mod Numbers
+pub mod Sentences

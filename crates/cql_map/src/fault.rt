@@ -3,6 +3,7 @@
 ghost use Rattle.std.specs.Prelude.{◌≡◌};
 ghost use Rattle.cql_map.specs.declared.fault.MapFault.TheVariants.{Memory as no_memory};
 ghost use Rattle.cql_map.specs.Numbers.{number_of, diagnostic_of, detail_of};
+ghost use Rattle.cql_map.specs.Sentences.{text_of, told_of};
 
 use std::{fmt, str};
 use z_types::{Memory, Text};
@@ -75,7 +76,9 @@ impl MapFault {
     }
 
     /// What it says, without its detail.
-    fn text(&self) -> &'static str {
+    fn text(&self) -> &'static str
+        ensures { result.now ≡ text_of self.now }
+    {
         match self {
             MapFault::ContextSet(_) => "unsupported context set",
             MapFault::Index(_) => "unsupported index",
@@ -109,6 +112,17 @@ impl MapFault {
             MapFault::Memory => &[],
         }
     }
+
+    /// The detail where it is UTF-8, and else nothing.
+    #[tactic(auto, using(crate::proofs::SentenceLemmas::told_text, crate::proofs::SentenceLemmas::told_none))]
+    fn told(&self) -> &str
+        ensures { result.now ≡ told_of (detail_of self.now) }
+    {
+        match str::from_utf8(self.detail()) {
+            Ok(detail) => detail,
+            Err(_) => "",
+        }
+    }
 }
 
 impl From<Memory> for MapFault {
@@ -120,11 +134,17 @@ impl From<Memory> for MapFault {
 }
 
 impl fmt::Display for MapFault {
+    ghost use Rattle.std.specs.Prelude.{Some};
+    ghost use Rattle.cql_map.specs.Sentences.{sentence};
+
+    ghost output = { λ fault. Some (sentence fault) };
+
     fn fmt<W: fmt::Write>(&self, f: &mut fmt::Formatter<W>) -> fmt::Result {
-        f.write_str(self.text())?;
-        match str::from_utf8(self.detail()) {
-            Ok(detail) if !detail.is_empty() => write!(f, ": {detail}"),
-            _ => Ok(()),
+        let detail = self.told();
+        if detail.is_empty() {
+            f.write_str(self.text())
+        } else {
+            write!(f, "{}: {detail}", self.text())
         }
     }
 }

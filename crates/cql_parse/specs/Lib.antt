@@ -9,6 +9,7 @@ pub mod WellFormed
 pub mod Nesting
 pub mod Refusals
 pub mod Numbers
+pub mod Sentences
 pub mod Written
 pub mod Again
 pub mod Laws

@@ -33,6 +33,11 @@ impl ParseFault {
 }
 
 impl fmt::Display for ParseFault {
+    ghost use Rattle.std.specs.Prelude.{Some};
+    ghost use Rattle.cql_parse.specs.Sentences.{sentence};
+
+    ghost output = { λ fault. Some (sentence fault) };
+
     fn fmt<W: fmt::Write>(&self, f: &mut fmt::Formatter<W>) -> fmt::Result {
         match self {
             ParseFault::Syntax(place) => write!(f, "no query goes on so at octet {place}"),

@@ -183,14 +183,7 @@ impl<W: World, S: Sitting<W>> Pool<W, S> {
     pub fn new(alloc: Global, route: &Route) -> Result<Pool<W, S>, Memory>
         ensures new { IfOk result (λ pool. pool ≡ new_pool route.now.pool) }
     {
-        Ok(Pool {
-            sessions: Vec::new(alloc),
-            given: 0,
-            numbers: route.parts().pool,
-            fulls: 0,
-            opens: 0,
-            booked: 0,
-        })
+        Ok(Pool::after(alloc, route.parts().pool, 0))
     }
 
     /// A pool without sessions that goes on behind a number, so that no seat of a pool that gave
