@@ -48,7 +48,7 @@ fn members(alloc: Global) -> std::result::Result<Members, Memory> {
     Ok(Members::new(addresses))
 }
 
-/// The numbers of a pool of so many sessions.
+/// The numbers of a pool of `max_sessions` sessions.
 fn numbers(max_sessions: u32) -> PoolNumbers {
     PoolNumbers {
         max_sessions,
@@ -60,7 +60,7 @@ fn numbers(max_sessions: u32) -> PoolNumbers {
     }
 }
 
-/// A pool of so many idle sessions, which were all dialled first.
+/// A pool of `idle` idle sessions, which were all dialled first.
 fn pool_of(
     alloc: Global,
     at: &[Address],
@@ -99,7 +99,7 @@ fn turn(alloc: Global, pool: &mut Pool<Quiet, Still>, at: &[Address], want: Opti
     }
 }
 
-/// How often a set was reused in so many turns.
+/// How often a set was reused in `times` turns.
 fn turns(
     alloc: Global,
     pool: &mut Pool<Quiet, Still>,
@@ -128,7 +128,7 @@ fn wanted(want: Want, idle: u32) -> Option<u32> {
     }
 }
 
-/// How often a set was reused in so many turns of a pool of so many idle sessions.
+/// How often a set was reused in `times` turns of a pool of `idle` idle sessions.
 fn reuses(alloc: Global, want: Want, idle: u32, times: u32) -> std::result::Result<u64, Memory> {
     let members = members(alloc)?;
     let mut pool = pool_of(alloc, members.as_slice(), idle)?;

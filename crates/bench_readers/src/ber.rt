@@ -26,7 +26,7 @@ pub enum Shape {
 /// How many octets come at a time.
 const PIECE: usize = 256;
 
-/// How many elements there are in an element, with itself, down to so many levels.
+/// How many elements there are in an element, with itself, down to `levels` levels.
 fn count(levels: u32, mut element: Element<'_>) -> u64 {
     let mut found = 1u64;
     if levels == 0 {
@@ -46,7 +46,7 @@ fn equal(octets: &[u8], wanted: u8) -> u64 {
     octets.iter().filter(|octet| **octet == wanted).count() as u64
 }
 
-/// Children of five octets each, in about so many octets.
+/// Children of five octets each, in about `size` octets.
 fn small(alloc: Global, size: usize) -> Result<Text, Memory> {
     let mut out = Text::new(alloc);
     for _ in 0..size / 5 {
@@ -68,7 +68,7 @@ pub(crate) fn within(alloc: Global, open: bool, inner: &Text) -> Result<Text, Me
     Ok(out)
 }
 
-/// These elements in so many, one within another.
+/// These elements in `levels` others, one within another.
 fn nested(alloc: Global, levels: u32, open: bool, inner: Text) -> Result<Text, Memory> {
     let mut out = inner;
     for _ in 0..levels {
@@ -77,7 +77,7 @@ fn nested(alloc: Global, levels: u32, open: bool, inner: Text) -> Result<Text, M
     Ok(out)
 }
 
-/// One child that has so many octets, in an element.
+/// One child that has `size` octets, in an element.
 fn flat(alloc: Global, size: usize) -> Result<Text, Memory> {
     let octets = vec![in alloc; b'a'; size]?;
     let mut child = Text::new(alloc);
@@ -123,8 +123,8 @@ fn read_pieces(octets: &[u8]) -> u64 {
     0
 }
 
-/// Reads the octets of a shape once, so many times, with nothing asked of them but how many are equal to
-/// the number of the time; answers the octets, and how many were equal in all.
+/// Reads the octets of a shape `times` times, with nothing asked of them but how many are equal
+/// to the number of the time; answers the octets, and how many were equal in all.
 pub(crate) fn pass(
     alloc: Global,
     shape: Shape,
@@ -141,7 +141,7 @@ pub(crate) fn pass(
     Ok((octets.len(), parts))
 }
 
-/// Reads a shape of about so many octets so many times, and answers its octets and the elements or
+/// Reads a shape of about `size` octets `times` times, and answers its octets and the elements or
 /// pieces that were read in all.
 pub(crate) fn read(
     alloc: Global,

@@ -29,7 +29,7 @@ pub enum Shape {
     Any,
 }
 
-/// A clause again and again, in brackets that halve the query, for about so many octets.
+/// A clause again and again, in brackets that halve the query, for about `size` octets.
 fn clauses(alloc: Global, clause: &[u8], size: usize) -> Result<Text, Memory> {
     let mut out = Text::copy_of(alloc, clause)?;
     for _ in 0..40 {
@@ -46,7 +46,7 @@ fn clauses(alloc: Global, clause: &[u8], size: usize) -> Result<Text, Memory> {
     Ok(out)
 }
 
-/// Two quoted strings of about so many octets.
+/// Two quoted strings, of about `size` octets in all.
 fn strings(alloc: Global, size: usize) -> Result<Text, Memory> {
     let octets = vec![in alloc; b'a'; size / 2]?;
     let mut out = Text::copy_of(alloc, b"\"")?;
@@ -57,7 +57,7 @@ fn strings(alloc: Global, size: usize) -> Result<Text, Memory> {
     Ok(out)
 }
 
-/// A title with words of one letter, for about so many octets.
+/// A title with words of one letter, for about `size` octets.
 fn words(alloc: Global, size: usize) -> Result<Text, Memory> {
     let mut out = Text::copy_of(alloc, b"dc.title any \"")?;
     for _ in 0..size / 2 {
@@ -106,7 +106,7 @@ fn titles(alloc: Global) -> Result<List<Index>, Memory> {
     Ok(indexes)
 }
 
-/// Reads a query of about so many octets so many times, and answers its octets and the tokens that
+/// Reads a query of about `size` octets `times` times, and answers its octets and the tokens that
 /// were read in all.
 pub(crate) fn read(
     alloc: Global,

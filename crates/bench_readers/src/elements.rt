@@ -26,7 +26,7 @@ pub enum Shape {
     OpenChains,
 }
 
-/// An element that holds one that holds one, down to so many levels.
+/// An element that holds one that holds one, down to `levels` levels.
 fn chain(alloc: Global, levels: u32, open: bool) -> Result<Text, Memory> {
     let mut out = Text::new(alloc);
     out.append(&[5, 0])?;
@@ -36,7 +36,7 @@ fn chain(alloc: Global, levels: u32, open: bool) -> Result<Text, Memory> {
     Ok(out)
 }
 
-/// Octets again and again, about so many in all.
+/// Octets again and again, about `size` in all.
 fn repeated(alloc: Global, octets: &Text, size: usize) -> Result<Text, Memory> {
     let mut out = Text::new(alloc);
     for _ in 0..size / octets.as_slice().len().max(1) {
@@ -58,7 +58,7 @@ fn sample(alloc: Global, shape: Shape, size: usize) -> Result<Text, Memory> {
     }
 }
 
-/// Checks a shape of about so many octets so many times, and answers its octets and how often they
+/// Checks a shape of about `size` octets `times` times, and answers its octets and how often they
 /// were elements.
 pub(crate) fn read(
     alloc: Global,

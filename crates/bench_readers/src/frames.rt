@@ -28,7 +28,7 @@ pub struct Shape {
     pub piece: usize,
 }
 
-/// Units of 64 octets, in about so many octets.
+/// Units of 64 octets, in about `size` octets.
 fn units(alloc: Global, size: usize) -> Result<Text, Memory> {
     let mut out = Text::new(alloc);
     let contents = [b'a'; 62];
@@ -59,7 +59,7 @@ fn take_units(framer: &mut Framer, most: usize) -> u64 {
     found
 }
 
-/// Cuts a stream into its units, in pieces of so many octets, and answers how many there are.
+/// Cuts a stream into its units, in pieces of `piece` octets, and answers how many there are.
 fn read_stream(alloc: Global, stream: &[u8], piece: usize) -> Result<u64, Memory>
     requires { 0 < piece }
 {
@@ -72,7 +72,7 @@ fn read_stream(alloc: Global, stream: &[u8], piece: usize) -> Result<u64, Memory
     Ok(found)
 }
 
-/// Reads a stream of about so many octets so many times, and answers its octets and the units that
+/// Reads a stream of about `size` octets `times` times, and answers its octets and the units that
 /// were handed out in all.
 pub(crate) fn read(
     alloc: Global,

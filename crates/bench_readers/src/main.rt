@@ -114,8 +114,8 @@ fn named(word: &str) -> Option<Sample> {
     }
 }
 
-/// Reads or writes a sample of about so many octets so many times, and answers how many octets it has
-/// and how many parts were read, or replies written, in all.
+/// Reads or writes a sample of about `size` octets `times` times, and answers how many octets it
+/// has and how many parts were read, or replies written, in all.
 fn read(
     alloc: Global,
     sample: Sample,

@@ -5,9 +5,9 @@ ghost use Rattle.z_types.specs.MergedOrder as merged_order;
 
 use multi_merge::{locate, total};
 
-/// Locates so many records, all over the merged order of 16 legs of which the first has so many hits,
-/// the second half as many, the third a third, and so on; answers the hits, and the sum of the records'
-/// ranks.
+/// Locates `times` records, all over the merged order of 16 legs of which the first has `size`
+/// hits, the second half as many, the third a third, and so on; answers the hits, and the sum of
+/// the records' ranks.
 pub fn locate_all(size: usize, times: u32) -> (usize, u64)
     ensures { result.0 ≡ size }
 {

@@ -31,7 +31,7 @@ fn line_of(alloc: Global, shape: Shape) -> Result<Text, Memory> {
     }
 }
 
-/// A script of such lines, in about so many octets.
+/// A script of such lines, in about `size` octets.
 fn script_of(alloc: Global, shape: Shape, size: usize) -> Result<Text, Memory> {
     let line = line_of(alloc, shape)?;
     let mut script = Text::new(alloc);
@@ -51,7 +51,7 @@ fn events(alloc: Global, script: &Text) -> Result<u64, Memory> {
     }
 }
 
-/// Reads a script of about so many octets so many times, and answers its octets and how many events
+/// Reads a script of about `size` octets `times` times, and answers its octets and how many events
 /// were read in all.
 pub fn read(alloc: Global, shape: Shape, size: usize, times: u32) -> Result<(usize, u64), Memory>
     ensures { times ≡ 0 → IfOk result (λ read. read.1 ≡ 0) }

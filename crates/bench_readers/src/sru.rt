@@ -43,7 +43,7 @@ fn answer(alloc: Global, escaped: bool, size: usize) -> Result<SruAnswer, Memory
     })
 }
 
-/// A query of names without values, in about so many octets.
+/// A query of names without values, in about `size` octets.
 fn query(alloc: Global, size: usize) -> Result<Text, Memory> {
     let mut query = Text::copy_of(alloc, b"operation=searchRetrieve&version=1.2&query=a")?;
     for number in 0..size / 8 {
@@ -53,7 +53,7 @@ fn query(alloc: Global, size: usize) -> Result<Text, Memory> {
     Ok(query)
 }
 
-/// The head of a request, in about so many octets.
+/// The head of a request, in about `size` octets.
 fn head(alloc: Global, size: usize) -> Result<Text, Memory> {
     let target = b"GET /Default?version=1.2&operation=searchRetrieve&query=a HTTP/1.1\r\n";
     let field = b"Accept: application/xml;q=0.9, text/plain;q=0.5\r\n";
@@ -76,7 +76,7 @@ fn schemas(alloc: Global) -> Result<List<Schema>, Memory> {
     Ok(schemas)
 }
 
-/// Writes an answer so many times, and answers its octets and how often it was written.
+/// Writes an answer `times` times, and answers its octets and how often it was written.
 fn write(alloc: Global, answer: &SruAnswer, times: u32) -> Result<(usize, u64), Memory>
     ensures { times ≡ 0 → IfOk result (λ written. written.1 ≡ 0) }
 {
@@ -90,7 +90,7 @@ fn write(alloc: Global, answer: &SruAnswer, times: u32) -> Result<(usize, u64), 
     Ok((octets, written))
 }
 
-/// Reads a query so many times, and answers its octets and how often it was taken.
+/// Reads a query `times` times, and answers its octets and how often it was taken.
 fn read(alloc: Global, get: &Get, times: u32) -> Result<(usize, u64), Memory>
     ensures { times ≡ 0 → IfOk result (λ taken. taken.1 ≡ 0) }
 {
@@ -104,7 +104,7 @@ fn read(alloc: Global, get: &Get, times: u32) -> Result<(usize, u64), Memory>
     Ok((get.query.len(), taken))
 }
 
-/// Reads a head so many times, and answers its octets and how often it was taken.
+/// Reads a head `times` times, and answers its octets and how often it was taken.
 fn read_heads(alloc: Global, head: &Text, times: u32) -> (usize, u64)
     ensures { times ≡ 0 → result.1 ≡ 0 }
 {
@@ -117,7 +117,7 @@ fn read_heads(alloc: Global, head: &Text, times: u32) -> (usize, u64)
     (head.len(), taken)
 }
 
-/// Writes or reads a shape of about so many octets so many times, and answers its octets and how
+/// Writes or reads a shape of about `size` octets `times` times, and answers its octets and how
 /// often that was done.
 pub(crate) fn run(
     alloc: Global,

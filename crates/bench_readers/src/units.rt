@@ -79,7 +79,7 @@ fn round(alloc: Global, open: bool, number: u8, inner: &Text) -> Result<Text, Me
     Ok(out)
 }
 
-/// Octets again and again, so many in all at most.
+/// Octets again and again, at most `size` in all.
 fn repeated(alloc: Global, octets: &[u8], size: usize) -> Result<Text, Memory> {
     let mut out = Text::new(alloc);
     for _ in 0..size / octets.len().max(1) {
@@ -88,7 +88,7 @@ fn repeated(alloc: Global, octets: &[u8], size: usize) -> Result<Text, Memory> {
     Ok(out)
 }
 
-/// An operand with about so many octets of attributes.
+/// An operand with about `size` octets of attributes.
 fn operand(alloc: Global, open: bool, size: usize) -> Result<Text, Memory> {
     let attributes = repeated(alloc, ATTRIBUTE, size)?;
     let mut fields = round(alloc, open, 44, &attributes)?;
@@ -105,7 +105,7 @@ fn joined(alloc: Global, open: bool, left: &[u8], right: &[u8]) -> Result<Text, 
     round(alloc, open, 1, &parts)
 }
 
-/// An operand in so many structures, one within another.
+/// An operand in `levels` structures, one within another.
 fn nested(alloc: Global, open: bool, levels: u32, size: usize) -> Result<Text, Memory> {
     let mut structure = operand(alloc, open, size)?;
     for _ in 0..levels {
@@ -114,7 +114,7 @@ fn nested(alloc: Global, open: bool, levels: u32, size: usize) -> Result<Text, M
     Ok(structure)
 }
 
-/// Structures that halve a query of so many octets at most, and of half of them at least.
+/// Structures that halve a query of at most `size` octets, and of at least half of them.
 fn halved(alloc: Global, size: usize) -> Result<Text, Memory> {
     let mut structure = Text::copy_of(alloc, OPERAND)?;
     for _ in 0..20 {
@@ -126,7 +126,7 @@ fn halved(alloc: Global, size: usize) -> Result<Text, Memory> {
     Ok(structure)
 }
 
-/// Three such queries, joined, of about so many octets.
+/// Three such queries, joined, of about `size` octets.
 fn joined_thirds(alloc: Global, size: usize) -> Result<Text, Memory> {
     let third = halved(alloc, size / 2)?;
     let right = joined(alloc, false, third.as_slice(), third.as_slice())?;
@@ -166,7 +166,7 @@ fn init(alloc: Global) -> Result<Text, Memory> {
     round(alloc, false, 20, &fields)
 }
 
-/// Entries of a Scan, of about so many octets.
+/// Entries of a Scan, of about `size` octets.
 fn entries(alloc: Global, size: usize) -> Result<List<ScanEntry>, Memory> {
     let mut entries = List::new(alloc);
     for _ in 0..size / 20 {
@@ -241,7 +241,7 @@ fn is_read(alloc: Global, shape: Shape, unit: &[u8]) -> bool {
     }
 }
 
-/// Reads a unit of about so many octets so many times, and answers its octets and how often it was
+/// Reads a unit of about `size` octets `times` times, and answers its octets and how often it was
 /// read; or walks through its elements, and answers how many they were.
 pub(crate) fn read(
     alloc: Global,

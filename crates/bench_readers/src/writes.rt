@@ -45,7 +45,7 @@ fn presented(body: Body) -> Reply {
     }
 }
 
-/// The reply of a shape, of about so many octets.
+/// The reply of a shape, of about `size` octets.
 pub(crate) fn sample(alloc: Global, shape: Shape, size: usize) -> Result<Reply, Memory> {
     match shape {
         Shape::Search => Ok(Reply::Search {
@@ -62,7 +62,7 @@ pub(crate) fn sample(alloc: Global, shape: Shape, size: usize) -> Result<Reply, 
     }
 }
 
-/// Writes a reply of a shape so many times, and answers its octets and how often it was written.
+/// Writes a reply of a shape `times` times, and answers its octets and how often it was written.
 pub(crate) fn write(
     alloc: Global,
     shape: Shape,

@@ -5,7 +5,7 @@ use Rattle.cql_lex.specs.declared.token.Token.{Token}
 use Rattle.cql_lex.specs.declared.token.Kind.{Kind}
 use Rattle.cql_lex.specs.declared.token.Kind.TheVariants.{Open, Close, Slash, Equal, Exact, Less, Greater, LessOrEqual, GreaterOrEqual, LessOrGreater, Quoted, Word}
 
--- a token of this kind at this place, of so many octets
+-- a token of this kind at this place, of `len` octets
 abbrev pub token : Kind → ℕ → ℕ → Token
 token kind start len = record { kind = kind; start = start; end = start + len }
 

@@ -31,7 +31,7 @@ fn octet_after(text: &[u8], at: usize) -> u8
     if at + 1 < text.len() { text[at + 1] } else { 0 }
 }
 
-/// The token of this kind at this place, of so many octets.
+/// The token of this kind at this place, of `len` octets.
 fn token(kind: Kind, start: usize, len: usize) -> Token
     requires { start + len < 2 ^ 64 }
     ensures { result ≡ token kind start len }

@@ -47,7 +47,7 @@ completes_deep tree frames ts t (q, end, r, e) =
     let here : depth tree ≤ depth q = unfold due_depth in reads_deep r in
     omega (arith, here, ends_deep frames q end t e)
 
--- so many brackets are open at least
+-- at least the `n` brackets from before are open at once
 pub nesting_least : (n : ℕ) (ts : List Lexeme) → n ≤ nesting n ts
 nesting_least n [] = omega arith
 nesting_least n (x ∷ ts) = omega arith

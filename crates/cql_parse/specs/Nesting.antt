@@ -4,7 +4,7 @@ use Rattle.z_types.specs.Bounds.{most_query_depth}
 use Rattle.cql_parse.specs.Classes.{is_open, is_close}
 use Rattle.cql_parse.specs.Lexemes.{Lexeme}
 
--- the most brackets that are open at once, where so many are open before these tokens
+-- the most brackets that are open at once, where `open_before` are open before these tokens
 abbrev pub nesting : ℕ → List Lexeme → ℕ
 nesting open_before [] = open_before
 nesting open_before (x ∷ rest) =

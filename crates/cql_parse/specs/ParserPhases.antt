@@ -9,7 +9,7 @@ use Rattle.cql_parse.specs.declared.first_fault.Spot.{Spot}
 use Rattle.cql_parse.specs.Classes.{is_word, is_term, is_symbol, is_relation, is_slash, is_close, is_equal, is_open, is_greater, is_boolean, is_sortby}
 use Rattle.cql_parse.specs.Lexemes.{Lexeme}
 
--- a phase with so many open brackets
+-- a phase with `n` open brackets
 abbrev pub spot : Phase → ℕ → Spot
 spot phase n = record { phase = phase; «open» = n }
 

@@ -51,7 +51,7 @@ Completes due frames ts whole = (q : Tree) × (end : List Lexeme) × Reads due t
 
 -- One part is read: what is due, within these frames, before these tokens. What then is due, within the new
 -- frames, before the tokens left, makes the same trees. Where no query goes on so, nothing makes a tree; where
--- it would be too deep, every tree is, or the brackets are, so many of which are open.
+-- it would be too deep, every tree is, or the brackets are, `brackets` of which are open.
 abbrev pub Goes : List ℕ → ℕ → Due → List Frame → List Lexeme → List Frame → Result (State × Bor (List Token)) Stop → Type 0
 Goes text brackets due old ts new (Ok next) =
     (t : Tree) → Completes due old ts t ↔ Completes (due_of next.0) new (lexemes text next.1.now) t

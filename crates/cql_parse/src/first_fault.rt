@@ -56,7 +56,7 @@ pub struct Spot {
     pub open: usize,
 }
 
-/// A phase with so many open brackets.
+/// A phase with `open` open brackets.
 fn at_phase(phase: Phase, open: usize) -> Option<Spot>
     ensures { result ≡ Some (spot phase «open») }
 {

@@ -299,7 +299,7 @@ fn a_fault_is_printed_with_its_detail(rt: HostRuntime) -> Result<(), Fail> {
     Ok(())
 }
 
-/// A query for some of so many words of seven letters in a title.
+/// A query for some of `words` words of seven letters in a title.
 fn words_of_a_title(alloc: Global, words: usize) -> Result<Vec<u8>, Fail> {
     let mut text = Vec::new(alloc);
     text.extend_from_slice(b"title any \"")?;

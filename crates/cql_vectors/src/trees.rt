@@ -132,7 +132,7 @@ fn a_fault_is_at_the_first_token_that_no_query_has(rt: HostRuntime) -> Result<()
     Ok(())
 }
 
-/// A text with so many brackets round a word.
+/// A text with `brackets` brackets round a word.
 fn nested(alloc: Global, brackets: usize) -> Result<Vec<u8>, Fail> {
     let mut text = vec![in alloc; b'('; brackets]?;
     text.push(b'a')?;
@@ -141,7 +141,7 @@ fn nested(alloc: Global, brackets: usize) -> Result<Vec<u8>, Fail> {
     Ok(text)
 }
 
-/// A text of so many clauses.
+/// A text of `clauses` clauses.
 fn joined(alloc: Global, clauses: usize) -> Result<Vec<u8>, Fail> {
     let mut text = Vec::new(alloc);
     text.extend_from_slice(b"a")?;

@@ -23,7 +23,7 @@ pub record StaysGood (old new : Framing) : Type 0 where
   pub stays : Stays old new
   pub good : new.refused ≡ old.refused
 
--- what has come of a unit, of so many octets, is the end once the input has ended
+-- what has come of a unit is the end once the input has ended
 abbrev pub end_or_nothing : Bool → End → Ahead
 end_or_nothing has_ended end = if has_ended then Ended end else Nothing
 

@@ -25,7 +25,7 @@ use Rattle.front_session.specs.declared.due.Due.{Due}
 use Rattle.front_session.specs.declared.refusal.Refusal.{Refusal}
 use Rattle.front_session.specs.declared.refusal.Refusal.TheVariants.{Refused, Memory}
 
--- no Search may be asked after so many
+-- no Search may be asked after `searches` others
 abbrev pub searches_check : Limits → ℕ → Option Diag
 searches_check limits searches =
     refused_where (are_searches_spent limits searches) (bib1 condition.ResourcesExhausted (codes "searches"))

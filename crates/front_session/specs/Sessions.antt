@@ -47,7 +47,7 @@ pub record HasHitsOfLegs (set : KnownSet) : Type 0 where
   pub few : length set.legs ≤ most_legs
   pub each : length set.hits ≡ length set.legs
 
--- after so many records, those of a work can be counted by a number of 32 bits
+-- after `records` records, those of a work can be counted by a number of 32 bits
 abbrev pub HasRoomFor : ℕ → Work → Type 0
 HasRoomFor records (work.Search login legs query small large medium small_element medium_element syntax room) =
     records + room < 2 ^ 32

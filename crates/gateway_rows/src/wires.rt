@@ -86,7 +86,7 @@ fn put_records(text: &mut Text, records: &List<NamedRecord>) -> Result<(), Memor
     text.push(b';')
 }
 
-/// What so many looks find.
+/// What `looks` looks find.
 fn heard(
     alloc: Global,
     wire: &mut TestWire,

@@ -74,7 +74,7 @@ shorter : (n : ℕ) (bytes frame more : List ℕ) → IsFrame frame → bytes �
 shorter n bytes frame more f e few =
     omega (arith, ap length e, length-append frame more, extent-filled 63 frame f.0.0 f.0.1 f.0.2, few)
 
--- octets of so many at most are cut
+-- at most `n` octets are cut
 cut_within : (n : ℕ) (bytes : List ℕ) → length bytes ≤ n → ¬ (¬ AreCut bytes)
 cut_within zero [] few = not_cut [] (λ b. frame-filled b.0 b.1 b.2 b.3)
 cut_within zero (octet ∷ bytes) few = absurd (omega (arith, few))

@@ -2,7 +2,7 @@
 use Rattle.std.specs.Prelude.{ℕ, ◌+◌, ◌-◌, ◌^◌, Bool, List, ◌==◌, min}
 use Rattle.std.specs.List.{list_any}
 
--- the number of the call after so many; the last number of 64 bits stays
+-- the number of the call after `made` calls; the last number of 64 bits stays
 abbrev pub next_call : ℕ → ℕ
 next_call made = min (made + 1) (2 ^ 64 - 1)
 

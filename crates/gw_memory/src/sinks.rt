@@ -30,7 +30,7 @@ impl MemorySink {
         MemorySink::taking(alloc, usize::MAX, failing)
     }
 
-    /// The same, of a sink that takes at most so many octets at a write.
+    /// The same, of a sink that takes at most `most` octets at a write.
     pub fn taking(alloc: Global, most: usize, failing: List<u64>) -> MemorySink
         requires { 1 ≤ most }
         ensures received { ⟦<MemorySink as Sink>⟧.received result ≡ Some [] }

@@ -39,7 +39,7 @@ pub enum Began {
 pub enum Heard {
     /// The session is open.
     Opened,
-    /// A search found so many records.
+    /// How many records a search found.
     Hits(u32),
     /// The target's diagnostic.
     Refused(Diag),

@@ -112,13 +112,13 @@ pub trait Wire<W: World> {
 
 /// What may be made to happen to the links of a wire.
 pub trait Events {
-    /// From now on the next so many Presents of a target find all result sets gone. The number takes
-    /// the place of what was left of an earlier one.
+    /// From now on the next `presents` Presents of a target find all result sets gone. The number
+    /// takes the place of what was left of an earlier one.
     fn gone(&mut self, target: u32, presents: u32) -> Result<(), Memory>;
 
     /// Cuts all links of a target that are open.
     fn cut(&mut self, target: u32) -> Result<(), Memory>;
 
-    /// The replies that a target makes from now on arrive after so many looks that find nothing.
+    /// The replies that a target makes from now on arrive after `looks` looks that find nothing.
     fn slow(&mut self, target: u32, looks: u32) -> Result<(), Memory>;
 }

@@ -6,7 +6,7 @@ use Rattle.multi_merge.specs.Ranks.{up_to, IsOfRank}
 use Rattle.multi_merge.proofs.UpTo.{AreLow, AreHigh, more_ranks}
 
 -- how far the ranks have been counted: the legs before this one have no record above the rank, the others have one, and
--- so many records are left up to the position
+-- `left` records stand between those counted and the position
 pub record IsCounted (hits : List ℕ) (position i gone left : ℕ) : Type 0 where
   pub low : AreLow i gone hits
   pub high : AreHigh i (get_or hits i 0) hits

@@ -16,7 +16,7 @@ use Rattle.multi_merge.proofs.UpTo.{up_to-cons, none_come}
 no_le : (a b : ℕ) → b < a → nat_le a b ≡ false
 no_le a b h = grind (arith, h)
 
--- one leg more has one place more of a rank, where it has so many hits
+-- one leg more has one place more of a rank, where it has a record of that rank
 place-step : (b : Bool) (here : Place) (places : List Place)
     → length (cond b (here ∷ places) places) ≡ cond b 1 0 + length places
 place-step true here places = omega arith

@@ -37,7 +37,7 @@ fn rank_of(hits: &[u32], position: u32) -> Rank
     rank_at(ascending, position)
 }
 
-/// The leg of the record of a rank that has so many of that rank before it.
+/// The leg of the record of a rank that has `before` others of that rank before it.
 fn leg_at(hits: &[u32], rank: u32, before: u64) -> u32
     requires few { length hits.now ≤ 16 }
     requires within { before < length (of_rank hits.now rank) }

@@ -21,7 +21,7 @@ length-filter_map : {X Y : Type 0} (f : X → Option Y) (xs : List X) → length
 length-filter_map f [] = omega arith
 length-filter_map f (x ∷ xs) = omega (arith, kept (f x) (filter_map f xs) (length xs) (length-filter_map f xs))
 
--- so many places give at most so many records
+-- `count` places give at most `count` records
 pub length-records : {A : Type 0} (f : Place → Option (Result A Diag)) (hits : List ℕ) (first count : ℕ) (records : List A)
     → all_or_first (filter_map f (places_from hits first count)) ≡ Ok records → length records ≤ count
 length-records f hits first count records e =

@@ -118,7 +118,7 @@ fn present<T: Targets>(
     Ok(Outcome::Fetched(fetched))
 }
 
-/// The element set name of what a Search of so many hits shows (ANSI/NISO Z39.50-2003, 3.2.2).
+/// The element set name of what a Search of `all` hits shows (ANSI/NISO Z39.50-2003, 3.2.2).
 fn element_shown<'a>(
     all: u32,
     small: u32,
@@ -135,7 +135,7 @@ fn element_shown<'a>(
     }
 }
 
-/// How many records a Search of so many hits shows (ANSI/NISO Z39.50-2003, 3.2.2).
+/// How many records a Search of `count` hits shows (ANSI/NISO Z39.50-2003, 3.2.2).
 fn shown(count: u32, small: u32, large: u32, medium: u32) -> u32
     ensures shown { result ≡ shown count small large medium }
     ensures within { result ≤ count }

@@ -29,7 +29,7 @@ pub(crate) struct Wanted<'a> {
     pub(crate) element: Option<&'a Text>,
 }
 
-/// So many records from a position on, counted from 1, of legs with these hits, or the first
+/// The `count` records from a position on, counted from 1, of legs with these hits, or the first
 /// diagnostic of a whole present among them.
 pub(crate) fn records_from<T: Targets>(
     alloc: Global,

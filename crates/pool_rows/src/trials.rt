@@ -32,7 +32,7 @@ pub(crate) struct Trial {
     key: SetKey,
 }
 
-/// A pool of the smallest route, with so many sessions of a class at most.
+/// A pool of the smallest route, with at most `max_sessions` sessions of a class.
 fn pool_of(alloc: Global, max_sessions: u32) -> Result<Pool<Steady, FakeSession>, Memory> {
     let mut parts = RouteParts::smallest(alloc)?;
     parts.pool.max_sessions = max_sessions;
@@ -50,7 +50,8 @@ fn two(alloc: Global, first: u32, second: u32) -> Result<Members, Memory> {
     Ok(Members::new(addresses))
 }
 
-/// A trial with so many sessions of a class, whose second member is at that test target.
+/// A trial with at most `max_sessions` sessions of a class, whose second member is at that test
+/// target.
 pub(crate) fn trial_of(alloc: Global, max_sessions: u32, second: u32) -> Result<Trial, Memory> {
     Ok(Trial {
         pool: pool_of(alloc, max_sessions)?,

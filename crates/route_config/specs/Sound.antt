@@ -18,7 +18,7 @@ use Rattle.route_config.specs.Names.{is_name, is_database_name, is_index_name}
 abbrev pub IsFrom : ℕ → ℕ → ℕ → Type 0
 IsFrom low high n = (low ≤ n) × (n ≤ high)
 
--- so many items
+-- `low` to `high` items
 abbrev pub HasFrom : {A : Type 0} → ℕ → ℕ → List A → Type 0
 HasFrom low high items = IsFrom low high (length items)
 

@@ -19,7 +19,7 @@ mutual
     Number : ℕ → ℕ → Kind
     -- a boolean
     Flag : Kind
-    -- an array of so many items, from the first to the second, each of a kind
+    -- an array whose number of items is from the first to the second, each of a kind
     Array : ℕ → ℕ → Kind → Kind
     -- a table with these keys
     Table : Keys → Kind

@@ -42,7 +42,7 @@ abbrev pub ReadsKeyOr : {A : Type 0} → Kind → (Data → A) → A → List �
 ReadsKeyOr kind found other path name value result =
     Reads (of_key nothing (refusal kind) path name value) (unwrap_or (option_map found (get name value)) other) result
 
--- the items of an array of so many, or why the value is none
+-- the items of an array of `low` to `high` items, or why the value is none
 abbrev pub IsArray : List ℕ → ℕ → ℕ → Data → Result (Bor (List Value)) RouteFault → Type 0
 IsArray path low high value result =
     MatchResult result (λ items. (as_array value ≡ Some (items_view items.now)) × (is_from low high (count (items_view items.now)) ≡ true))

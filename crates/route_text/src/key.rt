@@ -108,7 +108,7 @@ pub fn flag_or(
     }
 }
 
-/// An array of so many texts that has to be there; each keeps a rule.
+/// An array of 1 to `high` texts that has to be there; each keeps a rule.
 pub fn required_texts(
     alloc: Global,
     path: &[u8],
@@ -130,7 +130,7 @@ pub fn required_texts(
     }
 }
 
-/// An array of so many tables that has to be there.
+/// An array of `low` to `high` tables that has to be there.
 pub fn required_entries<E: Entry>(
     alloc: Global,
     path: &[u8],
@@ -152,7 +152,7 @@ pub fn required_entries<E: Entry>(
     }
 }
 
-/// An array of so many tables, or its default.
+/// An array of `low` to `high` tables, or its default.
 pub fn entries_or<E: Entry>(
     alloc: Global,
     path: &[u8],

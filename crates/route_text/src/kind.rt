@@ -60,7 +60,7 @@ pub fn number_in(
 }
 
 #[tactic(auto, using(crate::proofs::ItemLemmas::item_steps))]
-/// The items of a value that has to be an array of so many.
+/// The items of a value that has to be an array of `low` to `high` items.
 pub fn items_in<'a>(
     alloc: Global,
     path: &[u8],

@@ -54,7 +54,7 @@ pub fn legs_of(
     Ok(legs)
 }
 
-/// So many places in a row.
+/// Places in a row, `count` of them, from `first` on.
 fn places_from(alloc: Global, first: u32, count: usize) -> Result<List<u32>, Memory>
     requires { first + count < 2 ^ 32 }
     ensures { IfOk result (λ places. places ≡ range_with_len first count) }

@@ -14,7 +14,7 @@ pub enum TextRule {
     Name,
     /// A name without `/` and `?`.
     DatabaseName,
-    /// 1 to so many octets.
+    /// From 1 to this number of octets.
     UpTo(usize),
     /// A prefix, a dot and a name.
     IndexName,

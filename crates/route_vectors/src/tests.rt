@@ -502,7 +502,7 @@ fn what_toml_spells_in_other_ways_is_told(rt: HostRuntime) -> Result<(), Fail> {
     Ok(())
 }
 
-/// So many items, with their numbers for `#`.
+/// The item `count` times, each with its number for `#`.
 fn items(alloc: Global, item: &str, count: u32) -> Result<String, Memory> {
     let mut all = String::new(alloc);
     for number in 0..count {
@@ -512,7 +512,7 @@ fn items(alloc: Global, item: &str, count: u32) -> Result<String, Memory> {
     Ok(all)
 }
 
-/// What is told of the smallest configuration with an array of so many items more behind it.
+/// What is told of the smallest configuration with an array of `count` items more behind it.
 fn told_of_items(
     alloc: Global,
     (before, item, behind): (&str, &str, &str),
@@ -544,8 +544,8 @@ fn arrays_are_taken_up_to_their_most_items(rt: HostRuntime) -> Result<(), Fail> 
     Ok(())
 }
 
-/// What is told of the smallest configuration with a text of so many octets behind it: `ok`, or that
-/// the text is out of its range.
+/// What is told of the smallest configuration with a text of `count` octets behind it: `ok`, or
+/// that the text is out of its range.
 fn told_of_text(
     alloc: Global,
     (before, first, last, behind): (&str, &str, &str, &str),
@@ -585,7 +585,7 @@ fn texts_are_taken_up_to_their_most_octets(rt: HostRuntime) -> Result<(), Fail> 
     Ok(())
 }
 
-/// Whether a route has this class at a place, with so many members, and the leg this class.
+/// Whether a route has this class at a place, with `members` members, and the leg this class.
 fn is_at(route: &Route, place: usize, name: &[u8], members: usize) -> bool {
     match route.parts().classes.get(place) {
         Some(class) => class.name.as_slice() == name && class.addresses.as_slice().len() == members,

@@ -41,7 +41,7 @@ front_of octet text =
     else (if begins (codes "&gt;") (octet ∷ text) then (greater_than, 3)
     else (if begins (codes "&quot;") (octet ∷ text) then (quotation_mark, 5) else (octet, 0))))
 
--- the octets that are read behind so many that were read before
+-- the octets that are read behind `count` that were read before
 abbrev pub read_behind : ℕ → List ℕ → List ℕ
 read_behind count [] = []
 read_behind (suc count) (octet ∷ text) = read_behind count text

@@ -16,7 +16,7 @@ fn answer(alloc: Global, octets: &[u8]) -> u32 {
     }
 }
 
-/// A head without its end, of 19 octets and so many more.
+/// A head without its end, of 19 octets and `more` others.
 fn long_head(alloc: Global, more: u32) -> Result<Text, Memory> {
     let mut head = Text::copy_of(alloc, b"GET / HTTP/1.1\r\nX: ")?;
     for _ in 0..more {
@@ -25,14 +25,14 @@ fn long_head(alloc: Global, more: u32) -> Result<Text, Memory> {
     Ok(head)
 }
 
-/// A head of 23 octets and so many more.
+/// A head of 23 octets and `more` others.
 fn whole_head(alloc: Global, more: u32) -> Result<Text, Memory> {
     let mut head = long_head(alloc, more)?;
     head.append(b"\r\n\r\n")?;
     Ok(head)
 }
 
-/// A head of so many fields.
+/// A head of `fields` fields.
 fn head_of_fields(alloc: Global, fields: u32) -> Result<Text, Memory> {
     let mut head = Text::copy_of(alloc, b"GET / HTTP/1.1\r\n")?;
     for _ in 0..fields {

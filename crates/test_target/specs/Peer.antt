@@ -95,7 +95,7 @@ abbrev pub with_record : Result Item Diag → List Item → List Item
 with_record (Ok item) items = item ∷ items
 with_record (Err diag) items = []
 
--- so many records from a position on, up to one that is refused
+-- `count` records from a position on, up to one that is refused
 abbrev pub given : (ℕ → Result Item Diag) → ℕ → ℕ → List Item
 given record_at first zero = []
 given record_at first (suc count) = with_record (record_at first) (given record_at (first + 1) count)

@@ -40,7 +40,7 @@ entry_of n names attrs letter =
 abbrev pub entries_of : ℕ → List (List ℕ) → ScanAsk → List ScanEntry
 entries_of n names ask = map (entry_of n names ask.attrs) (take ask.number (drop (first_term ask) letters))
 
--- the place, counted from 1, of a term that has so many before it among so many entries, where it is one of them
+-- the place, counted from 1, of a term that has `before` others before it among `count` entries, where it is one of them
 abbrev pub place_among : ℕ → ℕ → Option ℕ
 place_among before count = if nat_lt before count then Some (before + 1) else None
 

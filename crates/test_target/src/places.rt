@@ -40,8 +40,8 @@ pub(crate) fn place_at(
     )
 }
 
-/// The record that has so many found before it, where the records that are found in any database are
-/// marked.
+/// The record that has `before` others found before it, where the records that are found in any
+/// database are marked.
 fn find_place(
     alloc: Global,
     target: u32,

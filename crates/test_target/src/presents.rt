@@ -151,7 +151,7 @@ fn record_of(
     )
 }
 
-/// Puts so many records from a position on behind others, up to one that is refused.
+/// Puts `left` records from a position on behind others, up to one that is refused.
 fn give(
     alloc: Global,
     target: u32,

@@ -65,7 +65,7 @@ fn preferred(ask: &ScanAsk) -> u32
     ask.position.unwrap_or(1).max(1).min(ask.number.max(1))
 }
 
-/// At most so many of the letters from a place on.
+/// At most `number` of the letters from a place on.
 fn window(letters: &[u8], first: usize, number: usize) -> &[u8]
     ensures { result.now ≡ take number (drop first letters.now) }
 {
@@ -73,7 +73,7 @@ fn window(letters: &[u8], first: usize, number: usize) -> &[u8]
     &rest[..number.min(rest.len())]
 }
 
-/// The place, from 1, of a term that has so many before it among so many entries.
+/// The place, from 1, of a term that has `before` others before it among `count` entries.
 fn place_among(before: usize, count: usize) -> Option<u32>
     requires { before ≤ 26 }
     ensures { result ≡ place_among before count }

@@ -48,7 +48,7 @@ fn hold(peer: &mut Peer, search: &Search, query: &RpnQuery) -> Result<(), Memory
     Ok(())
 }
 
-/// The reply to a search that found so many records.
+/// The reply to a search that found `hits` records.
 fn found(ref_id: Option<Text>, hits: u32) -> Reply
     ensures { result ≡ searched ref_id (Ok hits) }
 {

@@ -60,7 +60,7 @@ pub record ClosesOne (room : ℕ) (Behind : List ℕ → Type 0) (bytes : List �
   pub spelled : bytes ≡ joined frames ++ (end_of_contents ++ after)
   pub behind : Behind after
 
--- so many elements end before rest, where so many levels are left in the innermost
+-- `opened` elements end before `rest`, where `room` levels are left in the innermost
 abbrev pub Closes : ℕ → ℕ → List ℕ → List ℕ → Type 0
 Closes zero room bytes rest = bytes ≡ rest
 Closes (suc opened) room bytes rest = ClosesOne room (λ after. Closes opened (suc room) after rest) bytes

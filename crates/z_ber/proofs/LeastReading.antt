@@ -1,4 +1,4 @@
--- How many octets must still come before elements of indefinite length can end: with so many they can, and with fewer they cannot.
+-- How many octets must still come before elements of indefinite length can end: with that many they can, and with fewer they cannot.
 use Rattle.std.proofs.Common.{◌≡◌, ◌∙◌, ℕ, ◌+◌, ◌-◌, ◌*◌, ◌<◌, ◌≤◌, zero, suc, inl, inr, List, [], ◌∷◌, ◌++◌, length, Some, None, Result, Ok, Err, sym, ap, subst, append_assoc, arith, refl}
 use Rattle.std.proofs.lemmas.List.{length-append, append-nil}
 use Rattle.z_ber.specs.declared.fault.BerFault.{BerFault}
@@ -18,7 +18,7 @@ use Rattle.z_ber.proofs.CloseReading.{extent-definite, Inner, joined, Closes, cl
 short_is : {P : Type 0} (d : BerFault) (r : Result (List ℕ) BerFault) → r ≡ Err d → r ≡ Err Short → (d ≡ Short → P) → P
 short_is d r p q f = f (err_one d Short r p q)
 
--- ---- so many do
+-- ---- that many do
 
 -- ends alone close
 ends : (o r : ℕ) → (more : List ℕ) × Closes o r more [] × (length more ≡ 2 * o)
@@ -60,7 +60,7 @@ opening_step n o r b fits lt ih (Err BadLength) h e = short_is BadLength _ refl 
 opening_step n o r b fits lt ih (Err (TooLarge k)) h e = short_is (TooLarge k) _ refl e (λ d. absurd cc)
 opening_step n o r b fits lt ih (Err TooDeep) h e = short_is TooDeep _ refl e (λ d. absurd cc)
 
--- where octets are wanting, some continuation of so many closes
+-- where octets are wanting, some continuation of `least_at` octets closes
 pub close_at-opening : (n : ℕ) → Opening n
 close_at-opening n zero r b fits lt e = ok_err b Short _ (close_at-closed n r b) e
 close_at-opening zero (suc o) r b fits lt e = absurd (omega arith)
@@ -119,7 +119,7 @@ fewer_step n o r b fits lt ih (Err BadLength) p h e more rest c = short_is BadLe
 fewer_step n o r b fits lt ih (Err (TooLarge k)) p h e more rest c = absurd h
 fewer_step n o r b fits lt ih (Err TooDeep) p h e more rest c = short_is TooDeep _ refl e (λ d. absurd cc)
 
--- where octets are wanting, each continuation that closes has so many before what is behind the end
+-- where octets are wanting, each continuation that closes has at least `least_at` octets before what is behind the end
 pub close_at-fewer : (n : ℕ) → NoFewer n
 close_at-fewer n zero r b fits lt e more rest c = ok_err b Short _ (close_at-closed n r b) e
 close_at-fewer zero (suc o) r b fits lt e more rest c = absurd (omega arith)

@@ -90,7 +90,7 @@ headed n octets body tag l k h e b = record {
 sized : {n : ℕ} {octets : List ℕ} {tag : Tag} {len : Option ℕ} {body : List ℕ} → (h : Headed n octets tag len body) → length (take n octets) ≡ n
 sized {n} {octets} h = length-take-le n octets h.fits
 
--- what stands in front of octets, of so many octets, is an element
+-- octets begin with one element, of `size` octets, where one stands in front of them
 element_of : (m size : ℕ) (octets first rest : List ℕ) (tree : Forest) → octets ≡ first ++ rest → size ≡ length first → IsElement (suc m) first tree → IsElementOf (suc m) octets size
 element_of m size octets first rest tree s n h = record {
   fits = omega (arith, n, ap length s, length-append first rest);

@@ -95,7 +95,7 @@ found_end bytes passed after p e =
     let front : take (length bytes - length after) bytes ≡ f.0 = ap (λ k. take k bytes) n ∙ ap (take (length f.0)) f.3 ∙ take_at f.0 f.1 (length f.0) refl in
     (omega arith, subst (λ (x : List ℕ). IsFrame x) (sym front) (f.2, omega (arith, n, m.0, p.small)))
 
--- where so many elements are open and one ends
+-- where `opened` elements are open and one ends
 ends_one : (bytes : List ℕ) (passed opened : ℕ) (after : List ℕ) → Stands bytes passed opened → 0 < opened → drop passed bytes ≡ end_of_contents ++ after → IsProgress (at passed opened) bytes (Ok (ended (length bytes - length after) opened))
 ends_one bytes passed zero after p some e = absurd (omega (arith, some))
 ends_one bytes passed (suc zero) after p some e = found_end bytes passed after p e

@@ -158,7 +158,7 @@ pub record FoundOpen (room : ℕ) (bytes after : List ℕ) : Type 0 where
   pub header : IsHeader head tag None
   pub spelled : bytes ≡ head ++ after
 
--- octets that are so many, with the ends of so many elements, as must come at least
+-- `more`, with the ends of `opened` elements and of `ends` others, are as many octets as must come at least
 abbrev pub AreLeast : List ℕ → List ℕ → ℕ → Type 0
 AreLeast bytes more ends = (opened : ℕ) → least_to_come (suc opened) bytes ≡ length more + 2 * (opened + ends)
 

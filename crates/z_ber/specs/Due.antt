@@ -18,7 +18,7 @@ pub record IsOpened (levels : ℕ) (octets inner : List ℕ) : Type 0 where
   pub each : AllByRecursion (λ frame. IsFrameAt levels frame × (frame ≢ end_of_contents)) frames
   pub spelled : octets ≡ head ++ (flat_map (λ frame. frame) frames ++ inner)
 
--- so many elements are open in octets; rest stands where the next header is due, with left levels for it
+-- `opened` elements are open in octets; `rest` stands where the next header is due, with `left` levels for it
 abbrev pub IsDue : ℕ → ℕ → List ℕ → ℕ → List ℕ → Type 0
 IsDue zero levels octets left rest = (left ≡ levels) × (rest ≡ octets)
 IsDue (suc opened) levels octets left rest =
@@ -37,7 +37,7 @@ IsFaultAt opened left rest BadLength = (0 < left) × Begins IsIdentifier rest ×
 IsFaultAt opened left rest (TooLarge n) = ⊥
 IsFaultAt opened left rest TooDeep = (left ≡ 0) × ¬ MayEnd opened rest
 
--- a header is due somewhere in octets, where so many levels are left at their front, and this is wrong there
+-- a header is due somewhere in octets, where `levels` levels are left at their front, and this is wrong there
 pub record IsFaultDue (levels : ℕ) (octets : List ℕ) (fault : BerFault) : Type 0 where
   pub opened : ℕ
   pub left : ℕ
@@ -45,12 +45,12 @@ pub record IsFaultDue (levels : ℕ) (octets : List ℕ) (fault : BerFault) : Ty
   pub due : IsDue opened levels octets left rest
   pub wrong : IsFaultAt opened left rest fault
 
--- why octets begin with no element where so many levels are left
+-- why octets begin with no element where `levels` levels are left
 abbrev pub IsRefused : ℕ → List ℕ → BerFault → Type 0
 IsRefused levels bytes Short = IsOpenFor (IsFrameAt levels) bytes
 IsRefused levels bytes fault = IsBadFor (IsFrameAt levels) bytes × IsFaultDue levels bytes fault
 
--- a scan stands in octets: so many are passed, a header is due there, so many elements are open, and there is room for their ends
+-- a scan stands in octets, behind the first `passed`: a header is due there, `opened` elements are open, and there is room for their ends
 pub record Stands (octets : List ℕ) (passed opened : ℕ) : Type 0 where
   pub come : passed ≤ length octets
   pub due : IsDue opened most_levels octets (most_levels - opened) (drop passed octets)

@@ -8,7 +8,7 @@ use Rattle.z_ber.specs.Header.{IsHeader, Begins, Opens, IsOpenFor, IsBadFor, IsI
 use Rattle.z_ber.specs.Frames.{IsDefiniteFrame, IsFrame}
 use Rattle.z_ber.specs.Due.{MayEnd, IsFaultAt, Stands}
 
--- octets begin with a whole definite header, of so many contents octets
+-- octets begin with a whole definite header, of `len` contents octets
 abbrev pub BeginsDefinite : List ℕ → ℕ → Type 0
 BeginsDefinite bytes len = (tag : Tag) × Begins (λ head. IsHeader head tag (Some len)) bytes
 
@@ -60,7 +60,7 @@ IsDefiniteAnswer = IsFrameAnswer IsDefiniteFrame IsDefiniteFault
 abbrev pub IsWholeAnswer : List ℕ → Result ℕ BerFault → Type 0
 IsWholeAnswer = IsFrameAnswer IsFrame IsFrameFault
 
--- a definite header says so many contents octets, with which the frame would be too large
+-- a definite header says `n` contents octets, with which the frame would be too large
 pub record IsTooLarge (bytes : List ℕ) (n : ℕ) : Type 0 where
   pub tag : Tag
   pub head : List ℕ

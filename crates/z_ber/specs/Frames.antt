@@ -32,13 +32,13 @@ pub record IsIndefinite (Frame : List ℕ → Type 0) (octets : List ℕ) (tag :
   pub inside : body ≡ flat_map (λ frame. frame) frames
   pub spelled : octets ≡ head ++ body ++ end_of_contents
 
--- octets are a frame with this tag and this inside, on so many levels at most
+-- octets are a frame with this tag and this inside, on at most `levels` levels
 unfoldable pub IsExtent : ℕ → List ℕ → Tag → List ℕ → Type 0
 IsExtent zero octets tag body = ⊥
 IsExtent (suc levels) octets tag body =
     IsDefinite octets tag body ⊎ IsIndefinite (λ frame. (t : Tag) × (b : List ℕ) × IsExtent levels frame t b) octets tag body
 
--- octets are a frame, on so many levels at most
+-- octets are a frame, on at most `levels` levels
 abbrev pub IsFrameAt : ℕ → List ℕ → Type 0
 IsFrameAt levels octets = (tag : Tag) × (body : List ℕ) × IsExtent levels octets tag body
 

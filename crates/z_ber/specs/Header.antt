@@ -8,7 +8,7 @@ use Rattle.z_ber.specs.Written.{IsTag, tag_octets}
 abbrev pub IsShortForm : List ℕ → ℕ → Type 0
 IsShortForm octets n = (n < 128) × (octets ≡ n ∷ [])
 
--- 8.1.3.5: a count of 1 to 8 octets, and so many, zeros in front included
+-- 8.1.3.5: a count of 1 to 8, and that many octets, zeros in front included
 pub record IsLongForm (octets : List ℕ) (n : ℕ) : Type 0 where
   pub digits : List ℕ
   pub below : AllBelowBase 256 digits

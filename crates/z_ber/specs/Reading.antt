@@ -41,13 +41,13 @@ tag_at [] = Err Short
 tag_at (lead ∷ rest) =
     if nat_lt (lead % 32) 31 then Ok (tag_of lead (lead % 32), rest) else (septets_at 0 rest >>= λ n. Ok (tag_of lead n.0, n.1))
 
--- so many octets, with zeros for those that have not come
+-- the first `count` octets, with zeros for those that have not come
 abbrev pub padded : ℕ → List ℕ → List ℕ
 padded zero bytes = []
 padded (suc count) [] = 0 ∷ padded count []
 padded (suc count) (octet ∷ bytes) = octet ∷ padded count bytes
 
--- a long form of so many octets
+-- a long form of `count` octets
 abbrev pub long_at : ℕ → List ℕ → Result (Option ℕ × List ℕ) BerFault
 long_at count rest =
     if nat_lt (length rest) count then Err Short else Ok (Some (number_from_digits 256 (padded count rest)), drop count rest)
@@ -71,7 +71,7 @@ header_at bytes = do
   len ← length_at tag.0.constructed tag.1
   Ok (tag.0, len.0, len.1)
 
--- a frame whose length has come in part, behind a tag of so many octets, may still be small enough
+-- a frame whose length has come in part, behind a tag of `size` octets, may still be small enough
 abbrev pub has_room_after : ℕ → List ℕ → Bool
 has_room_after size [] = true
 has_room_after size (lead ∷ digits) =
@@ -83,7 +83,7 @@ abbrev pub has_room_behind : List ℕ → Result (Tag × List ℕ) BerFault → 
 has_room_behind bytes (Ok tag) = has_room_after (length bytes - length tag.1) tag.1
 has_room_behind bytes (Err _) = true
 
--- a definite header of so many octets, and a length
+-- a definite header of `size` octets, and a length
 abbrev pub body_at : ℕ → ℕ → List ℕ → Result ℕ BerFault
 body_at size len body =
     if nat_lt 1048576 (size + len) then Err (TooLarge len)
@@ -104,11 +104,11 @@ frame_at bytes = frame_behind bytes (header_at bytes)
 abbrev pub fewest_size : ℕ → ℕ
 fewest_size n = if nat_lt n 128 then 1 else 1 + length (digits_of 256 n)
 
--- so many contents octets, and what follows them
+-- contents of `n` octets, and what follows them
 abbrev pub contents_at : Tag → ℕ → List ℕ → Option (Tag × List ℕ × List ℕ)
 contents_at tag n body = if nat_lt (length body) n then None else Some (tag, take n body, drop n body)
 
--- the same behind length octets of which there are so many, which have to be the fewest
+-- the same behind `size` length octets, which have to be the fewest
 abbrev pub fewest_at : Tag → ℕ → Option ℕ → List ℕ → Option (Tag × List ℕ × List ℕ)
 fewest_at tag size None body = None
 fewest_at tag size (Some n) body = if size == fewest_size n then contents_at tag n body else None
@@ -193,7 +193,7 @@ close_on next opened room (Ok (Whole, after)) = next (suc opened) room after
 close_on next opened room (Ok (Open, after)) = next (suc (suc opened)) (room - 1) after
 close_on next opened room (Err fault) = Err fault
 
--- what follows the end of so many elements, where so many levels are left in the innermost, in so many steps at most
+-- what follows the end of `opened` elements, where `room` levels are left in the innermost, in at most `steps` steps
 abbrev pub close_at : ℕ → ℕ → ℕ → List ℕ → Result (List ℕ) BerFault
 close_at steps zero room bytes = Ok bytes
 close_at zero (suc opened) room bytes = Err Short
@@ -209,7 +209,7 @@ abbrev pub inside_at : Tag → List ℕ → Result (List ℕ) BerFault → Resul
 inside_at tag body (Ok rest) = Ok (tag, take (length body - length rest - 2) body, rest)
 inside_at tag body (Err fault) = Err fault
 
--- an element behind its header, where so many levels are left in it
+-- an element behind its header, where `room` levels are left in it
 abbrev pub extent_behind : ℕ → Result (Tag × Option ℕ × List ℕ) BerFault → Result (Tag × List ℕ × List ℕ) BerFault
 extent_behind room (Ok (tag, None, body)) = inside_at tag body (close_at (suc (length body)) 1 room body)
 extent_behind room (Ok (tag, Some len, body)) = if nat_lt (length body) len then Err Short else Ok (tag, take len body, drop len body)
@@ -239,7 +239,7 @@ wanting_in_element bytes (Ok (tag, None, body)) = 0
 wanting_in_element bytes (Ok (tag, Some len, body)) = len - length body
 wanting_in_element bytes (Err fault) = wanting_in_header (tag_at bytes)
 
--- where so many elements are open: the rest of an end of contents or of an element, and an end of contents for each that is open then
+-- where `opened` elements are open: the rest of an end of contents or of an element, and an end of contents for each that is open then
 unfoldable pub least_to_come : ℕ → List ℕ → ℕ
 least_to_come opened [] = 2 * opened
 least_to_come opened (zero ∷ []) = 2 * opened - 1
@@ -253,7 +253,7 @@ least_on next opened room bytes (Ok (Whole, after)) = next (suc opened) room aft
 least_on next opened room bytes (Ok (Open, after)) = next (suc (suc opened)) (room - 1) after
 least_on next opened room bytes (Err fault) = least_to_come (suc opened) bytes
 
--- before so many elements end, where so many levels are left in the innermost, in so many steps at most
+-- before `opened` elements end, where `room` levels are left in the innermost, in at most `steps` steps
 abbrev pub least_at : ℕ → ℕ → ℕ → List ℕ → ℕ
 least_at steps zero room bytes = 0
 least_at zero (suc opened) room bytes = 0

@@ -29,6 +29,6 @@ pub record AreClosed (levels : ℕ) (octets others : List ℕ) : Type 0 where
   pub are : AreElements true levels front forest
   pub spelled : octets ≡ front ++ (end_of_contents ++ others)
 
--- so many octets they take
+-- they take `size` octets
 abbrev pub AreClosedAt : ℕ → List ℕ → ℕ → Type 0
 AreClosedAt levels octets size = (size ≤ length octets) × AreClosed levels octets (drop size octets)

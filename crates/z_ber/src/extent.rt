@@ -90,7 +90,7 @@ fn inside(tag: Tag, room: u32, body: &[u8]) -> Result<(Tag, &[u8], &[u8]), BerFa
     }
 }
 
-/// What stands in front of the end of contents and so many octets behind it.
+/// What stands in front of the end of contents and the `rest` octets behind it.
 fn inner(body: &[u8], rest: usize) -> &[u8]
     ensures { result.now ≡ take (length body.now - rest - 2) body.now }
 {
@@ -102,7 +102,7 @@ fn inner(body: &[u8], rest: usize) -> &[u8]
     }
 }
 
-/// Tag, contents octets and what follows, where so many levels are left in the element.
+/// Tag, contents octets and what follows, where `room` levels are left in the element.
 #[tactic(auto, unfolding(crate::specs::Reading::extent_at))]
 #[inline(always)]
 pub fn read_extent(room: u32, bytes: &[u8]) -> Result<(Tag, &[u8], &[u8]), BerFault>

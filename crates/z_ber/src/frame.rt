@@ -11,15 +11,15 @@ use z_types::MOST_UNIT_OCTETS;
 /// No frame takes more octets than these.
 pub const FRAME_MAX: u64 = MOST_UNIT_OCTETS as u64;
 
-/// Whether so many octets, and so many more, are no more than a frame may have.
+/// Whether `size` octets, and `more` others, are no more than a frame may have.
 pub fn is_small(size: u64, more: u64) -> bool
     ensures { result ≡ nat_le (size + more) 1048576 }
 {
     size <= FRAME_MAX && more <= FRAME_MAX && size + more <= FRAME_MAX
 }
 
-/// Whether a frame whose length has come in part, behind a tag of so many octets, may still be
-/// small enough.
+/// Whether a frame whose length has come in part, behind a tag of `size` octets, may still be small
+/// enough.
 fn has_room_after(size: usize, rest: &[u8]) -> bool
     requires { size < 2 ^ 63 }
     ensures { result ≡ has_room_after size rest.now }
@@ -44,7 +44,7 @@ fn has_room_behind(bytes: &[u8]) -> bool
     }
 }
 
-/// The octets of a frame, behind a definite header of so many octets.
+/// The octets of a frame, behind a definite header of `size` octets.
 fn body(size: usize, len: u64, body: &[u8]) -> Result<usize, BerFault>
     ensures { result ≡ body_at size len body.now }
 {

@@ -71,7 +71,7 @@ pub fn read_tag(bytes: &[u8]) -> Result<(Tag, &[u8]), BerFault>
     }
 }
 
-/// The number of so many octets, where those that have not come are zeros.
+/// The number of `count` octets behind those of `high`, where those that have not come are zeros.
 pub fn padded_number(high: u64, count: u8, bytes: &[u8]) -> u64
     requires { (high + 1) * 256 ^ count ≤ 2 ^ 64 }
     ensures { result ≡ number_from_digits_after 256 high (padded count bytes.now) }
@@ -85,7 +85,7 @@ pub fn padded_number(high: u64, count: u8, bytes: &[u8]) -> u64
     }
 }
 
-/// A long form of so many octets, and what follows it (8.1.3.5).
+/// A long form of `count` octets, and what follows it (8.1.3.5).
 #[inline(always)]
 fn read_long(count: u8, rest: &[u8]) -> Result<(Option<u64>, &[u8]), BerFault>
     requires { count ≤ 8 }

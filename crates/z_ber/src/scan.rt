@@ -15,8 +15,8 @@ use crate::step::Step;
 use crate::wanting::least_to_come;
 use z_types::MOST_LEVELS;
 
-/// Where a scan stands in the octets of a frame: so many are passed, and a header is due there, or
-/// an end of contents.
+/// Where a scan stands in the octets of a frame: behind the first `passed` of them, where a header
+/// is due, or an end of contents.
 #[derive(Clone, Copy, Debug, PartialEq, Eq)]
 pub struct Scan {
     passed: usize,
@@ -28,7 +28,7 @@ pub struct Scan {
 pub enum Progress {
     /// It goes on from there.
     On(Scan),
-    /// The frame ends, with so many octets.
+    /// The frame ends: its number of octets.
     Found(usize),
 }
 

@@ -9,7 +9,7 @@ use crate::digits::count_digits;
 use crate::read::{read_length, read_tag};
 use crate::{Tag, WrittenElement};
 
-/// So many contents octets, and what follows them.
+/// Contents of `len` octets, and what follows them.
 fn contents(tag: Tag, len: u64, body: &[u8]) -> Option<(Tag, &[u8], &[u8])>
     ensures { option_map (λ x. (x.0, x.1.now, x.2.now)) result ≡ contents_at tag len body.now }
 {

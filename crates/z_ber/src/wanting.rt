@@ -41,7 +41,7 @@ fn wanting_in_element(bytes: &[u8]) -> u64
     }
 }
 
-/// How many octets must still come at least where so many elements are open.
+/// How many octets must still come at least where `opened` elements are open.
 #[tactic(auto, unfolding(crate::specs::Reading::least_to_come))]
 pub fn least_to_come(opened: u32, rest: &[u8]) -> u64
     ensures { result ≡ min (least_to_come opened rest.now) (2 ^ 64 - 1) }

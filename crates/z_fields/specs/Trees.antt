@@ -14,7 +14,7 @@ element_behind inner others (Ok (tag, contents, rest)) =
     if tag.constructed then branch tag contents (inner contents) (others rest) else leaf tag contents (others rest)
 element_behind inner others (Err fault) = none
 
--- elements one after another, in so many steps and on so many levels at most
+-- elements one after another, in at most `steps` steps and on at most `levels` levels
 abbrev pub elements_at : ℕ → ℕ → List ℕ → Forest
 elements_at steps levels [] = none
 elements_at zero levels (octet ∷ octets) = none

@@ -19,8 +19,8 @@ pub enum Framed {
     Unit(u64, u64),
     /// No whole unit, but more octets can make one.
     NeedMore,
-    /// A definite header whose contents octets, so many, would make the unit larger than 1048576
-    /// octets.
+    /// A definite header with which the unit would be larger than 1048576 octets: its number of
+    /// contents octets.
     TooLarge(u64),
     /// No octets can make a unit of what begins at this offset.
     Bad(u64),

@@ -20,7 +20,7 @@ const SEARCH: [u8; 69] = [
     0x61, 0x00, 0x00, 0x00, 0x00,
 ];
 
-/// What a framer hands out of a stream that comes in pieces of so many octets: where the last unit
+/// What a framer hands out of a stream that comes in pieces of `piece` octets: where the last unit
 /// ends, how many units there are, and how the stream goes on behind them.
 fn cut(alloc: Global, stream: &[u8], piece: usize) -> Result<(u64, u32, Framed), Memory>
     requires { 0 < piece }

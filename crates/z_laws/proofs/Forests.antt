@@ -25,7 +25,7 @@ levels none = 0
 levels (leaf tag contents others) = max 1 (levels others)
 levels (branch tag contents inner others) = max (suc (levels inner)) (levels others)
 
--- elements on so many levels at most
+-- elements on at most `most` levels
 pub record IsLow (most : ℕ) (forest : Forest) : Type 0 where
   pub within : levels forest ≤ most
 

@@ -13,11 +13,11 @@ pub enum ExpandFault {
     UnknownSet(Text),
     /// The first operand that fails names a result set of other legs: its name.
     OtherLegs(Text),
-    /// The query would have so many nodes, more than 4096.
+    /// The query would have more than 4096 nodes: their number.
     TooLarge(u64),
-    /// The query would have so many levels, more than 48.
+    /// The query would have more than 48 levels: their number.
     TooDeep(u32),
-    /// The query would cost so much, more than 900000.
+    /// The query would cost more than 900000: its cost.
     TooCostly(u64),
     /// No memory could be had.
     Memory,

@@ -12,7 +12,7 @@ pub record Place : Type 0 where
 abbrev pub place_at : ℕ → ℕ → Place
 place_at leg rank = record { leg = leg; rank = rank }
 
--- the places of a rank: one of each leg that has so many hits, in the order of the legs, which are counted from here on
+-- the places of a rank: one of each leg with at least `rank` hits, in the order of the legs, which are counted from `leg` on
 abbrev pub of_rank_from : (leg : ℕ) (hits : List ℕ) (rank : ℕ) → List Place
 of_rank_from leg [] rank = []
 of_rank_from leg (n ∷ hits) rank =

@@ -225,8 +225,8 @@ fn round(
     Ok(out)
 }
 
-/// The Searches `rpn_right_49`, `rpn_right_58` and `rpn_right_2000`, of so many operators: each stands
-/// in the right operand of the one before it.
+/// The Searches `rpn_right_49`, `rpn_right_58` and `rpn_right_2000`, of `operators` operators: each
+/// stands in the right operand of the one before it.
 fn rpn_right(alloc: Global, operators: u32) -> Result<Text, Memory> {
     let mut structure = octets(alloc, variants::LEAF);
     for _ in 0..operators {
@@ -237,7 +237,8 @@ fn rpn_right(alloc: Global, operators: u32) -> Result<Text, Memory> {
     round(alloc, 22, variants::BOUNDS, &query, "")
 }
 
-/// The Search `skipped_nest_1000`: an element that is not known, of so many others, one in another.
+/// The Search `skipped_nest_1000`: an element that is not known, of `levels` others, one in
+/// another.
 fn skipped_nest(alloc: Global, levels: u32) -> Result<Text, Memory> {
     let mut nest = octets(alloc, "0500");
     for _ in 0..levels {
