@@ -1,6 +1,7 @@
 -- What every route keeps (this project's own): its numbers are in their ranges, its lists in their sizes, and a place is
 -- one of the list that it is a place of.
 use Rattle.std.specs.Prelude.{ℕ, ◌<◌, ◌≤◌, List, length, All, IsTrue}
+use Rattle.z_types.specs.Bounds.{most_number}
 use Rattle.z_types.specs.declared.address.Address.{Address}
 use Rattle.z_types.specs.declared.address.Address.TheVariants.{Test, Tcp}
 use Rattle.z_types.specs.declared.limits.Limits.{Limits}
@@ -76,7 +77,7 @@ IsLeg leg = HasFrom 1 16 leg.databases × All (HasFrom 1 64) leg.databases
 
 -- a name, and a Use attribute
 abbrev pub IsIndex : Index → Type 0
-IsIndex index = IsTrue (is_index_name index.name) × (index.value ≤ 2147483647)
+IsIndex index = IsTrue (is_index_name index.name) × (index.value ≤ most_number)
 
 -- texts of 1 to 128 octets
 abbrev pub IsSchema : Schema → Type 0

@@ -15,7 +15,7 @@ ghost use Rattle.route_config.specs.Sound.{
 
 use crate::names::{is_database_name, is_from, is_index_name, is_name};
 use crate::{Class, Database, Group, Index, RouteLeg, RouteParts, Target};
-use z_types::{Address, Schema, Text};
+use z_types::{Address, MOST_NUMBER, Schema, Text};
 
 impl RouteParts {
     /// Whether each item is in its ranges.
@@ -112,7 +112,7 @@ fn are_classes(classes: &[Class]) -> bool
 fn is_index(index: &Index) -> bool
     ensures { IsTrue result ↔ IsIndex index.now }
 {
-    is_index_name(index.name.as_slice()) && index.value <= 2_147_483_647
+    is_index_name(index.name.as_slice()) && index.value <= MOST_NUMBER
 }
 
 fn are_indexes(indexes: &[Index]) -> bool

@@ -1,5 +1,6 @@
 -- The keys of a configuration (this project's own): the one table from which every refusal of a key is read.
 use Rattle.std.specs.Prelude.{ℕ, List, [], ◌∷◌, codes, pos, Bool, false}
+use Rattle.z_types.specs.Bounds.{most_number}
 use Rattle.toml.specs.Data.{Data, string, integer, boolean, array, table, no_items, item, no_members, member}
 use Rattle.route_text.specs.declared.rule.TextRule.TheVariants.{Any, Name, DatabaseName, UpTo, IndexName}
 use Rattle.route_text.specs.Kinds.{Need, required, default, Text, Address, Number, Flag, Array, Table, Keys, keys}
@@ -57,7 +58,7 @@ limit_keys = keys (
 unfoldable pub index_keys : Keys
 index_keys = keys (
     (codes "name", required, Text IndexName) ∷
-    (codes "use", required, Number 0 2147483647) ∷ [])
+    (codes "use", required, Number 0 most_number) ∷ [])
 
 unfoldable pub schema_keys : Keys
 schema_keys = keys (

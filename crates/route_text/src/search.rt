@@ -12,7 +12,7 @@ use crate::{RouteFault, TextRule};
 use route_config::Index;
 use std::alloc::Global;
 use toml::Value;
-use z_types::Schema;
+use z_types::{MOST_NUMBER, Schema};
 
 impl Entry for Index {
     ghost kind = { TableKind index_keys };
@@ -23,7 +23,7 @@ impl Entry for Index {
     fn read(alloc: Global, path: &[u8], table: &Value) -> Result<Index, RouteFault> {
         let members = table_in(alloc, path, table)?;
         let name = required_text(alloc, path, table, "name", TextRule::IndexName)?;
-        let value = required_number(alloc, path, table, "use", 0, 2_147_483_647)?;
+        let value = required_number(alloc, path, table, "use", 0, MOST_NUMBER)?;
         no_others(alloc, path, members, &["name", "use"])?;
         Ok(Index { name, value })
     }

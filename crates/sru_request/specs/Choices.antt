@@ -3,6 +3,7 @@ use Rattle.std.specs.Prelude.{ℕ, ◌+◌, ◌-◌, ◌*◌, Bool, true, false,
 use Rattle.std.specs.Char.{is_ascii_digit}
 use Rattle.std.specs.List.{list_all, list_any, starts_with}
 use Rattle.std.specs.Option.{option_map}
+use Rattle.z_types.specs.Bounds.{most_number}
 use Rattle.z_types.specs.declared.schemas.Schema.{Schema}
 use Rattle.sru_request.specs.declared.parameter.Parameter.{Parameter}
 use Rattle.sru_request.specs.Parameters.{same_name, value_of}
@@ -22,7 +23,7 @@ number_after before (digit ∷ digits) = number_after (before * 10 + (digit - 48
 
 -- a number that is no less than one, and at most 2147483647
 abbrev pub in_range : ℕ → ℕ → Option ℕ
-in_range least number = if nat_le number 2147483647 && nat_le least number then Some number else None
+in_range least number = if nat_le number most_number && nat_le least number then Some number else None
 
 -- a number in decimal, or another where it is absent
 abbrev pub number_in : ℕ → ℕ → List ℕ → Option ℕ

@@ -3,8 +3,7 @@
 ghost use Rattle.std.specs.Prelude.{◌≡◌};
 ghost use Rattle.sru_request.specs.Choices.{are_digits, number_after, in_range, number_in};
 
-/// The greatest number of a parameter.
-const MOST_NUMBER: u32 = 2_147_483_647;
+use z_types::MOST_NUMBER;
 
 /// Whether each octet is a decimal digit.
 #[tactic(auto, unfolding(crate::specs::Choices::are_digits))]

@@ -96,6 +96,9 @@ database_name = 105
 abbrev pub generic_element_set_name : ℕ
 generic_element_set_name = 0
 
+abbrev pub database_specific : ℕ
+database_specific = 1
+
 -- SearchResponse
 abbrev pub result_count : ℕ
 result_count = 23
@@ -124,6 +127,12 @@ number_of_records_requested = 29
 
 abbrev pub record_composition_simple : ℕ
 record_composition_simple = 19
+
+abbrev pub record_composition_complex : ℕ
+record_composition_complex = 209
+
+abbrev pub additional_ranges : ℕ
+additional_ranges = 212
 
 -- ScanRequest
 abbrev pub scan_database_names : ℕ
@@ -177,6 +186,9 @@ diagnostic_information = 3
 abbrev pub type_1_query : ℕ
 type_1_query = 1
 
+abbrev pub type_101_query : ℕ
+type_101_query = 101
+
 abbrev pub operand : ℕ
 operand = 0
 
@@ -195,9 +207,15 @@ or_operator = 1
 abbrev pub and_not_operator : ℕ
 and_not_operator = 2
 
+abbrev pub proximity_operator : ℕ
+proximity_operator = 3
+
 -- Operand: AttributesPlusTerm
 abbrev pub attributes_plus_term : ℕ
 attributes_plus_term = 102
+
+abbrev pub result_set_plus_attributes : ℕ
+result_set_plus_attributes = 214
 
 -- AttributeList and AttributeElement
 abbrev pub attribute_list : ℕ
@@ -212,6 +230,9 @@ attribute_type = 120
 abbrev pub attribute_value_numeric : ℕ
 attribute_value_numeric = 121
 
+abbrev pub attribute_value_complex : ℕ
+attribute_value_complex = 224
+
 -- Term
 abbrev pub general_term : ℕ
 general_term = 45
@@ -221,6 +242,21 @@ numeric_term = 215
 
 abbrev pub character_string_term : ℕ
 character_string_term = 216
+
+abbrev pub object_identifier_term : ℕ
+object_identifier_term = 217
+
+abbrev pub date_time_term : ℕ
+date_time_term = 218
+
+abbrev pub external_term : ℕ
+external_term = 219
+
+abbrev pub integer_and_unit_term : ℕ
+integer_and_unit_term = 220
+
+abbrev pub null_term : ℕ
+null_term = 221
 
 -- Records, NamePlusRecord and the encoding of an EXTERNAL (X.690, 8.18)
 abbrev pub response_records : ℕ

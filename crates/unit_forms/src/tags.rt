@@ -66,6 +66,8 @@ pub const DATABASE_NAME: u32 = 105;
 
 pub const GENERIC_ELEMENT_SET_NAME: u32 = 0;
 
+pub const DATABASE_SPECIFIC: u32 = 1;
+
 // SearchResponse
 pub const RESULT_COUNT: u32 = 23;
 
@@ -85,6 +87,10 @@ pub const RESULT_SET_START_POINT: u32 = 30;
 pub const NUMBER_OF_RECORDS_REQUESTED: u32 = 29;
 
 pub const RECORD_COMPOSITION_SIMPLE: u32 = 19;
+
+pub const RECORD_COMPOSITION_COMPLEX: u32 = 209;
+
+pub const ADDITIONAL_RANGES: u32 = 212;
 
 // ScanRequest
 pub const SCAN_DATABASE_NAMES: u32 = 3;
@@ -120,6 +126,8 @@ pub const DIAGNOSTIC_INFORMATION: u32 = 3;
 // Query, RPNStructure and Operator
 pub const TYPE_1_QUERY: u32 = 1;
 
+pub const TYPE_101_QUERY: u32 = 101;
+
 pub const OPERAND: u32 = 0;
 
 pub const RPN_RPN_OP: u32 = 1;
@@ -132,8 +140,12 @@ pub const OR_OPERATOR: u32 = 1;
 
 pub const AND_NOT_OPERATOR: u32 = 2;
 
+pub const PROXIMITY_OPERATOR: u32 = 3;
+
 // Operand: AttributesPlusTerm
 pub const ATTRIBUTES_PLUS_TERM: u32 = 102;
+
+pub const RESULT_SET_PLUS_ATTRIBUTES: u32 = 214;
 
 // AttributeList and AttributeElement
 pub const ATTRIBUTE_LIST: u32 = 44;
@@ -144,12 +156,24 @@ pub const ATTRIBUTE_TYPE: u32 = 120;
 
 pub const ATTRIBUTE_VALUE_NUMERIC: u32 = 121;
 
+pub const ATTRIBUTE_VALUE_COMPLEX: u32 = 224;
+
 // Term
 pub const GENERAL_TERM: u32 = 45;
 
 pub const NUMERIC_TERM: u32 = 215;
 
 pub const CHARACTER_STRING_TERM: u32 = 216;
+
+pub const OBJECT_IDENTIFIER_TERM: u32 = 217;
+
+pub const DATE_TIME_TERM: u32 = 218;
+
+pub const EXTERNAL_TERM: u32 = 219;
+
+pub const INTEGER_AND_UNIT_TERM: u32 = 220;
+
+pub const NULL_TERM: u32 = 221;
 
 // Records, NamePlusRecord and the encoding of an EXTERNAL (X.690, 8.18)
 pub const RESPONSE_RECORDS: u32 = 28;

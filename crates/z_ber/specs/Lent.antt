@@ -1,5 +1,6 @@
 -- Elements that are lent, with the children that have not been lent yet (X.690:2021, 8.1.1). The bound of 64 levels is this project's own.
 use Rattle.std.specs.Prelude.{◌≡◌, ◌≢◌, ℕ, suc, List, [], Option, Some, None, Result, Ok, Err, if◌then◌else◌}
+use Rattle.z_types.specs.Bounds.{most_levels}
 use Rattle.z_ber.specs.declared.fault.BerFault.{BerFault}
 use Rattle.z_ber.specs.declared.tag.Tag.{Tag}
 use Rattle.z_ber.specs.Frames.{BeginsWith}
@@ -24,8 +25,8 @@ pub record IsLentFrom (levels : ℕ) (bytes rest : List ℕ) (element : Lent) : 
 
 -- what lending the first element answers
 abbrev pub IsFirst : List ℕ → Result Lent BerFault → Type 0
-IsFirst bytes (Ok element) = (rest : List ℕ) × IsLentFrom 64 bytes rest element
-IsFirst bytes (Err fault) = IsRefused 64 bytes fault
+IsFirst bytes (Ok element) = (rest : List ℕ) × IsLentFrom most_levels bytes rest element
+IsFirst bytes (Err fault) = IsRefused most_levels bytes fault
 
 -- what is left of an element once the child at the front of its rest is lent
 abbrev pub without_first : Lent → List ℕ → Lent

@@ -1,5 +1,6 @@
 -- What lending answers where octets have trees (X.690:2021, 8.1.1). The bound of 64 levels is this project's own.
 use Rattle.std.specs.Prelude.{◌≡◌, ℕ, ◌-◌, ◌<◌, suc, List, [], ◌++◌, length, Bool, Option, Some, None, Result, Ok, Err}
+use Rattle.z_types.specs.Bounds.{most_levels}
 use Rattle.z_ber.specs.declared.fault.BerFault.{BerFault}
 use Rattle.z_ber.specs.declared.tag.Tag.{Tag}
 use Rattle.z_ber.specs.Element.{Forest, none, leaf, branch, AreElements, IsElement}
@@ -62,8 +63,8 @@ LendsNext old new answer =
 -- whatever tree octets begin with, an element is lent that stands for it
 abbrev pub LendsFirst : List ℕ → Result Lent BerFault → Type 0
 LendsFirst bytes answer =
-    (tree : Forest) (octets rest : List ℕ) → IsElement 64 octets tree → bytes ≡ octets ++ rest →
-    (lent : Lent) × (answer ≡ Ok lent) × IsLentAs 64 lent tree
+    (tree : Forest) (octets rest : List ℕ) → IsElement most_levels octets tree → bytes ≡ octets ++ rest →
+    (lent : Lent) × (answer ≡ Ok lent) × IsLentAs most_levels lent tree
 
 -- what stands at the root of an element with this tree: a frame with the tag and contents of a leaf, or with those of a branch, whose contents are its children, one level deeper
 abbrev pub IsRoot : ℕ → List ℕ → Forest → Type 0

@@ -1,5 +1,6 @@
 -- The first place, in the order of octets, where a header is due that cannot be read, stands past the last level, or has contents that pass the end of what holds it (X.690:2021, 8.1.1 to 8.1.3, 8.1.5). The bounds of 64 levels and of 1048576 octets are this project's own.
 use Rattle.std.specs.Prelude.{◌≡◌, ◌≢◌, ◌⊎◌, ℕ, zero, suc, ◌+◌, ◌<◌, ◌≤◌, List, [], ◌++◌, length, take, drop, Bool, true, false, Option, Some, None, is_none, IfSome, Result, Ok, Err}
+use Rattle.z_types.specs.Bounds.{most_levels, most_unit_octets}
 use Rattle.z_ber.specs.declared.tag.Tag.{Tag}
 use Rattle.z_ber.specs.Element.{Forest, HaveEnded, AreElements, IsElement}
 use Rattle.z_ber.specs.Header.{IsHeader, Begins, IsSomeHeader}
@@ -59,8 +60,8 @@ IsPlaceAmong within levels octets at = IsBehind (IsPlace levels) within levels o
 
 -- what the check of elements one after another answers: they are, on 64 levels at most; or the place where they are not
 abbrev pub IsElementsAnswer : List ℕ → Result Unit ℕ → Type 0
-IsElementsAnswer octets (Ok nothing) = (forest : Forest) × AreElements false 64 octets forest
-IsElementsAnswer octets (Err at) = IsPlaceAmong false 64 octets at
+IsElementsAnswer octets (Ok nothing) = (forest : Forest) × AreElements false most_levels octets forest
+IsElementsAnswer octets (Err at) = IsPlaceAmong false most_levels octets at
 
 -- octets begin with one element, of `size` octets
 pub record IsElementOf (levels : ℕ) (octets : List ℕ) (size : ℕ) : Type 0 where
@@ -77,15 +78,15 @@ pub record AreElementsOf (within : Bool) (levels : ℕ) (octets : List ℕ) (siz
 
 -- a unit is one element with nothing left over, on 64 levels and of 1048576 octets at most
 pub record IsUnit (octets : List ℕ) (tree : Forest) : Type 0 where
-  pub small : length octets ≤ 1048576
-  pub element : IsElement 64 octets tree
+  pub small : length octets ≤ most_unit_octets
+  pub element : IsElement most_levels octets tree
 
 -- the first octet that is left over behind the element of a unit
 pub record IsLeftOver (octets : List ℕ) (at : ℕ) : Type 0 where
   pub tree : Forest
   pub front : List ℕ
   pub rest : List ℕ
-  pub element : IsElement 64 front tree
+  pub element : IsElement most_levels front tree
   pub some : rest ≢ []
   pub spelled : octets ≡ front ++ rest
   pub at-is : at ≡ length front
@@ -93,22 +94,22 @@ pub record IsLeftOver (octets : List ℕ) (at : ℕ) : Type 0 where
 -- where octets are no unit: at 0 above the limit; otherwise at the place where they begin with no element, or behind the element
 abbrev pub IsUnitPlace : List ℕ → ℕ → Type 0
 IsUnitPlace octets at =
-    ((1048576 < length octets) × (at ≡ 0)) ⊎ ((length octets ≤ 1048576) × (IsPlace 64 octets at ⊎ IsLeftOver octets at))
+    ((most_unit_octets < length octets) × (at ≡ 0)) ⊎ ((length octets ≤ most_unit_octets) × (IsPlace most_levels octets at ⊎ IsLeftOver octets at))
 
 -- what lending a unit's element answers: an element that stands for the unit's tree; or the place where octets are no unit
 abbrev pub IsUnitAnswer : List ℕ → Result Lent ℕ → Type 0
-IsUnitAnswer octets (Ok lent) = (tree : Forest) × IsUnit octets tree × IsLentAs 64 lent tree
+IsUnitAnswer octets (Ok lent) = (tree : Forest) × IsUnit octets tree × IsLentAs most_levels lent tree
 IsUnitAnswer octets (Err at) = IsUnitPlace octets at
 
 -- octets that are elements have no place where they are not
 abbrev pub ElementsHaveNoPlace : Type 0
 ElementsHaveNoPlace =
-    (octets : List ℕ) (forest : Forest) (at : ℕ) → AreElements false 64 octets forest → ¬ IsPlaceAmong false 64 octets at
+    (octets : List ℕ) (forest : Forest) (at : ℕ) → AreElements false most_levels octets forest → ¬ IsPlaceAmong false most_levels octets at
 
 -- octets that are not elements have one place where they are not
 abbrev pub ElementsHaveOnePlace : Type 0
 ElementsHaveOnePlace =
-    (octets : List ℕ) (a b : ℕ) → IsPlaceAmong false 64 octets a → IsPlaceAmong false 64 octets b → a ≡ b
+    (octets : List ℕ) (a b : ℕ) → IsPlaceAmong false most_levels octets a → IsPlaceAmong false most_levels octets b → a ≡ b
 
 -- a unit has no place where it is none
 abbrev pub UnitHasNoPlace : Type 0

@@ -2,6 +2,7 @@
 use Rattle.std.specs.Prelude.{◌≡◌, ℕ, zero, suc, ◌+◌, ◌-◌, ◌*◌, ◌/◌, ◌%◌, ◌^◌, List, [], ◌∷◌, length, take, drop, Bool, Option, Some, None, Result, Ok, Err, nat_lt, nat_le, min, true, false, ◌==◌, ◌||◌, ◌&&◌, ℤ, pos, negsuc, map, slice_index_or, if◌then◌else◌}
 use Rattle.std.specs.Borrow.{Bor}
 use Rattle.std.specs.Int.Digits.{digits_of, number_from_digits}
+use Rattle.z_types.specs.Bounds.{most_unit_octets}
 use Rattle.z_ber.specs.declared.fault.BerFault.{BerFault}
 use Rattle.z_ber.specs.declared.fault.BerFault.TheVariants.{Short, BadTag, BadLength, TooLarge, TooDeep}
 use Rattle.z_ber.specs.declared.step.Step.{Step}
@@ -76,7 +77,7 @@ abbrev pub has_room_after : ℕ → List ℕ → Bool
 has_room_after size [] = true
 has_room_after size (lead ∷ digits) =
     let count = min (lead - 128) 8 in
-    nat_le (size + 1 + count + number_from_digits 256 (padded count digits)) 1048576
+    nat_le (size + 1 + count + number_from_digits 256 (padded count digits)) most_unit_octets
 
 -- the same for a header that has come in part
 abbrev pub has_room_behind : List ℕ → Result (Tag × List ℕ) BerFault → Bool
@@ -86,7 +87,7 @@ has_room_behind bytes (Err _) = true
 -- a definite header of `size` octets, and a length
 abbrev pub body_at : ℕ → ℕ → List ℕ → Result ℕ BerFault
 body_at size len body =
-    if nat_lt 1048576 (size + len) then Err (TooLarge len)
+    if nat_lt most_unit_octets (size + len) then Err (TooLarge len)
     else (if nat_lt (length body) len then Err Short else Ok (size + len))
 
 -- a definite frame, behind its header

@@ -1,6 +1,7 @@
 //! Frames at the front of octets (X.690:2021, 8.1.3.4 to 8.1.3.6).
 
 ghost use Rattle.std.specs.Prelude.{◌≡◌, ℕ, ◌+◌, ◌-◌, ◌^◌, ◌<◌, nat_le, IfSome, None, Ok, Err};
+ghost use Rattle.z_types.specs.Bounds.{most_unit_octets};
 ghost use Rattle.z_ber.specs.Reading.{tag_at, has_room_after, has_room_behind, body_at, frame_at};
 ghost use Rattle.z_ber.specs.FrameAnswer.{IsDefiniteAnswer, IsTooLarge};
 
@@ -13,7 +14,7 @@ pub const FRAME_MAX: u64 = MOST_UNIT_OCTETS as u64;
 
 /// Whether `size` octets, and `more` others, are no more than a frame may have.
 pub fn is_small(size: u64, more: u64) -> bool
-    ensures { result ≡ nat_le (size + more) 1048576 }
+    ensures { result ≡ nat_le (size + more) most_unit_octets }
 {
     size <= FRAME_MAX && more <= FRAME_MAX && size + more <= FRAME_MAX
 }

@@ -5,10 +5,15 @@ use Rattle.z_ber.specs.Element.{Forest}
 use Rattle.unit_forms.specs.declared.refusal.Refusal.{Refusal}
 use Rattle.unit_forms.specs.Reading.Answers.{◌⊗◌, read_as}
 use Rattle.unit_forms.specs.Reading.Rows.{octets_of, number_of, required, optional}
+use Rattle.unit_forms.specs.Tags as tags
 
 abbrev as_close : Option (List ℕ) × (ℕ × Option (List ℕ)) → Close
 as_close p = record { ref_id = p.0; reason = p.1.0; info = p.1.1 }
 
 -- referenceId [2] OPTIONAL, closeReason [211], diagnosticInformation [3] OPTIONAL
 unfoldable pub close_in : Forest → Result Close Refusal
-close_in fields = read_as as_close (optional 2 octets_of fields ⊗ required 211 number_of fields ⊗ optional 3 octets_of fields)
+close_in fields =
+    read_as as_close (
+    optional tags.reference_id octets_of fields
+    ⊗ required tags.close_reason number_of fields
+    ⊗ optional tags.diagnostic_information octets_of fields)

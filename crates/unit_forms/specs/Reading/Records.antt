@@ -17,6 +17,7 @@ use Rattle.unit_forms.specs.Reading.Elements.{Field, first_element, other_elemen
 use Rattle.unit_forms.specs.Reading.Answers.{◌⊗◌, read_as, value_or}
 use Rattle.unit_forms.specs.Reading.Rows.{octets_of, oid_of, context, universal, required, required_of, optional, within, each_with}
 use Rattle.unit_forms.specs.Reading.Diagnostics.{diag_of}
+use Rattle.unit_forms.specs.Tags as tags
 
 -- whether octets are the contents of a BIT STRING, which are kept as they are
 abbrev pub kept_if : List ℕ → Option ℕ → Option (List ℕ)
@@ -34,15 +35,15 @@ is_single elements octets = single_or_none (first_element elements) (first_eleme
 
 -- X.690, 8.18: single-ASN1-type [0], octet-aligned [1], arbitrary [2]
 abbrev pub encoding_choice : List Tag
-encoding_choice = context 0 ∷ context 1 ∷ context 2 ∷ []
+encoding_choice = context tags.single_asn1_type ∷ context tags.octet_aligned ∷ context tags.arbitrary ∷ []
 
 abbrev pub encoding_of : Field → Result (Form × List ℕ) Refusal
 encoding_of field =
-    if field.tag.number == 0
-    then read_as (λ octets. (Single, octets)) (within (λ inner. value_or (BadValue 0) (is_single inner field.contents)) field)
-    else (if field.tag.number == 1 then read_as (λ octets. (Octets, octets)) (octets_of field)
-    else (if field.tag.constructed then Err (LeftOut 2)
-    else read_as (λ octets. (Arbitrary, octets)) (value_or (BadValue 2) (kept_if field.contents (bits_in field.contents)))))
+    if field.tag.number == tags.single_asn1_type
+    then read_as (λ octets. (Single, octets)) (within (λ inner. value_or (BadValue tags.single_asn1_type) (is_single inner field.contents)) field)
+    else (if field.tag.number == tags.octet_aligned then read_as (λ octets. (Octets, octets)) (octets_of field)
+    else (if field.tag.constructed then Err (LeftOut tags.arbitrary)
+    else read_as (λ octets. (Arbitrary, octets)) (value_or (BadValue tags.arbitrary) (kept_if field.contents (bits_in field.contents)))))
 
 abbrev as_record : List ℕ × (Form × List ℕ) → Item
 as_record p = Record p.0 p.1.0 p.1.1
@@ -50,23 +51,27 @@ as_record p = Record p.0 p.1.0 p.1.1
 -- X.690, 8.18: EXTERNAL: direct-reference, and the encoding
 unfoldable pub external_in : Forest → Result Item Refusal
 external_in fields =
-    read_as as_record (required_of 6 (universal 6 ∷ []) oid_of fields ⊗ required_of 0 encoding_choice encoding_of fields)
+    read_as as_record (required_of 6 (universal 6 ∷ []) oid_of fields ⊗ required_of tags.single_asn1_type encoding_choice encoding_of fields)
 
 -- retrievalRecord [1], round an EXTERNAL, or surrogateDiagnostic [2], round a diagnostic
 abbrev pub item_of : Field → Result Item Refusal
 item_of field =
-    if field.tag.number == 1 then within (required_of 8 (universal 8 ∷ []) (within external_in)) field
+    if field.tag.number == tags.retrieval_record then within (required_of 8 (universal 8 ∷ []) (within external_in)) field
     else read_as Surrogate (within (required_of 16 (universal 16 ∷ []) diag_of) field)
 
 unfoldable pub item_in : Forest → Result Item Refusal
-item_in elements = required_of 1 (context 1 ∷ context 2 ∷ []) item_of elements
+item_in elements =
+    required_of tags.retrieval_record (context tags.retrieval_record ∷ context tags.surrogate_diagnostic ∷ []) item_of elements
 
 abbrev as_named : Option (List ℕ) × Item → NamedRecord
 as_named p = record { name = p.0; item = p.1 }
 
 -- NamePlusRecord: databaseName [0] OPTIONAL, record [1]
 unfoldable pub named_in : Forest → Result NamedRecord Refusal
-named_in fields = read_as as_named (optional 0 octets_of fields ⊗ required 1 (within item_in) fields)
+named_in fields =
+    read_as as_named (
+    optional tags.name_of_name_plus_record octets_of fields
+    ⊗ required tags.record_of_name_plus_record (within item_in) fields)
 
 abbrev pub named_of : Field → Result NamedRecord Refusal
 named_of field = within named_in field
@@ -82,8 +87,8 @@ diags_in elements = each_with (universal 16) diag_of elements
 -- Records: responseRecords [28], nonSurrogateDiagnostic [130], multipleNonSurDiagnostics [205]
 abbrev pub body_of : Field → Result Body Refusal
 body_of field =
-    if field.tag.number == 28 then read_as body.Records (within records_in field)
-    else (if field.tag.number == 130 then read_as body.Diag (diag_of field)
+    if field.tag.number == tags.response_records then read_as body.Records (within records_in field)
+    else (if field.tag.number == tags.non_surrogate_diagnostic then read_as body.Diag (diag_of field)
     else read_as body.Diags (within diags_in field))
 
 abbrev pub body_or_none : Option Field → Result Body Refusal
@@ -91,4 +96,8 @@ body_or_none None = Ok body.None
 body_or_none (Some field) = body_of field
 
 unfoldable pub body_in : Forest → Result Body Refusal
-body_in fields = body_or_none (first_of (context 28 ∷ context 130 ∷ context 205 ∷ []) fields)
+body_in fields =
+    body_or_none (first_of (
+    context tags.response_records
+    ∷ context tags.non_surrogate_diagnostic
+    ∷ context tags.multiple_non_surrogate_diagnostics ∷ []) fields)

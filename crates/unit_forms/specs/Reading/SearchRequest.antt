@@ -11,10 +11,11 @@ use Rattle.unit_forms.specs.Reading.Elements.{Field}
 use Rattle.unit_forms.specs.Reading.ElementNames.{names_of}
 use Rattle.unit_forms.specs.Reading.Queries.{query_in}
 use Rattle.unit_forms.specs.Reading.Rows.{octets_of, number_of, truth_of, oid_of, context, required, optional, within, each_with}
+use Rattle.unit_forms.specs.Tags as tags
 
 -- the names of databases, each a DatabaseName [105]
 unfoldable pub databases_in : Forest → Result (List (List ℕ)) Refusal
-databases_in elements = each_with (context 105) octets_of elements
+databases_in elements = each_with (context tags.database_name) octets_of elements
 
 abbrev pub databases_of : Field → Result (List (List ℕ)) Refusal
 databases_of field = within databases_in field
@@ -38,14 +39,20 @@ Bounds = Option (List ℕ) × (ℕ × (ℕ × ℕ))
 
 unfoldable pub bounds_in : Forest → Result Bounds Refusal
 bounds_in fields =
-    optional 2 octets_of fields ⊗ required 13 number_of fields ⊗ required 14 number_of fields ⊗ required 15 number_of fields
+    optional tags.reference_id octets_of fields
+    ⊗ required tags.small_set_upper_bound number_of fields
+    ⊗ required tags.large_set_lower_bound number_of fields
+    ⊗ required tags.medium_set_present_number number_of fields
 
 -- replaceIndicator [16], resultSetName [17], databaseNames [18]
 abbrev pub Named : Type 0
 Named = Bool × (List ℕ × List (List ℕ))
 
 unfoldable pub named_in : Forest → Result Named Refusal
-named_in fields = required 16 truth_of fields ⊗ required 17 octets_of fields ⊗ required 18 databases_of fields
+named_in fields =
+    required tags.replace_indicator truth_of fields
+    ⊗ required tags.result_set_name octets_of fields
+    ⊗ required tags.database_names databases_of fields
 
 -- smallSetElementSetNames [100] OPTIONAL, mediumSetElementSetNames [101] OPTIONAL, preferredRecordSyntax [104] OPTIONAL, query [21]
 abbrev pub Wanted : Type 0
@@ -53,10 +60,10 @@ Wanted = Option (Asked (List ℕ)) × (Option (Asked (List ℕ)) × (Option (Lis
 
 unfoldable pub wanted_in : Forest → Result Wanted Refusal
 wanted_in fields =
-    optional 100 names_of fields
-    ⊗ optional 101 names_of fields
-    ⊗ optional 104 oid_of fields
-    ⊗ required 21 (within query_in) fields
+    optional tags.small_set_element_set_names names_of fields
+    ⊗ optional tags.medium_set_element_set_names names_of fields
+    ⊗ optional tags.preferred_record_syntax oid_of fields
+    ⊗ required tags.query (within query_in) fields
 
 abbrev pub as_search : Bounds × (Named × Wanted) → Search
 as_search p = record {
