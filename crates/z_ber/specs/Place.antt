@@ -94,7 +94,8 @@ pub record IsLeftOver (octets : List ℕ) (at : ℕ) : Type 0 where
 -- where octets are no unit: at 0 above the limit; otherwise at the place where they begin with no element, or behind the element
 abbrev pub IsUnitPlace : List ℕ → ℕ → Type 0
 IsUnitPlace octets at =
-    ((most_unit_octets < length octets) × (at ≡ 0)) ⊎ ((length octets ≤ most_unit_octets) × (IsPlace most_levels octets at ⊎ IsLeftOver octets at))
+    ((most_unit_octets < length octets) × (at ≡ 0))
+    ⊎ ((length octets ≤ most_unit_octets) × (IsPlace most_levels octets at ⊎ IsLeftOver octets at))
 
 -- what lending a unit's element answers: an element that stands for the unit's tree; or the place where octets are no unit
 abbrev pub IsUnitAnswer : List ℕ → Result Lent ℕ → Type 0

@@ -7,6 +7,7 @@ use Rattle.unit_forms.specs.Reading.Elements.{is_one_of}
 use Rattle.unit_forms.specs.Reading.Rows.{context, universal}
 use Rattle.z_read.specs.declared.fault.ReadFault.{ReadFault}
 use Rattle.z_read.specs.declared.fault.ReadFault.TheVariants.{Memory}
+use Rattle.unit_forms.specs.Tags as numbers
 
 -- an answer other than want of memory
 abbrev pub IsAnswer : {A : Type 0} → (List ℕ → Result A ReadFault → Type 0) → List ℕ → Result A ReadFault → Type 0
@@ -25,23 +26,119 @@ abbrev pub contexts : List ℕ → List Tag
 contexts [] = []
 contexts (number ∷ numbers) = context number ∷ contexts numbers
 
--- the tags of the fields of a request, by the number of its own: initRequest, searchRequest, presentRequest, scanRequest, close
+-- the numbers of the fields of InitializeRequest
+abbrev init_request_fields : List ℕ
+init_request_fields =
+    numbers.reference_id
+    ∷ numbers.protocol_version
+    ∷ numbers.options
+    ∷ numbers.preferred_message_size
+    ∷ numbers.exceptional_record_size ∷ []
+
+-- the numbers of the fields of SearchRequest
+abbrev search_request_fields : List ℕ
+search_request_fields =
+    numbers.reference_id
+    ∷ numbers.small_set_upper_bound
+    ∷ numbers.large_set_lower_bound
+    ∷ numbers.medium_set_present_number
+    ∷ numbers.replace_indicator
+    ∷ numbers.result_set_name
+    ∷ numbers.database_names
+    ∷ numbers.small_set_element_set_names
+    ∷ numbers.medium_set_element_set_names
+    ∷ numbers.preferred_record_syntax
+    ∷ numbers.query ∷ []
+
+-- the numbers of the fields of PresentRequest
+abbrev present_request_fields : List ℕ
+present_request_fields =
+    numbers.reference_id
+    ∷ numbers.result_set_id
+    ∷ numbers.result_set_start_point
+    ∷ numbers.number_of_records_requested
+    ∷ numbers.record_composition_simple
+    ∷ numbers.record_composition_complex
+    ∷ numbers.additional_ranges
+    ∷ numbers.preferred_record_syntax ∷ []
+
+-- the numbers of the fields of ScanRequest
+abbrev scan_request_fields : List ℕ
+scan_request_fields =
+    numbers.reference_id
+    ∷ numbers.scan_database_names
+    ∷ numbers.term_list_and_start_point
+    ∷ numbers.step_size
+    ∷ numbers.number_of_terms_requested
+    ∷ numbers.preferred_position_in_response ∷ []
+
+-- the numbers of the fields of Close
+abbrev close_fields : List ℕ
+close_fields =
+    numbers.reference_id
+    ∷ numbers.close_reason
+    ∷ numbers.diagnostic_information ∷ []
+
+-- the numbers of the fields of InitializeResponse
+abbrev init_response_fields : List ℕ
+init_response_fields =
+    numbers.reference_id
+    ∷ numbers.protocol_version
+    ∷ numbers.options
+    ∷ numbers.preferred_message_size
+    ∷ numbers.exceptional_record_size
+    ∷ numbers.init_result ∷ []
+
+-- the numbers of the fields of SearchResponse
+abbrev search_response_fields : List ℕ
+search_response_fields =
+    numbers.reference_id
+    ∷ numbers.result_count
+    ∷ numbers.number_of_records_returned
+    ∷ numbers.next_result_set_position
+    ∷ numbers.search_status
+    ∷ numbers.present_status
+    ∷ numbers.response_records
+    ∷ numbers.non_surrogate_diagnostic
+    ∷ numbers.multiple_non_surrogate_diagnostics ∷ []
+
+-- the numbers of the fields of PresentResponse
+abbrev present_response_fields : List ℕ
+present_response_fields =
+    numbers.reference_id
+    ∷ numbers.number_of_records_returned
+    ∷ numbers.next_result_set_position
+    ∷ numbers.present_status
+    ∷ numbers.response_records
+    ∷ numbers.non_surrogate_diagnostic
+    ∷ numbers.multiple_non_surrogate_diagnostics ∷ []
+
+-- the numbers of the fields of ScanResponse
+abbrev scan_response_fields : List ℕ
+scan_response_fields =
+    numbers.reference_id
+    ∷ numbers.scan_status
+    ∷ numbers.number_of_entries_returned
+    ∷ numbers.position_of_term
+    ∷ numbers.scan_entries ∷ []
+
+-- the tags of the fields of a request, by the number of its own; the attribute set of a Scan has a universal tag
 abbrev pub request_tags : ℕ → List Tag
 request_tags number =
-    if number == 20 then contexts (2 ∷ 3 ∷ 4 ∷ 5 ∷ 6 ∷ [])
-    else (if number == 22 then contexts (2 ∷ 13 ∷ 14 ∷ 15 ∷ 16 ∷ 17 ∷ 18 ∷ 100 ∷ 101 ∷ 104 ∷ 21 ∷ [])
-    else (if number == 24 then contexts (2 ∷ 31 ∷ 30 ∷ 29 ∷ 19 ∷ 209 ∷ 212 ∷ 104 ∷ [])
-    else (if number == 35 then universal 6 ∷ contexts (2 ∷ 3 ∷ 102 ∷ 5 ∷ 6 ∷ 7 ∷ [])
-    else contexts (2 ∷ 211 ∷ 3 ∷ []))))
+    if number == numbers.init_request then contexts init_request_fields
+    else (if number == numbers.search_request then contexts search_request_fields
+    else (if number == numbers.present_request then contexts present_request_fields
+    else (if number == numbers.scan_request then universal 6 ∷ contexts scan_request_fields
+    else contexts close_fields)))
 
--- the tags of the fields of a reply: initResponse, searchResponse, presentResponse, scanResponse, close
+-- the tags of the fields of a reply, by the number of its own
 abbrev pub reply_tags : ℕ → List Tag
 reply_tags number =
-    if number == 21 then contexts (2 ∷ 3 ∷ 4 ∷ 5 ∷ 6 ∷ 12 ∷ [])
-    else (if number == 23 then contexts (2 ∷ 23 ∷ 24 ∷ 25 ∷ 22 ∷ 27 ∷ 28 ∷ 130 ∷ 205 ∷ [])
-    else (if number == 25 then contexts (2 ∷ 24 ∷ 25 ∷ 27 ∷ 28 ∷ 130 ∷ 205 ∷ [])
-    else (if number == 36 then contexts (2 ∷ 4 ∷ 5 ∷ 6 ∷ 7 ∷ [])
-    else contexts (2 ∷ 211 ∷ 3 ∷ []))))
+    if number == numbers.init_response then contexts init_response_fields
+    else (if number == numbers.search_response then contexts search_response_fields
+    else (if number == numbers.present_response then contexts present_response_fields
+    else (if number == numbers.scan_response then contexts scan_response_fields
+    else contexts close_fields)))
 
 -- two units with one tag, and with the same elements of its fields' tags; whatever else stands in them
 pub record HaveSameFields (tags : ℕ → List Tag) (a b : List ℕ) : Type 0 where

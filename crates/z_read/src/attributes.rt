@@ -1,6 +1,7 @@
 //! Attributes and terms (ANSI/NISO Z39.50-2003, AttributesPlusTerm, AttributeElement, Term).
 
 ghost use Rattle.std.specs.Prelude.{◌≡◌, true, IfOk};
+ghost use Rattle.unit_forms.specs.Tags as numbers;
 ghost use Rattle.unit_forms.specs.Reading.Answers.{read_as, each, all_asked};
 ghost use Rattle.unit_forms.specs.Reading.Rows.{required, required_of};
 ghost use Rattle.unit_forms.specs.Reading.Attributes.{value_of, value_choice, attr_in, attr_of, attrs_of, term_of, term_choice, is_attributes_first, operand_asked, attrs_and_term_in};
@@ -8,7 +9,7 @@ ghost use Rattle.z_read.specs.Parts.{put_asked, asked_behind};
 
 use crate::diagnostics::other_form;
 use std::alloc::Global;
-use unit_forms::Refusal;
+use unit_forms::{Refusal, tags};
 use z_ber::Tag;
 use z_fields::{
     Elements, Field, Fields, both, context, has_tag, integer_of, number_of, octets_of,
@@ -20,8 +21,8 @@ use z_types::{Asked, Attr, List, Memory, Term};
 fn value_of(alloc: Global, field: &Field<'_>) -> Result<Result<Asked<u32>, Refusal>, Memory>
     ensures { IfOk result (λ read. read ≡ value_of field.now) }
 {
-    if field.tag().number == 224 {
-        return Ok(Ok(Asked::Bad(other_form(alloc, 224)?)));
+    if field.tag().number == tags::ATTRIBUTE_VALUE_COMPLEX {
+        return Ok(Ok(Asked::Bad(other_form(alloc, tags::ATTRIBUTE_VALUE_COMPLEX)?)));
     }
     match number_of(field) {
         Ok(value) => Ok(Ok(Asked::Good(value))),
@@ -31,11 +32,15 @@ fn value_of(alloc: Global, field: &Field<'_>) -> Result<Result<Asked<u32>, Refus
 
 /// The value of an attribute.
 fn value_in(alloc: Global, fields: &Fields<'_>) -> Result<Result<Asked<u32>, Refusal>, Memory>
-    ensures { IfOk result (λ read. read ≡ required_of 121 value_choice value_of fields.now) }
+    ensures { IfOk result (λ read. read
+        ≡ required_of numbers.attribute_value_numeric value_choice value_of fields.now) }
 {
-    match fields.first_of(&[context(121), context(224)]) {
+    match fields.first_of(&[
+        context(tags::ATTRIBUTE_VALUE_NUMERIC),
+        context(tags::ATTRIBUTE_VALUE_COMPLEX),
+    ]) {
         Some(field) => value_of(alloc, &field),
-        None => Ok(Err(Refusal::Missing(121))),
+        None => Ok(Err(Refusal::Missing(tags::ATTRIBUTE_VALUE_NUMERIC))),
     }
 }
 
@@ -44,8 +49,8 @@ fn value_in(alloc: Global, fields: &Fields<'_>) -> Result<Result<Asked<u32>, Ref
 fn attr_in(alloc: Global, fields: &Fields<'_>) -> Result<Result<Asked<Attr>, Refusal>, Memory>
     ensures { IfOk result (λ read. read ≡ attr_in fields.now) }
 {
-    let set = optional_oid(alloc, fields, context(1))?;
-    let kind = required_number(fields, 120);
+    let set = optional_oid(alloc, fields, context(tags::ATTRIBUTE_SET))?;
+    let kind = required_number(fields, tags::ATTRIBUTE_TYPE);
     let value = value_in(alloc, fields)?;
     match both(set, both(kind, value)) {
         Ok((set, (kind, value))) => match value {
@@ -124,9 +129,9 @@ fn required_attrs(
     alloc: Global,
     fields: &Fields<'_>,
 ) -> Result<Result<Asked<List<Attr>>, Refusal>, Memory>
-    ensures { IfOk result (λ read. read ≡ required 44 attrs_of fields.now) }
+    ensures { IfOk result (λ read. read ≡ required numbers.attribute_list attrs_of fields.now) }
 {
-    match fields.first_of(&[context(44)]) {
+    match fields.first_of(&[context(tags::ATTRIBUTE_LIST)]) {
         Some(field) => {
             if field.tag().constructed {
                 every_attr(alloc, field.elements())
@@ -134,7 +139,7 @@ fn required_attrs(
                 Ok(Err(Refusal::BadValue(field.tag().number)))
             }
         }
-        None => Ok(Err(Refusal::Missing(44))),
+        None => Ok(Err(Refusal::Missing(tags::ATTRIBUTE_LIST))),
     }
 }
 
@@ -143,14 +148,14 @@ pub fn term_choice() -> [Tag; 8]
     ensures { result ≡ term_choice }
 {
     [
-        context(45),
-        context(215),
-        context(216),
-        context(217),
-        context(218),
-        context(219),
-        context(220),
-        context(221),
+        context(tags::GENERAL_TERM),
+        context(tags::NUMERIC_TERM),
+        context(tags::CHARACTER_STRING_TERM),
+        context(tags::OBJECT_IDENTIFIER_TERM),
+        context(tags::DATE_TIME_TERM),
+        context(tags::EXTERNAL_TERM),
+        context(tags::INTEGER_AND_UNIT_TERM),
+        context(tags::NULL_TERM),
     ]
 }
 
@@ -159,19 +164,19 @@ fn term_of(alloc: Global, field: &Field<'_>) -> Result<Result<Asked<Term>, Refus
     ensures { IfOk result (λ read. read ≡ term_of field.now) }
 {
     let number = field.tag().number;
-    if number == 45 {
+    if number == tags::GENERAL_TERM {
         return match octets_of(alloc, field)? {
             Ok(octets) => Ok(Ok(Asked::Good(Term::General(octets)))),
             Err(refusal) => Ok(Err(refusal)),
         };
     }
-    if number == 215 {
+    if number == tags::NUMERIC_TERM {
         return match integer_of(field) {
             Ok(value) => Ok(Ok(Asked::Good(Term::Number(value)))),
             Err(refusal) => Ok(Err(refusal)),
         };
     }
-    if number == 216 {
+    if number == tags::CHARACTER_STRING_TERM {
         return match octets_of(alloc, field)? {
             Ok(octets) => Ok(Ok(Asked::Good(Term::Words(octets)))),
             Err(refusal) => Ok(Err(refusal)),
@@ -182,11 +187,12 @@ fn term_of(alloc: Global, field: &Field<'_>) -> Result<Result<Asked<Term>, Refus
 
 /// A term, which has to be there.
 fn required_term(alloc: Global, fields: &Fields<'_>) -> Result<Result<Asked<Term>, Refusal>, Memory>
-    ensures { IfOk result (λ read. read ≡ required_of 45 term_choice term_of fields.now) }
+    ensures { IfOk result (λ read. read
+        ≡ required_of numbers.general_term term_choice term_of fields.now) }
 {
     match fields.first_of(&term_choice()) {
         Some(field) => term_of(alloc, &field),
-        None => Ok(Err(Refusal::Missing(45))),
+        None => Ok(Err(Refusal::Missing(tags::GENERAL_TERM))),
     }
 }
 
@@ -195,7 +201,7 @@ fn is_attributes_first(found: Option<Field<'_>>) -> bool
     ensures { result ≡ is_attributes_first found.entry }
 {
     match found {
-        Some(field) => field.tag().number == 44,
+        Some(field) => field.tag().number == tags::ATTRIBUTE_LIST,
         None => true,
     }
 }
@@ -235,7 +241,8 @@ pub fn attrs_and_term_in(
     ensures { IfOk result (λ read. read ≡ attrs_and_term_in fields.now) }
 {
     let [general, numeric, words, a, b, c, d, e] = term_choice();
-    let choice = [context(44), general, numeric, words, a, b, c, d, e];
+    let list = context(tags::ATTRIBUTE_LIST);
+    let choice = [list, general, numeric, words, a, b, c, d, e];
     let attributes_first = is_attributes_first(fields.first_of(&choice));
     let attrs = required_attrs(alloc, fields)?;
     let term = required_term(alloc, fields)?;

@@ -6,7 +6,7 @@ ghost use Rattle.unit_forms.specs.Reading.ElementNames.{name_of, names_in, names
 
 use crate::diagnostics::{additional_ranges, complex_composition, specific_names};
 use std::alloc::Global;
-use unit_forms::Refusal;
+use unit_forms::{Refusal, tags};
 use z_fields::{Field, Fields, context, octets_of};
 use z_types::{Asked, Memory, Text};
 
@@ -14,7 +14,7 @@ use z_types::{Asked, Memory, Text};
 fn name_of(alloc: Global, field: &Field<'_>) -> Result<Result<Asked<Text>, Refusal>, Memory>
     ensures { IfOk result (λ read. read ≡ name_of field.now) }
 {
-    if field.tag().number != 0 {
+    if field.tag().number != tags::GENERIC_ELEMENT_SET_NAME {
         return Ok(Ok(Asked::Bad(specific_names(alloc)?)));
     }
     match octets_of(alloc, field)? {
@@ -32,9 +32,13 @@ pub fn names_of(alloc: Global, field: &Field<'_>) -> Result<Result<Asked<Text>, 
     if !tag.constructed {
         return Ok(Err(Refusal::BadValue(tag.number)));
     }
-    match field.elements().first_of(&[context(0), context(1)]) {
+    let choice = [
+        context(tags::GENERIC_ELEMENT_SET_NAME),
+        context(tags::DATABASE_SPECIFIC),
+    ];
+    match field.elements().first_of(&choice) {
         Some(name) => name_of(alloc, &name),
-        None => Ok(Err(Refusal::Missing(0))),
+        None => Ok(Err(Refusal::Missing(tags::GENERIC_ELEMENT_SET_NAME))),
     }
 }
 
@@ -62,7 +66,7 @@ fn composition_of(
 ) -> Result<Result<Asked<Option<Text>>, Refusal>, Memory>
     ensures { IfOk result (λ read. read ≡ composition_of field.now) }
 {
-    if field.tag().number != 19 {
+    if field.tag().number != tags::RECORD_COMPOSITION_SIMPLE {
         return Ok(Ok(Asked::Bad(complex_composition(alloc)?)));
     }
     match names_of(alloc, field)? {
@@ -93,9 +97,12 @@ pub fn composition_in(
 ) -> Result<Result<Asked<Option<Text>>, Refusal>, Memory>
     ensures { IfOk result (λ read. read ≡ composition_in fields.now) }
 {
-    let found = fields.first_of(&[context(19), context(209)]);
+    let found = fields.first_of(&[
+        context(tags::RECORD_COMPOSITION_SIMPLE),
+        context(tags::RECORD_COMPOSITION_COMPLEX),
+    ]);
     match composition_or_none(alloc, found)? {
-        Ok(composition) => match fields.first_of(&[context(212)]) {
+        Ok(composition) => match fields.first_of(&[context(tags::ADDITIONAL_RANGES)]) {
             Some(_) => Ok(Ok(Asked::Bad(additional_ranges(alloc)?))),
             None => Ok(Ok(composition)),
         },

@@ -6,7 +6,7 @@ ghost use Rattle.unit_forms.specs.Reading.SearchRequest.{databases_of};
 
 use crate::each::{Part, read_each};
 use std::alloc::Global;
-use unit_forms::Refusal;
+use unit_forms::{Refusal, tags};
 use z_fields::{Field, Fields, context, octets_of};
 use z_types::{List, Memory, Text};
 
@@ -27,7 +27,7 @@ fn databases_of(alloc: Global, field: &Field<'_>) -> Result<Result<List<Text>, R
 {
     let tag = field.tag();
     if tag.constructed {
-        read_each(alloc, field.elements(), context(105))
+        read_each(alloc, field.elements(), context(tags::DATABASE_NAME))
     } else {
         Ok(Err(Refusal::BadValue(tag.number)))
     }

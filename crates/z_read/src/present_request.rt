@@ -5,7 +5,7 @@ ghost use Rattle.unit_forms.specs.Reading.PresentRequest.{place_in, form_in, pre
 
 use crate::element_names::composition_in;
 use std::alloc::Global;
-use unit_forms::Refusal;
+use unit_forms::{Refusal, tags};
 use z_fields::{
     Fields, both, context, optional_octets, optional_oid, required_integer, required_number,
     required_octets,
@@ -23,10 +23,10 @@ type Form = (Asked<Option<Text>>, Option<Oid>);
 fn place_in(alloc: Global, fields: &Fields<'_>) -> Result<Result<Place, Refusal>, Memory>
     ensures { IfOk result (λ read. read ≡ place_in fields.now) }
 {
-    let ref_id = optional_octets(alloc, fields, 2)?;
-    let set_name = required_octets(alloc, fields, 31)?;
-    let start = required_integer(fields, 30);
-    let number = required_number(fields, 29);
+    let ref_id = optional_octets(alloc, fields, tags::REFERENCE_ID)?;
+    let set_name = required_octets(alloc, fields, tags::RESULT_SET_ID)?;
+    let start = required_integer(fields, tags::RESULT_SET_START_POINT);
+    let number = required_number(fields, tags::NUMBER_OF_RECORDS_REQUESTED);
     Ok(both(ref_id, both(set_name, both(start, number))))
 }
 
@@ -36,7 +36,7 @@ fn form_in(alloc: Global, fields: &Fields<'_>) -> Result<Result<Form, Refusal>, 
     ensures { IfOk result (λ read. read ≡ form_in fields.now) }
 {
     let element = composition_in(alloc, fields)?;
-    let syntax = optional_oid(alloc, fields, context(104))?;
+    let syntax = optional_oid(alloc, fields, context(tags::PREFERRED_RECORD_SYNTAX))?;
     Ok(both(element, syntax))
 }
 

@@ -1,6 +1,7 @@
 //! Queries (ANSI/NISO Z39.50-2003, Query, RPNQuery, RPNStructure).
 
 ghost use Rattle.std.specs.Prelude.{◌≡◌, ◌||◌, IfOk};
+ghost use Rattle.unit_forms.specs.Tags as numbers;
 ghost use Rattle.unit_forms.specs.Reading.Elements.{has_tag};
 ghost use Rattle.unit_forms.specs.Reading.Rows.{context as context_tag};
 ghost use Rattle.unit_forms.specs.Reading.Queries.{operand_of, operand_in, operator_of, operator_in, joined, join_asked, joined_of, set_of, rpn_query_in, query_of, query_in};
@@ -9,7 +10,7 @@ ghost use Rattle.z_read.specs.Structures.{structure_of};
 use crate::attributes::attrs_and_term_in;
 use crate::diagnostics::{other_form, other_query_type, proximity};
 use std::alloc::Global;
-use unit_forms::{Operator, Refusal};
+use unit_forms::{Operator, Refusal, tags};
 use z_ber::Tag;
 use z_fields::{Elements, Field, Fields, both, context, has_tag, octets_of, oid_of, universal};
 use z_types::{Asked, Memory, Oid, Rpn, RpnQuery};
@@ -19,7 +20,7 @@ fn operand_of(alloc: Global, field: &Field<'_>) -> Result<Result<Asked<Rpn>, Ref
     ensures { IfOk result (λ read. read ≡ operand_of field.now) }
 {
     let tag = field.tag();
-    if tag.number == 102 {
+    if tag.number == tags::ATTRIBUTES_PLUS_TERM {
         if !tag.constructed {
             return Ok(Err(Refusal::BadValue(tag.number)));
         }
@@ -29,7 +30,7 @@ fn operand_of(alloc: Global, field: &Field<'_>) -> Result<Result<Asked<Rpn>, Ref
             Err(refusal) => Ok(Err(refusal)),
         };
     }
-    if tag.number == 31 {
+    if tag.number == tags::RESULT_SET_ID {
         return match octets_of(alloc, field)? {
             Ok(name) => Ok(Ok(Asked::Good(Rpn::operand(name)))),
             Err(refusal) => Ok(Err(refusal)),
@@ -43,9 +44,14 @@ fn operand_of(alloc: Global, field: &Field<'_>) -> Result<Result<Asked<Rpn>, Ref
 fn operand_in(alloc: Global, elements: Elements<'_>) -> Result<Result<Asked<Rpn>, Refusal>, Memory>
     ensures { IfOk result (λ read. read ≡ operand_in elements.entry) }
 {
-    match elements.first_of(&[context(102), context(31), context(214)]) {
+    let choice = [
+        context(tags::ATTRIBUTES_PLUS_TERM),
+        context(tags::RESULT_SET_ID),
+        context(tags::RESULT_SET_PLUS_ATTRIBUTES),
+    ];
+    match elements.first_of(&choice) {
         Some(field) => operand_of(alloc, &field),
-        None => Ok(Err(Refusal::Missing(102))),
+        None => Ok(Err(Refusal::Missing(tags::ATTRIBUTES_PLUS_TERM))),
     }
 }
 
@@ -54,9 +60,9 @@ fn operator_of(alloc: Global, field: &Field<'_>) -> Result<Asked<Operator>, Memo
     ensures { IfOk result (λ read. Ok read ≡ operator_of field.now) }
 {
     match field.tag().number {
-        0 => Ok(Asked::Good(Operator::And)),
-        1 => Ok(Asked::Good(Operator::Or)),
-        2 => Ok(Asked::Good(Operator::AndNot)),
+        tags::AND_OPERATOR => Ok(Asked::Good(Operator::And)),
+        tags::OR_OPERATOR => Ok(Asked::Good(Operator::Or)),
+        tags::AND_NOT_OPERATOR => Ok(Asked::Good(Operator::AndNot)),
         _ => Ok(Asked::Bad(proximity(alloc)?)),
     }
 }
@@ -69,16 +75,21 @@ fn operator_in(
 ) -> Result<Result<Asked<Operator>, Refusal>, Memory>
     ensures { IfOk result (λ read. read ≡ operator_in elements.entry) }
 {
-    let Some(field) = elements.first_of(&[context(46)]) else {
-        return Ok(Err(Refusal::Missing(46)));
+    let Some(field) = elements.first_of(&[context(tags::OPERATOR)]) else {
+        return Ok(Err(Refusal::Missing(tags::OPERATOR)));
     };
     if !field.tag().constructed {
         return Ok(Err(Refusal::BadValue(field.tag().number)));
     }
-    let choice = [context(0), context(1), context(2), context(3)];
+    let choice = [
+        context(tags::AND_OPERATOR),
+        context(tags::OR_OPERATOR),
+        context(tags::AND_NOT_OPERATOR),
+        context(tags::PROXIMITY_OPERATOR),
+    ];
     match field.elements().first_of(&choice) {
         Some(operator) => Ok(Ok(operator_of(alloc, &operator)?)),
-        None => Ok(Err(Refusal::Missing(0))),
+        None => Ok(Err(Refusal::Missing(tags::AND_OPERATOR))),
     }
 }
 
@@ -131,9 +142,10 @@ fn joined_of(
 
 /// Whether a tag is one that a structure has.
 fn is_structure(tag: Tag) -> bool
-    ensures { result ≡ has_tag tag (context_tag 0) || has_tag tag (context_tag 1) }
+    ensures { result ≡ has_tag tag (context_tag numbers.operand)
+        || has_tag tag (context_tag numbers.rpn_rpn_op) }
 {
-    has_tag(tag, context(0)) || has_tag(tag, context(1))
+    has_tag(tag, context(tags::OPERAND)) || has_tag(tag, context(tags::RPN_RPN_OP))
 }
 
 /// The structure that an element is: an operand, or two structures and an operator.
@@ -145,16 +157,16 @@ fn structure_of(
     ensures { IfOk result (λ read. read ≡ structure_of found.entry) }
 {
     let Some(field) = found else {
-        return Ok(Err(Refusal::Missing(0)));
+        return Ok(Err(Refusal::Missing(tags::OPERAND)));
     };
     let tag = field.tag();
     if !is_structure(tag) {
-        return Ok(Err(Refusal::Missing(0)));
+        return Ok(Err(Refusal::Missing(tags::OPERAND)));
     }
     if !tag.constructed {
         return Ok(Err(Refusal::BadValue(tag.number)));
     }
-    if tag.number == 0 {
+    if tag.number == tags::OPERAND {
         return operand_in(alloc, field.elements());
     }
     let mut elements = field.elements();
@@ -208,7 +220,7 @@ fn query_of(alloc: Global, field: &Field<'_>) -> Result<Result<Asked<RpnQuery>, 
     ensures { IfOk result (λ read. read ≡ query_of field.now) }
 {
     let tag = field.tag();
-    if tag.number != 1 && tag.number != 101 {
+    if tag.number != tags::TYPE_1_QUERY && tag.number != tags::TYPE_101_QUERY {
         return Ok(Ok(Asked::Bad(other_query_type(alloc, tag.number)?)));
     }
     if tag.constructed {
@@ -228,6 +240,6 @@ pub fn query_in(
 {
     match elements.first_context() {
         Some(field) => query_of(alloc, &field),
-        None => Ok(Err(Refusal::Missing(1))),
+        None => Ok(Err(Refusal::Missing(tags::TYPE_1_QUERY))),
     }
 }

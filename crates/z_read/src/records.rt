@@ -2,6 +2,7 @@
 //! X.690:2021, 8.18).
 
 ghost use Rattle.std.specs.Prelude.{◌≡◌, ◌≢◌, ℕ, List, [], ◌∷◌, Some, None, IfOk, if◌then◌else◌};
+ghost use Rattle.unit_forms.specs.Tags as numbers;
 ghost use Rattle.unit_forms.specs.Reading.Rows.{required, required_of, within, universal as universal_tag};
 ghost use Rattle.unit_forms.specs.Reading.Diagnostics.{diag_of};
 ghost use Rattle.unit_forms.specs.Reading.Records.{is_single, encoding_choice, encoding_of, external_in, item_of, item_in, named_in, records_in, diags_in, body_of, body_in};
@@ -9,7 +10,7 @@ ghost use Rattle.unit_forms.specs.Reading.Records.{is_single, encoding_choice, e
 use crate::diagnostics::diag_of;
 use crate::each::{Part, read_each};
 use std::alloc::Global;
-use unit_forms::Refusal;
+use unit_forms::{Refusal, tags};
 use z_fields::{
     Elements, Field, Fields, bits_in, both, context, octets_of, optional_octets, required_oid,
     universal,
@@ -27,31 +28,31 @@ fn is_one(mut elements: Elements<'_>) -> bool
 
 /// The octets of one whole element in a field.
 fn single_in(alloc: Global, field: &Field<'_>) -> Result<Result<(Form, Text), Refusal>, Memory>
-    requires { field.now.tag.number ≡ 0 }
+    requires { field.now.tag.number ≡ numbers.single_asn1_type }
     ensures { IfOk result (λ read. read ≡ encoding_of field.now) }
 {
     if !field.tag().constructed {
-        return Ok(Err(Refusal::BadValue(0)));
+        return Ok(Err(Refusal::BadValue(tags::SINGLE_ASN1_TYPE)));
     }
     if is_one(field.elements()) {
         Ok(Ok((Form::Single, Text::copy_of(alloc, field.contents())?)))
     } else {
-        Ok(Err(Refusal::BadValue(0)))
+        Ok(Err(Refusal::BadValue(tags::SINGLE_ASN1_TYPE)))
     }
 }
 
 /// The contents octets of a BIT STRING in a field.
 fn arbitrary_in(alloc: Global, field: &Field<'_>) -> Result<Result<(Form, Text), Refusal>, Memory>
-    requires other { field.now.tag.number ≢ 0 }
-    requires another { field.now.tag.number ≢ 1 }
+    requires other { field.now.tag.number ≢ numbers.single_asn1_type }
+    requires another { field.now.tag.number ≢ numbers.octet_aligned }
     ensures { IfOk result (λ read. read ≡ encoding_of field.now) }
 {
     if field.tag().constructed {
-        return Ok(Err(Refusal::LeftOut(2)));
+        return Ok(Err(Refusal::LeftOut(tags::ARBITRARY)));
     }
     match bits_in(field.contents()) {
         Some(_) => Ok(Ok((Form::Arbitrary, Text::copy_of(alloc, field.contents())?))),
-        None => Ok(Err(Refusal::BadValue(2))),
+        None => Ok(Err(Refusal::BadValue(tags::ARBITRARY))),
     }
 }
 
@@ -60,10 +61,10 @@ fn encoding_of(alloc: Global, field: &Field<'_>) -> Result<Result<(Form, Text), 
     ensures { IfOk result (λ read. read ≡ encoding_of field.now) }
 {
     let number = field.tag().number;
-    if number == 0 {
+    if number == tags::SINGLE_ASN1_TYPE {
         return single_in(alloc, field);
     }
-    if number == 1 {
+    if number == tags::OCTET_ALIGNED {
         return match octets_of(alloc, field)? {
             Ok(octets) => Ok(Ok((Form::Octets, octets))),
             Err(refusal) => Ok(Err(refusal)),
@@ -77,11 +78,17 @@ fn required_encoding(
     alloc: Global,
     fields: &Fields<'_>,
 ) -> Result<Result<(Form, Text), Refusal>, Memory>
-    ensures { IfOk result (λ read. read ≡ required_of 0 encoding_choice encoding_of fields.now) }
+    ensures { IfOk result (λ read. read
+        ≡ required_of numbers.single_asn1_type encoding_choice encoding_of fields.now) }
 {
-    match fields.first_of(&[context(0), context(1), context(2)]) {
+    let choice = [
+        context(tags::SINGLE_ASN1_TYPE),
+        context(tags::OCTET_ALIGNED),
+        context(tags::ARBITRARY),
+    ];
+    match fields.first_of(&choice) {
         Some(field) => encoding_of(alloc, &field),
-        None => Ok(Err(Refusal::Missing(0))),
+        None => Ok(Err(Refusal::Missing(tags::SINGLE_ASN1_TYPE))),
     }
 }
 
@@ -148,7 +155,7 @@ fn surrogate_of(alloc: Global, field: &Field<'_>) -> Result<Result<Diag, Refusal
 fn item_of(alloc: Global, field: &Field<'_>) -> Result<Result<Item, Refusal>, Memory>
     ensures { IfOk result (λ read. read ≡ item_of field.now) }
 {
-    if field.tag().number == 1 {
+    if field.tag().number == tags::RETRIEVAL_RECORD {
         return retrieved_of(alloc, field);
     }
     match surrogate_of(alloc, field)? {
@@ -160,17 +167,22 @@ fn item_of(alloc: Global, field: &Field<'_>) -> Result<Result<Item, Refusal>, Me
 /// What stands in a record's field, which has to be there.
 #[tactic(auto, unfolding(unit_forms::specs::Reading::Records::item_in))]
 fn required_item(alloc: Global, fields: &Fields<'_>) -> Result<Result<Item, Refusal>, Memory>
-    ensures { IfOk result (λ read. read ≡ required 1 (within item_in) fields.now) }
+    ensures { IfOk result (λ read. read
+        ≡ required numbers.record_of_name_plus_record (within item_in) fields.now) }
 {
-    let Some(record) = fields.first_of(&[context(1)]) else {
-        return Ok(Err(Refusal::Missing(1)));
+    let Some(record) = fields.first_of(&[context(tags::RECORD_OF_NAME_PLUS_RECORD)]) else {
+        return Ok(Err(Refusal::Missing(tags::RECORD_OF_NAME_PLUS_RECORD)));
     };
     if !record.tag().constructed {
         return Ok(Err(Refusal::BadValue(record.tag().number)));
     }
-    match record.elements().first_of(&[context(1), context(2)]) {
+    let choice = [
+        context(tags::RETRIEVAL_RECORD),
+        context(tags::SURROGATE_DIAGNOSTIC),
+    ];
+    match record.elements().first_of(&choice) {
         Some(field) => item_of(alloc, &field),
-        None => Ok(Err(Refusal::Missing(1))),
+        None => Ok(Err(Refusal::Missing(tags::RETRIEVAL_RECORD))),
     }
 }
 
@@ -179,7 +191,7 @@ fn required_item(alloc: Global, fields: &Fields<'_>) -> Result<Result<Item, Refu
 fn named_in(alloc: Global, fields: &Fields<'_>) -> Result<Result<NamedRecord, Refusal>, Memory>
     ensures { IfOk result (λ read. read ≡ named_in fields.now) }
 {
-    let name = optional_octets(alloc, fields, 0)?;
+    let name = optional_octets(alloc, fields, tags::NAME_OF_NAME_PLUS_RECORD)?;
     let item = required_item(alloc, fields)?;
     match both(name, item) {
         Ok((name, item)) => Ok(Ok(NamedRecord { name, item })),
@@ -236,13 +248,13 @@ fn body_of(alloc: Global, field: &Field<'_>) -> Result<Result<Body, Refusal>, Me
     ensures { IfOk result (λ read. read ≡ body_of field.now) }
 {
     let number = field.tag().number;
-    if number == 28 {
+    if number == tags::RESPONSE_RECORDS {
         return match records_of(alloc, field)? {
             Ok(records) => Ok(Ok(Body::Records(records))),
             Err(refusal) => Ok(Err(refusal)),
         };
     }
-    if number == 130 {
+    if number == tags::NON_SURROGATE_DIAGNOSTIC {
         return match diag_of(alloc, field)? {
             Ok(diag) => Ok(Ok(Body::Diag(diag))),
             Err(refusal) => Ok(Err(refusal)),
@@ -259,7 +271,12 @@ fn body_of(alloc: Global, field: &Field<'_>) -> Result<Result<Body, Refusal>, Me
 pub fn body_in(alloc: Global, fields: &Fields<'_>) -> Result<Result<Body, Refusal>, Memory>
     ensures { IfOk result (λ read. read ≡ body_in fields.now) }
 {
-    match fields.first_of(&[context(28), context(130), context(205)]) {
+    let choice = [
+        context(tags::RESPONSE_RECORDS),
+        context(tags::NON_SURROGATE_DIAGNOSTIC),
+        context(tags::MULTIPLE_NON_SURROGATE_DIAGNOSTICS),
+    ];
+    match fields.first_of(&choice) {
         Some(field) => body_of(alloc, &field),
         None => Ok(Ok(Body::None)),
     }

@@ -1,6 +1,7 @@
 //! Replies (ANSI/NISO Z39.50-2003, InitializeResponse, SearchResponse, PresentResponse, ScanResponse).
 
 ghost use Rattle.std.specs.Prelude.{◌≡◌, IfOk};
+ghost use Rattle.unit_forms.specs.Tags as numbers;
 ghost use Rattle.unit_forms.specs.Reading.Attributes.{term_choice};
 ghost use Rattle.unit_forms.specs.Reading.Rows.{required_of, optional, within};
 ghost use Rattle.unit_forms.specs.Reading.Records.{diags_in};
@@ -11,7 +12,7 @@ use crate::each::{Part, read_each};
 use crate::init_request::init_in;
 use crate::records::{body_in, diags_of};
 use std::alloc::Global;
-use unit_forms::Refusal;
+use unit_forms::{Refusal, tags};
 use z_fields::{
     Field, Fields, both, context, integer_of, octets_of, optional_number, optional_octets,
     required_flag, required_number,
@@ -24,7 +25,7 @@ pub fn init_reply_in(alloc: Global, fields: &Fields<'_>) -> Result<Result<Reply,
     ensures { IfOk result (λ read. read ≡ init_reply_in fields.now) }
 {
     let init = init_in(alloc, fields)?;
-    match both(init, required_flag(fields, 12)) {
+    match both(init, required_flag(fields, tags::INIT_RESULT)) {
         Ok((init, result)) => Ok(Ok(Reply::Init { init, result })),
         Err(refusal) => Ok(Err(refusal)),
     }
@@ -38,10 +39,10 @@ type Counts = (Option<Text>, (u32, (u32, u32)));
 fn counts_in(alloc: Global, fields: &Fields<'_>) -> Result<Result<Counts, Refusal>, Memory>
     ensures { IfOk result (λ read. read ≡ counts_in fields.now) }
 {
-    let ref_id = optional_octets(alloc, fields, 2)?;
-    let count = required_number(fields, 23);
-    let returned = required_number(fields, 24);
-    let next = required_number(fields, 25);
+    let ref_id = optional_octets(alloc, fields, tags::REFERENCE_ID)?;
+    let count = required_number(fields, tags::RESULT_COUNT);
+    let returned = required_number(fields, tags::NUMBER_OF_RECORDS_RETURNED);
+    let next = required_number(fields, tags::NEXT_RESULT_SET_POSITION);
     Ok(both(ref_id, both(count, both(returned, next))))
 }
 
@@ -53,8 +54,8 @@ fn found_in(
 ) -> Result<Result<(bool, (Option<u32>, Body)), Refusal>, Memory>
     ensures { IfOk result (λ read. read ≡ found_in fields.now) }
 {
-    let ok = required_flag(fields, 22);
-    let status = optional_number(fields, 27);
+    let ok = required_flag(fields, tags::SEARCH_STATUS);
+    let status = optional_number(fields, tags::PRESENT_STATUS);
     let body = body_in(alloc, fields)?;
     Ok(both(ok, both(status, body)))
 }
@@ -88,9 +89,9 @@ fn returned_in(
 ) -> Result<Result<(Option<Text>, (u32, u32)), Refusal>, Memory>
     ensures { IfOk result (λ read. read ≡ returned_in fields.now) }
 {
-    let ref_id = optional_octets(alloc, fields, 2)?;
-    let returned = required_number(fields, 24);
-    let next = required_number(fields, 25);
+    let ref_id = optional_octets(alloc, fields, tags::REFERENCE_ID)?;
+    let returned = required_number(fields, tags::NUMBER_OF_RECORDS_RETURNED);
+    let next = required_number(fields, tags::NEXT_RESULT_SET_POSITION);
     Ok(both(ref_id, both(returned, next)))
 }
 
@@ -99,7 +100,7 @@ fn returned_in(
 fn presented_in(alloc: Global, fields: &Fields<'_>) -> Result<Result<(u32, Body), Refusal>, Memory>
     ensures { IfOk result (λ read. read ≡ presented_in fields.now) }
 {
-    let status = required_number(fields, 27);
+    let status = required_number(fields, tags::PRESENT_STATUS);
     let body = body_in(alloc, fields)?;
     Ok(both(status, body))
 }
@@ -131,19 +132,19 @@ fn entry_term_of(alloc: Global, field: &Field<'_>) -> Result<Result<Term, Refusa
     ensures { IfOk result (λ read. read ≡ entry_term_of field.now) }
 {
     let number = field.tag().number;
-    if number == 45 {
+    if number == tags::GENERAL_TERM {
         return match octets_of(alloc, field)? {
             Ok(octets) => Ok(Ok(Term::General(octets))),
             Err(refusal) => Ok(Err(refusal)),
         };
     }
-    if number == 215 {
+    if number == tags::NUMERIC_TERM {
         return match integer_of(field) {
             Ok(value) => Ok(Ok(Term::Number(value))),
             Err(refusal) => Ok(Err(refusal)),
         };
     }
-    if number == 216 {
+    if number == tags::CHARACTER_STRING_TERM {
         return match octets_of(alloc, field)? {
             Ok(octets) => Ok(Ok(Term::Words(octets))),
             Err(refusal) => Ok(Err(refusal)),
@@ -154,11 +155,12 @@ fn entry_term_of(alloc: Global, field: &Field<'_>) -> Result<Result<Term, Refusa
 
 /// The term of an entry, which has to be there.
 fn required_entry_term(alloc: Global, fields: &Fields<'_>) -> Result<Result<Term, Refusal>, Memory>
-    ensures { IfOk result (λ read. read ≡ required_of 45 term_choice entry_term_of fields.now) }
+    ensures { IfOk result (λ read. read
+        ≡ required_of numbers.general_term term_choice entry_term_of fields.now) }
 {
     match fields.first_of(&term_choice()) {
         Some(field) => entry_term_of(alloc, &field),
-        None => Ok(Err(Refusal::Missing(45))),
+        None => Ok(Err(Refusal::Missing(tags::GENERAL_TERM))),
     }
 }
 
@@ -168,7 +170,7 @@ fn entry_in(alloc: Global, fields: &Fields<'_>) -> Result<Result<ScanEntry, Refu
     ensures { IfOk result (λ read. read ≡ entry_in fields.now) }
 {
     let term = required_entry_term(alloc, fields)?;
-    let occurrences = optional_number(fields, 2);
+    let occurrences = optional_number(fields, tags::GLOBAL_OCCURRENCES);
     match both(term, occurrences) {
         Ok((term, occurrences)) => Ok(Ok(ScanEntry { term, occurrences })),
         Err(refusal) => Ok(Err(refusal)),
@@ -196,15 +198,16 @@ fn optional_entries(
     alloc: Global,
     fields: &Fields<'_>,
 ) -> Result<Result<Option<List<ScanEntry>>, Refusal>, Memory>
-    ensures { IfOk result (λ read. read ≡ optional 1 (within entries_in) fields.now) }
+    ensures { IfOk result (λ read. read
+        ≡ optional numbers.list_entries (within entries_in) fields.now) }
 {
-    let Some(field) = fields.first_of(&[context(1)]) else {
+    let Some(field) = fields.first_of(&[context(tags::LIST_ENTRIES)]) else {
         return Ok(Ok(None));
     };
     if !field.tag().constructed {
         return Ok(Err(Refusal::BadValue(field.tag().number)));
     }
-    match read_each(alloc, field.elements(), context(1))? {
+    match read_each(alloc, field.elements(), context(tags::TERM_INFO))? {
         Ok(entries) => Ok(Ok(Some(entries))),
         Err(refusal) => Ok(Err(refusal)),
     }
@@ -215,9 +218,10 @@ fn optional_diags(
     alloc: Global,
     fields: &Fields<'_>,
 ) -> Result<Result<Option<List<Diag>>, Refusal>, Memory>
-    ensures { IfOk result (λ read. read ≡ optional 2 (within diags_in) fields.now) }
+    ensures { IfOk result (λ read. read
+        ≡ optional numbers.nonsurrogate_diagnostics (within diags_in) fields.now) }
 {
-    let Some(field) = fields.first_of(&[context(2)]) else {
+    let Some(field) = fields.first_of(&[context(tags::NONSURROGATE_DIAGNOSTICS)]) else {
         return Ok(Ok(None));
     };
     match diags_of(alloc, &field)? {
@@ -257,9 +261,10 @@ fn optional_listed(
     alloc: Global,
     fields: &Fields<'_>,
 ) -> Result<Result<Option<(List<ScanEntry>, List<Diag>)>, Refusal>, Memory>
-    ensures { IfOk result (λ read. read ≡ optional 7 (within listed_in) fields.now) }
+    ensures { IfOk result (λ read. read
+        ≡ optional numbers.scan_entries (within listed_in) fields.now) }
 {
-    let Some(field) = fields.first_of(&[context(7)]) else {
+    let Some(field) = fields.first_of(&[context(tags::SCAN_ENTRIES)]) else {
         return Ok(Ok(None));
     };
     if !field.tag().constructed {
@@ -306,9 +311,9 @@ fn scanned_in(
 ) -> Result<Result<(Option<Text>, (u32, u32)), Refusal>, Memory>
     ensures { IfOk result (λ read. read ≡ scanned_in fields.now) }
 {
-    let ref_id = optional_octets(alloc, fields, 2)?;
-    let status = required_number(fields, 4);
-    let number = required_number(fields, 5);
+    let ref_id = optional_octets(alloc, fields, tags::REFERENCE_ID)?;
+    let status = required_number(fields, tags::SCAN_STATUS);
+    let number = required_number(fields, tags::NUMBER_OF_ENTRIES_RETURNED);
     Ok(both(ref_id, both(status, number)))
 }
 
@@ -318,7 +323,7 @@ pub fn scan_reply_in(alloc: Global, fields: &Fields<'_>) -> Result<Result<Reply,
     ensures { IfOk result (λ read. read ≡ scan_reply_in fields.now) }
 {
     let scanned = scanned_in(alloc, fields)?;
-    let position = optional_number(fields, 6);
+    let position = optional_number(fields, tags::POSITION_OF_TERM);
     let listing = listing_in(alloc, fields)?;
     match both(scanned, both(position, listing)) {
         Ok(((ref_id, (status, _)), (position, (entries, diags)))) => Ok(Ok(Reply::Scan {

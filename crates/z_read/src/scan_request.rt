@@ -1,6 +1,7 @@
 //! A Scan (ANSI/NISO Z39.50-2003, ScanRequest).
 
 ghost use Rattle.std.specs.Prelude.{◌≡◌, [], ◌∷◌, IfOk};
+ghost use Rattle.unit_forms.specs.Tags as numbers;
 ghost use Rattle.unit_forms.specs.Reading.Answers.{read_as};
 ghost use Rattle.unit_forms.specs.Reading.Rows.{universal as universal_tag, oid_of, optional_of, required, within};
 ghost use Rattle.unit_forms.specs.Reading.Attributes.{attrs_and_term_in};
@@ -10,7 +11,7 @@ ghost use Rattle.z_read.specs.ScanAsks.{as_ask};
 use crate::attributes::attrs_and_term_in;
 use crate::lists::required_databases;
 use std::alloc::Global;
-use unit_forms::Refusal;
+use unit_forms::{Refusal, tags};
 use z_fields::{
     Fields, both, context, optional_number, optional_octets, optional_oid, required_number,
     universal,
@@ -28,9 +29,10 @@ fn required_start(
     alloc: Global,
     fields: &Fields<'_>,
 ) -> Result<Result<Asked<(List<Attr>, Term)>, Refusal>, Memory>
-    ensures { IfOk result (λ read. read ≡ required 102 (within attrs_and_term_in) fields.now) }
+    ensures { IfOk result (λ read. read ≡ required
+        numbers.term_list_and_start_point (within attrs_and_term_in) fields.now) }
 {
-    match fields.first_of(&[context(102)]) {
+    match fields.first_of(&[context(tags::TERM_LIST_AND_START_POINT)]) {
         Some(field) => {
             if field.tag().constructed {
                 attrs_and_term_in(alloc, &Fields::of(alloc, &field))
@@ -38,7 +40,7 @@ fn required_start(
                 Ok(Err(Refusal::BadValue(field.tag().number)))
             }
         }
-        None => Ok(Err(Refusal::Missing(102))),
+        None => Ok(Err(Refusal::Missing(tags::TERM_LIST_AND_START_POINT))),
     }
 }
 
@@ -55,9 +57,9 @@ fn start_in(alloc: Global, fields: &Fields<'_>) -> Result<Result<Start, Refusal>
 {
     let attr_set = optional_set(alloc, fields)?;
     let start = required_start(alloc, fields)?;
-    let step = optional_number(fields, 5);
-    let number = required_number(fields, 6);
-    let position = optional_number(fields, 7);
+    let step = optional_number(fields, tags::STEP_SIZE);
+    let number = required_number(fields, tags::NUMBER_OF_TERMS_REQUESTED);
+    let position = optional_number(fields, tags::PREFERRED_POSITION_IN_RESPONSE);
     Ok(both(attr_set, both(start, both(step, both(number, position)))))
 }
 
@@ -94,8 +96,8 @@ fn ask_in(alloc: Global, fields: &Fields<'_>) -> Result<Result<Asked<ScanAsk>, R
 pub fn scan_in(alloc: Global, fields: &Fields<'_>) -> Result<Result<Scan, Refusal>, Memory>
     ensures { IfOk result (λ read. read ≡ scan_in fields.now) }
 {
-    let ref_id = optional_octets(alloc, fields, 2)?;
-    let dbs = required_databases(alloc, fields, 3)?;
+    let ref_id = optional_octets(alloc, fields, tags::REFERENCE_ID)?;
+    let dbs = required_databases(alloc, fields, tags::SCAN_DATABASE_NAMES)?;
     let ask = ask_in(alloc, fields)?;
     match both(ref_id, both(dbs, ask)) {
         Ok((ref_id, (dbs, ask))) => Ok(Ok(Scan { ref_id, dbs, ask })),

@@ -1,6 +1,7 @@
 //! A Search (ANSI/NISO Z39.50-2003, SearchRequest).
 
 ghost use Rattle.std.specs.Prelude.{◌≡◌, IfOk};
+ghost use Rattle.unit_forms.specs.Tags as numbers;
 ghost use Rattle.unit_forms.specs.Reading.Answers.{read_as};
 ghost use Rattle.unit_forms.specs.Reading.Rows.{oid_of, required, optional, within};
 ghost use Rattle.unit_forms.specs.Reading.Queries.{query_in};
@@ -10,7 +11,7 @@ use crate::element_names::optional_names;
 use crate::lists::required_databases;
 use crate::queries::query_in;
 use std::alloc::Global;
-use unit_forms::Refusal;
+use unit_forms::{Refusal, tags};
 use z_fields::{
     Fields, both, context, optional_octets, optional_oid, required_flag, required_number,
     required_octets,
@@ -37,10 +38,10 @@ type Parts = (Bounds, (Named, Wanted));
 fn bounds_in(alloc: Global, fields: &Fields<'_>) -> Result<Result<Bounds, Refusal>, Memory>
     ensures { IfOk result (λ read. read ≡ bounds_in fields.now) }
 {
-    let ref_id = optional_octets(alloc, fields, 2)?;
-    let small = required_number(fields, 13);
-    let large = required_number(fields, 14);
-    let medium = required_number(fields, 15);
+    let ref_id = optional_octets(alloc, fields, tags::REFERENCE_ID)?;
+    let small = required_number(fields, tags::SMALL_SET_UPPER_BOUND);
+    let large = required_number(fields, tags::LARGE_SET_LOWER_BOUND);
+    let medium = required_number(fields, tags::MEDIUM_SET_PRESENT_NUMBER);
     Ok(both(ref_id, both(small, both(large, medium))))
 }
 
@@ -49,9 +50,9 @@ fn bounds_in(alloc: Global, fields: &Fields<'_>) -> Result<Result<Bounds, Refusa
 fn named_in(alloc: Global, fields: &Fields<'_>) -> Result<Result<Named, Refusal>, Memory>
     ensures { IfOk result (λ read. read ≡ named_in fields.now) }
 {
-    let replace = required_flag(fields, 16);
-    let set_name = required_octets(alloc, fields, 17)?;
-    let dbs = required_databases(alloc, fields, 18)?;
+    let replace = required_flag(fields, tags::REPLACE_INDICATOR);
+    let set_name = required_octets(alloc, fields, tags::RESULT_SET_NAME)?;
+    let dbs = required_databases(alloc, fields, tags::DATABASE_NAMES)?;
     Ok(both(replace, both(set_name, dbs)))
 }
 
@@ -60,9 +61,10 @@ fn required_query(
     alloc: Global,
     fields: &Fields<'_>,
 ) -> Result<Result<Asked<RpnQuery>, Refusal>, Memory>
-    ensures { IfOk result (λ read. read ≡ required 21 (within query_in) fields.now) }
+    ensures { IfOk result (λ read. read
+        ≡ required numbers.query (within query_in) fields.now) }
 {
-    match fields.first_of(&[context(21)]) {
+    match fields.first_of(&[context(tags::QUERY)]) {
         Some(field) => {
             if field.tag().constructed {
                 query_in(alloc, field.elements())
@@ -70,7 +72,7 @@ fn required_query(
                 Ok(Err(Refusal::BadValue(field.tag().number)))
             }
         }
-        None => Ok(Err(Refusal::Missing(21))),
+        None => Ok(Err(Refusal::Missing(tags::QUERY))),
     }
 }
 
@@ -79,9 +81,10 @@ fn optional_syntax(
     alloc: Global,
     fields: &Fields<'_>,
 ) -> Result<Result<Option<Oid>, Refusal>, Memory>
-    ensures { IfOk result (λ read. read ≡ optional 104 oid_of fields.now) }
+    ensures { IfOk result (λ read. read
+        ≡ optional numbers.preferred_record_syntax oid_of fields.now) }
 {
-    optional_oid(alloc, fields, context(104))
+    optional_oid(alloc, fields, context(tags::PREFERRED_RECORD_SYNTAX))
 }
 
 /// The other fields of a Search.
@@ -89,8 +92,8 @@ fn optional_syntax(
 fn wanted_in(alloc: Global, fields: &Fields<'_>) -> Result<Result<Wanted, Refusal>, Memory>
     ensures { IfOk result (λ read. read ≡ wanted_in fields.now) }
 {
-    let small = optional_names(alloc, fields, 100)?;
-    let medium = optional_names(alloc, fields, 101)?;
+    let small = optional_names(alloc, fields, tags::SMALL_SET_ELEMENT_SET_NAMES)?;
+    let medium = optional_names(alloc, fields, tags::MEDIUM_SET_ELEMENT_SET_NAMES)?;
     let syntax = optional_syntax(alloc, fields)?;
     let query = required_query(alloc, fields)?;
     Ok(both(small, both(medium, both(syntax, query))))

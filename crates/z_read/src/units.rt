@@ -22,7 +22,7 @@ use crate::responses::{init_reply_in, present_reply_in, scan_reply_in, search_re
 use crate::scan_request::scan_in;
 use crate::search_request::search_in;
 use std::alloc::Global;
-use unit_forms::Refusal;
+use unit_forms::{Refusal, tags};
 use z_fields::{Field, Fields, context};
 use z_types::{Memory, Reply, Request};
 
@@ -33,7 +33,13 @@ fn init_of(alloc: Global, field: &Field<'_>) -> Result<Result<Request, Refusal>,
     if !field.tag().constructed {
         return Ok(Err(Refusal::BadValue(field.tag().number)));
     }
-    let wanted = [context(2), context(3), context(4), context(5), context(6)];
+    let wanted = [
+        context(tags::REFERENCE_ID),
+        context(tags::PROTOCOL_VERSION),
+        context(tags::OPTIONS),
+        context(tags::PREFERRED_MESSAGE_SIZE),
+        context(tags::EXCEPTIONAL_RECORD_SIZE),
+    ];
     match init_in(alloc, &Fields::keeping(alloc, field, &wanted)?)? {
         Ok(init) => Ok(Ok(Request::Init(init))),
         Err(refusal) => Ok(Err(refusal)),
@@ -48,17 +54,17 @@ fn search_of(alloc: Global, field: &Field<'_>) -> Result<Result<Request, Refusal
         return Ok(Err(Refusal::BadValue(field.tag().number)));
     }
     let wanted = [
-        context(2),
-        context(13),
-        context(14),
-        context(15),
-        context(16),
-        context(17),
-        context(18),
-        context(100),
-        context(101),
-        context(104),
-        context(21),
+        context(tags::REFERENCE_ID),
+        context(tags::SMALL_SET_UPPER_BOUND),
+        context(tags::LARGE_SET_LOWER_BOUND),
+        context(tags::MEDIUM_SET_PRESENT_NUMBER),
+        context(tags::REPLACE_INDICATOR),
+        context(tags::RESULT_SET_NAME),
+        context(tags::DATABASE_NAMES),
+        context(tags::SMALL_SET_ELEMENT_SET_NAMES),
+        context(tags::MEDIUM_SET_ELEMENT_SET_NAMES),
+        context(tags::PREFERRED_RECORD_SYNTAX),
+        context(tags::QUERY),
     ];
     match search_in(alloc, &Fields::keeping(alloc, field, &wanted)?)? {
         Ok(search) => Ok(Ok(Request::Search(search))),
@@ -75,14 +81,14 @@ fn present_of(alloc: Global, field: &Field<'_>) -> Result<Result<Request, Refusa
         return Ok(Err(Refusal::BadValue(field.tag().number)));
     }
     let wanted = [
-        context(2),
-        context(31),
-        context(30),
-        context(29),
-        context(19),
-        context(209),
-        context(212),
-        context(104),
+        context(tags::REFERENCE_ID),
+        context(tags::RESULT_SET_ID),
+        context(tags::RESULT_SET_START_POINT),
+        context(tags::NUMBER_OF_RECORDS_REQUESTED),
+        context(tags::RECORD_COMPOSITION_SIMPLE),
+        context(tags::RECORD_COMPOSITION_COMPLEX),
+        context(tags::ADDITIONAL_RANGES),
+        context(tags::PREFERRED_RECORD_SYNTAX),
     ];
     match present_in(alloc, &Fields::keeping(alloc, field, &wanted)?)? {
         Ok(present) => Ok(Ok(Request::Present(present))),
@@ -98,12 +104,12 @@ fn scan_of(alloc: Global, field: &Field<'_>) -> Result<Result<Request, Refusal>,
         return Ok(Err(Refusal::BadValue(field.tag().number)));
     }
     let wanted = [
-        context(2),
-        context(3),
-        context(102),
-        context(5),
-        context(6),
-        context(7),
+        context(tags::REFERENCE_ID),
+        context(tags::SCAN_DATABASE_NAMES),
+        context(tags::TERM_LIST_AND_START_POINT),
+        context(tags::STEP_SIZE),
+        context(tags::NUMBER_OF_TERMS_REQUESTED),
+        context(tags::PREFERRED_POSITION_IN_RESPONSE),
     ];
     match scan_in(alloc, &Fields::keeping(alloc, field, &wanted)?)? {
         Ok(scan) => Ok(Ok(Request::Scan(scan))),
@@ -118,7 +124,11 @@ fn close_of(alloc: Global, field: &Field<'_>) -> Result<Result<Request, Refusal>
     if !field.tag().constructed {
         return Ok(Err(Refusal::BadValue(field.tag().number)));
     }
-    let wanted = [context(2), context(211), context(3)];
+    let wanted = [
+        context(tags::REFERENCE_ID),
+        context(tags::CLOSE_REASON),
+        context(tags::DIAGNOSTIC_INFORMATION),
+    ];
     match close_in(alloc, &Fields::keeping(alloc, field, &wanted)?)? {
         Ok(close) => Ok(Ok(Request::Close(close))),
         Err(refusal) => Ok(Err(refusal)),
@@ -133,12 +143,12 @@ fn init_reply_of(alloc: Global, field: &Field<'_>) -> Result<Result<Reply, Refus
         return Ok(Err(Refusal::BadValue(field.tag().number)));
     }
     let wanted = [
-        context(2),
-        context(3),
-        context(4),
-        context(5),
-        context(6),
-        context(12),
+        context(tags::REFERENCE_ID),
+        context(tags::PROTOCOL_VERSION),
+        context(tags::OPTIONS),
+        context(tags::PREFERRED_MESSAGE_SIZE),
+        context(tags::EXCEPTIONAL_RECORD_SIZE),
+        context(tags::INIT_RESULT),
     ];
     init_reply_in(alloc, &Fields::keeping(alloc, field, &wanted)?)
 }
@@ -151,15 +161,15 @@ fn search_reply_of(alloc: Global, field: &Field<'_>) -> Result<Result<Reply, Ref
         return Ok(Err(Refusal::BadValue(field.tag().number)));
     }
     let wanted = [
-        context(2),
-        context(23),
-        context(24),
-        context(25),
-        context(22),
-        context(27),
-        context(28),
-        context(130),
-        context(205),
+        context(tags::REFERENCE_ID),
+        context(tags::RESULT_COUNT),
+        context(tags::NUMBER_OF_RECORDS_RETURNED),
+        context(tags::NEXT_RESULT_SET_POSITION),
+        context(tags::SEARCH_STATUS),
+        context(tags::PRESENT_STATUS),
+        context(tags::RESPONSE_RECORDS),
+        context(tags::NON_SURROGATE_DIAGNOSTIC),
+        context(tags::MULTIPLE_NON_SURROGATE_DIAGNOSTICS),
     ];
     search_reply_in(alloc, &Fields::keeping(alloc, field, &wanted)?)
 }
@@ -172,13 +182,13 @@ fn present_reply_of(alloc: Global, field: &Field<'_>) -> Result<Result<Reply, Re
         return Ok(Err(Refusal::BadValue(field.tag().number)));
     }
     let wanted = [
-        context(2),
-        context(24),
-        context(25),
-        context(27),
-        context(28),
-        context(130),
-        context(205),
+        context(tags::REFERENCE_ID),
+        context(tags::NUMBER_OF_RECORDS_RETURNED),
+        context(tags::NEXT_RESULT_SET_POSITION),
+        context(tags::PRESENT_STATUS),
+        context(tags::RESPONSE_RECORDS),
+        context(tags::NON_SURROGATE_DIAGNOSTIC),
+        context(tags::MULTIPLE_NON_SURROGATE_DIAGNOSTICS),
     ];
     present_reply_in(alloc, &Fields::keeping(alloc, field, &wanted)?)
 }
@@ -190,7 +200,13 @@ fn scan_reply_of(alloc: Global, field: &Field<'_>) -> Result<Result<Reply, Refus
     if !field.tag().constructed {
         return Ok(Err(Refusal::BadValue(field.tag().number)));
     }
-    let wanted = [context(2), context(4), context(5), context(6), context(7)];
+    let wanted = [
+        context(tags::REFERENCE_ID),
+        context(tags::SCAN_STATUS),
+        context(tags::NUMBER_OF_ENTRIES_RETURNED),
+        context(tags::POSITION_OF_TERM),
+        context(tags::SCAN_ENTRIES),
+    ];
     scan_reply_in(alloc, &Fields::keeping(alloc, field, &wanted)?)
 }
 
@@ -215,11 +231,11 @@ fn request_of(alloc: Global, field: &Field<'_>) -> Result<Result<Request, Refusa
         return Ok(Err(Refusal::UnknownUnit(tag.number)));
     }
     match tag.number {
-        20 => init_of(alloc, field),
-        22 => search_of(alloc, field),
-        24 => present_of(alloc, field),
-        35 => scan_of(alloc, field),
-        48 => close_of(alloc, field),
+        tags::INIT_REQUEST => init_of(alloc, field),
+        tags::SEARCH_REQUEST => search_of(alloc, field),
+        tags::PRESENT_REQUEST => present_of(alloc, field),
+        tags::SCAN_REQUEST => scan_of(alloc, field),
+        tags::CLOSE => close_of(alloc, field),
         number => Ok(Err(Refusal::UnknownUnit(number))),
     }
 }
@@ -234,11 +250,11 @@ fn reply_of(alloc: Global, field: &Field<'_>) -> Result<Result<Reply, Refusal>, 
         return Ok(Err(Refusal::UnknownUnit(tag.number)));
     }
     match tag.number {
-        21 => init_reply_of(alloc, field),
-        23 => search_reply_of(alloc, field),
-        25 => present_reply_of(alloc, field),
-        36 => scan_reply_of(alloc, field),
-        48 => close_reply_of(alloc, field),
+        tags::INIT_RESPONSE => init_reply_of(alloc, field),
+        tags::SEARCH_RESPONSE => search_reply_of(alloc, field),
+        tags::PRESENT_RESPONSE => present_reply_of(alloc, field),
+        tags::SCAN_RESPONSE => scan_reply_of(alloc, field),
+        tags::CLOSE => close_reply_of(alloc, field),
         number => Ok(Err(Refusal::UnknownUnit(number))),
     }
 }

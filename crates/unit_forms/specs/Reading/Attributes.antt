@@ -13,14 +13,16 @@ use Rattle.unit_forms.specs.Reading.Elements.{Field, has_tag, first_of}
 use Rattle.unit_forms.specs.Reading.Answers.{◌⊗◌, read_as, each, both_asked, asked_as, all_asked}
 use Rattle.unit_forms.specs.Reading.Rows.{octets_of, integer_of, number_of, oid_of, context, universal, required, required_of, optional, within}
 use Rattle.unit_forms.specs.Reading.Diagnostics.{other_form}
-use Rattle.unit_forms.specs.Tags as tags
+use Rattle.unit_forms.specs.Tags as numbers
 
 -- attributeValue: numeric [121], or complex [224], which is not served
 abbrev pub value_of : Field → Result (Asked ℕ) Refusal
-value_of field = if field.tag.number == tags.attribute_value_complex then Ok (Bad (other_form tags.attribute_value_complex)) else read_as Good (number_of field)
+value_of field =
+    if field.tag.number == numbers.attribute_value_complex then Ok (Bad (other_form numbers.attribute_value_complex))
+    else read_as Good (number_of field)
 
 abbrev pub value_choice : List Tag
-value_choice = context tags.attribute_value_numeric ∷ context tags.attribute_value_complex ∷ []
+value_choice = context numbers.attribute_value_numeric ∷ context numbers.attribute_value_complex ∷ []
 
 abbrev attr_with : Option (List ℕ) → ℕ → ℕ → Attr
 attr_with set kind value = record { set = set; kind = kind; value = value }
@@ -32,9 +34,9 @@ as_attr p = asked_as (attr_with p.0 p.1.0) p.1.1
 unfoldable pub attr_in : Forest → Result (Asked Attr) Refusal
 attr_in fields =
     read_as as_attr (
-    optional tags.attribute_set oid_of fields
-    ⊗ required tags.attribute_type number_of fields
-    ⊗ required_of tags.attribute_value_numeric value_choice value_of fields)
+    optional numbers.attribute_set oid_of fields
+    ⊗ required numbers.attribute_type number_of fields
+    ⊗ required_of numbers.attribute_value_numeric value_choice value_of fields)
 
 -- each attribute is a SEQUENCE
 abbrev pub attr_of : Field → Result (Asked Attr) Refusal
@@ -50,20 +52,26 @@ attrs_of field = within attrs_in field
 -- Term: general [45], numeric [215], characterString [216], or another one, which is not served
 abbrev pub term_choice : List Tag
 term_choice =
-    context tags.general_term ∷ context tags.numeric_term ∷ context tags.character_string_term ∷ context tags.object_identifier_term
-    ∷ context tags.date_time_term ∷ context tags.external_term ∷ context tags.integer_and_unit_term ∷ context tags.null_term ∷ []
+    context numbers.general_term
+    ∷ context numbers.numeric_term
+    ∷ context numbers.character_string_term
+    ∷ context numbers.object_identifier_term
+    ∷ context numbers.date_time_term
+    ∷ context numbers.external_term
+    ∷ context numbers.integer_and_unit_term
+    ∷ context numbers.null_term ∷ []
 
 abbrev pub term_of : Field → Result (Asked Term) Refusal
 term_of field =
-    if field.tag.number == tags.general_term then read_as (λ octets. Good (General octets)) (octets_of field)
-    else (if field.tag.number == tags.numeric_term then read_as (λ number. Good (Number number)) (integer_of field)
-    else (if field.tag.number == tags.character_string_term then read_as (λ octets. Good (Words octets)) (octets_of field)
+    if field.tag.number == numbers.general_term then read_as (λ octets. Good (General octets)) (octets_of field)
+    else (if field.tag.number == numbers.numeric_term then read_as (λ number. Good (Number number)) (integer_of field)
+    else (if field.tag.number == numbers.character_string_term then read_as (λ octets. Good (Words octets)) (octets_of field)
     else Ok (Bad (other_form field.tag.number))))
 
 -- whether the attributes stand before the term
 abbrev pub is_attributes_first : Option Field → Bool
 is_attributes_first None = true
-is_attributes_first (Some field) = field.tag.number == tags.attribute_list
+is_attributes_first (Some field) = field.tag.number == numbers.attribute_list
 
 -- attributes and a term, of which the first from the left tells what is not served
 abbrev pub operand_asked : Bool → Asked (List Attr) × Asked Term → Asked (List Attr × Term)
@@ -73,5 +81,5 @@ operand_asked attributes_first p =
 -- AttributesPlusTerm: AttributeList [44], Term
 unfoldable pub attrs_and_term_in : Forest → Result (Asked (List Attr × Term)) Refusal
 attrs_and_term_in fields =
-    read_as (operand_asked (is_attributes_first (first_of (context tags.attribute_list ∷ term_choice) fields)))
-    (required tags.attribute_list attrs_of fields ⊗ required_of tags.general_term term_choice term_of fields)
+    read_as (operand_asked (is_attributes_first (first_of (context numbers.attribute_list ∷ term_choice) fields)))
+    (required numbers.attribute_list attrs_of fields ⊗ required_of numbers.general_term term_choice term_of fields)

@@ -5,7 +5,7 @@ use Rattle.z_ber.specs.Element.{Forest}
 use Rattle.unit_forms.specs.declared.refusal.Refusal.{Refusal}
 use Rattle.unit_forms.specs.Reading.Answers.{◌⊗◌, read_as}
 use Rattle.unit_forms.specs.Reading.Rows.{octets_of, number_of, required, optional}
-use Rattle.unit_forms.specs.Tags as tags
+use Rattle.unit_forms.specs.Tags as numbers
 
 abbrev as_close : Option (List ℕ) × (ℕ × Option (List ℕ)) → Close
 as_close p = record { ref_id = p.0; reason = p.1.0; info = p.1.1 }
@@ -14,6 +14,6 @@ as_close p = record { ref_id = p.0; reason = p.1.0; info = p.1.1 }
 unfoldable pub close_in : Forest → Result Close Refusal
 close_in fields =
     read_as as_close (
-    optional tags.reference_id octets_of fields
-    ⊗ required tags.close_reason number_of fields
-    ⊗ optional tags.diagnostic_information octets_of fields)
+    optional numbers.reference_id octets_of fields
+    ⊗ required numbers.close_reason number_of fields
+    ⊗ optional numbers.diagnostic_information octets_of fields)

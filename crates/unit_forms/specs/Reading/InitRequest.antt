@@ -5,7 +5,7 @@ use Rattle.z_ber.specs.Element.{Forest}
 use Rattle.unit_forms.specs.declared.refusal.Refusal.{Refusal}
 use Rattle.unit_forms.specs.Reading.Answers.{◌⊗◌, read_as}
 use Rattle.unit_forms.specs.Reading.Rows.{octets_of, bits_of, number_of, truth_of, required, optional}
-use Rattle.unit_forms.specs.Tags as tags
+use Rattle.unit_forms.specs.Tags as numbers
 
 abbrev as_init : Option (List ℕ) × (ℕ × (ℕ × (ℕ × ℕ))) → Init
 as_init p =
@@ -15,12 +15,12 @@ as_init p =
 unfoldable pub init_in : Forest → Result Init Refusal
 init_in fields =
     read_as as_init (
-    optional tags.reference_id octets_of fields
-    ⊗ required tags.protocol_version bits_of fields
-    ⊗ required tags.options bits_of fields
-    ⊗ required tags.preferred_message_size number_of fields
-    ⊗ required tags.exceptional_record_size number_of fields)
+    optional numbers.reference_id octets_of fields
+    ⊗ required numbers.protocol_version bits_of fields
+    ⊗ required numbers.options bits_of fields
+    ⊗ required numbers.preferred_message_size number_of fields
+    ⊗ required numbers.exceptional_record_size number_of fields)
 
 -- the same, and result [12]
 unfoldable pub init_response_in : Forest → Result (Init × Bool) Refusal
-init_response_in fields = init_in fields ⊗ required tags.init_result truth_of fields
+init_response_in fields = init_in fields ⊗ required numbers.init_result truth_of fields

@@ -7,19 +7,19 @@ use Rattle.unit_forms.specs.declared.refusal.Refusal.{Refusal}
 use Rattle.unit_forms.specs.Reading.Answers.{◌⊗◌, read_as}
 use Rattle.unit_forms.specs.Reading.ElementNames.{composition_in}
 use Rattle.unit_forms.specs.Reading.Rows.{octets_of, integer_of, number_of, oid_of, required, optional}
-use Rattle.unit_forms.specs.Tags as tags
+use Rattle.unit_forms.specs.Tags as numbers
 
 -- referenceId [2] OPTIONAL, resultSetId [31], resultSetStartPoint [30], numberOfRecordsRequested [29]
 unfoldable pub place_in : Forest → Result (Option (List ℕ) × (List ℕ × (ℤ × ℕ))) Refusal
 place_in fields =
-    optional tags.reference_id octets_of fields
-    ⊗ required tags.result_set_id octets_of fields
-    ⊗ required tags.result_set_start_point integer_of fields
-    ⊗ required tags.number_of_records_requested number_of fields
+    optional numbers.reference_id octets_of fields
+    ⊗ required numbers.result_set_id octets_of fields
+    ⊗ required numbers.result_set_start_point integer_of fields
+    ⊗ required numbers.number_of_records_requested number_of fields
 
 -- recordComposition OPTIONAL, preferredRecordSyntax [104] OPTIONAL
 unfoldable pub form_in : Forest → Result (Asked (Option (List ℕ)) × Option (List ℕ)) Refusal
-form_in fields = composition_in fields ⊗ optional tags.preferred_record_syntax oid_of fields
+form_in fields = composition_in fields ⊗ optional numbers.preferred_record_syntax oid_of fields
 
 abbrev as_present : (Option (List ℕ) × (List ℕ × (ℤ × ℕ))) × (Asked (Option (List ℕ)) × Option (List ℕ)) → Present
 as_present p = record {

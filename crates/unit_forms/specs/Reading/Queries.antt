@@ -15,36 +15,36 @@ use Rattle.unit_forms.specs.Reading.Answers.{◌⊗◌, read_as, read_or, both_a
 use Rattle.unit_forms.specs.Reading.Rows.{octets_of, oid_of, context, universal, required, required_of, within}
 use Rattle.unit_forms.specs.Reading.Attributes.{attrs_and_term_in}
 use Rattle.unit_forms.specs.Reading.Diagnostics.{other_query_type, other_form, proximity}
-use Rattle.unit_forms.specs.Tags as tags
+use Rattle.unit_forms.specs.Tags as numbers
 
 -- Operand: AttributesPlusTerm [102], ResultSetId [31], or resultAttr [214], which is not served
 abbrev pub operand_choice : List Tag
-operand_choice = context tags.attributes_plus_term ∷ context tags.result_set_id ∷ context tags.result_set_plus_attributes ∷ []
+operand_choice = context numbers.attributes_plus_term ∷ context numbers.result_set_id ∷ context numbers.result_set_plus_attributes ∷ []
 
 abbrev pub operand_of : Field → Result (Asked Tree) Refusal
 operand_of field =
-    if field.tag.number == tags.attributes_plus_term then read_as (asked_as (λ p. leaf_node p.0 p.1)) (within attrs_and_term_in field)
-    else (if field.tag.number == tags.result_set_id then read_as (λ name. Good (operand name)) (octets_of field)
+    if field.tag.number == numbers.attributes_plus_term then read_as (asked_as (λ p. leaf_node p.0 p.1)) (within attrs_and_term_in field)
+    else (if field.tag.number == numbers.result_set_id then read_as (λ name. Good (operand name)) (octets_of field)
     else Ok (Bad (other_form field.tag.number)))
 
 unfoldable pub operand_in : Forest → Result (Asked Tree) Refusal
-operand_in elements = required_of tags.attributes_plus_term operand_choice operand_of elements
+operand_in elements = required_of numbers.attributes_plus_term operand_choice operand_of elements
 
 -- Operator: and [0], or [1], and-not [2], or prox [3], which is not served; its contents are not looked at
 abbrev pub operator_choice : List Tag
 operator_choice =
-    context tags.and_operator ∷ context tags.or_operator ∷ context tags.and_not_operator ∷ context tags.proximity_operator ∷ []
+    context numbers.and_operator ∷ context numbers.or_operator ∷ context numbers.and_not_operator ∷ context numbers.proximity_operator ∷ []
 
 abbrev pub operator_of : Field → Result (Asked Operator) Refusal
 operator_of field =
-    if field.tag.number == tags.and_operator then Ok (Good And)
-    else (if field.tag.number == tags.or_operator then Ok (Good Or)
-    else (if field.tag.number == tags.and_not_operator then Ok (Good AndNot)
+    if field.tag.number == numbers.and_operator then Ok (Good And)
+    else (if field.tag.number == numbers.or_operator then Ok (Good Or)
+    else (if field.tag.number == numbers.and_not_operator then Ok (Good AndNot)
     else Ok (Bad proximity)))
 
 -- the operator [46] of a structure
 unfoldable pub operator_in : Forest → Result (Asked Operator) Refusal
-operator_in elements = required tags.operator (within (required_of tags.and_operator operator_choice operator_of)) elements
+operator_in elements = required numbers.operator (within (required_of numbers.and_operator operator_choice operator_of)) elements
 
 abbrev pub joined : Tree × (Tree × Operator) → Tree
 joined (l, (r, And)) = and l r
@@ -63,17 +63,17 @@ joined_of left right operator = read_as join_asked (left ⊗ right ⊗ operator)
 -- RPNStructure: [0] round an operand, or [1] round two structures and an operator
 abbrev pub structure_with : Tag → Result (Asked Tree) Refusal → Result (Asked Tree) Refusal → Result (Asked Tree) Refusal
 structure_with tag alone both =
-    if has_tag tag (context tags.operand) || has_tag tag (context tags.rpn_rpn_op)
-    then (if tag.constructed then (if tag.number == tags.operand then alone else both) else Err (BadValue tag.number))
-    else Err (Missing tags.operand)
+    if has_tag tag (context numbers.operand) || has_tag tag (context numbers.rpn_rpn_op)
+    then (if tag.constructed then (if tag.number == numbers.operand then alone else both) else Err (BadValue tag.number))
+    else Err (Missing numbers.operand)
 
 -- the structure that the element at a place is; an element without elements in it has no structure in it
 unfoldable pub structure_at : ℕ → Forest → Result (Asked Tree) Refusal
-structure_at place none = Err (Missing tags.operand)
+structure_at place none = Err (Missing numbers.operand)
 structure_at (suc place) (leaf tag contents others) = structure_at place others
 structure_at (suc place) (branch tag contents inner others) = structure_at place others
 structure_at zero (leaf tag contents others) =
-    structure_with tag (operand_in none) (joined_of (Err (Missing tags.operand)) (Err (Missing tags.operand)) (operator_in none))
+    structure_with tag (operand_in none) (joined_of (Err (Missing numbers.operand)) (Err (Missing numbers.operand)) (operator_in none))
 structure_at zero (branch tag contents inner others) =
     structure_with tag (operand_in inner) (joined_of (structure_at 0 inner) (structure_at 1 inner) (operator_in inner))
 
@@ -95,9 +95,9 @@ rpn_query_in elements = read_as as_query (set_of (first_element elements) ⊗ st
 -- Query: type-1 [1], type-101 [101], or another type, which is not served
 abbrev pub query_of : Field → Result (Asked RpnQuery) Refusal
 query_of field =
-    if (field.tag.number == tags.type_1_query) || (field.tag.number == tags.type_101_query) then within rpn_query_in field
+    if (field.tag.number == numbers.type_1_query) || (field.tag.number == numbers.type_101_query) then within rpn_query_in field
     else Ok (Bad (other_query_type field.tag.number))
 
 -- the first element of the context class decides
 unfoldable pub query_in : Forest → Result (Asked RpnQuery) Refusal
-query_in elements = read_or (Missing tags.type_1_query) query_of (first_context elements)
+query_in elements = read_or (Missing numbers.type_1_query) query_of (first_context elements)

@@ -17,7 +17,7 @@ use Rattle.unit_forms.specs.Reading.Elements.{Field, first_element, other_elemen
 use Rattle.unit_forms.specs.Reading.Answers.{◌⊗◌, read_as, value_or}
 use Rattle.unit_forms.specs.Reading.Rows.{octets_of, oid_of, context, universal, required, required_of, optional, within, each_with}
 use Rattle.unit_forms.specs.Reading.Diagnostics.{diag_of}
-use Rattle.unit_forms.specs.Tags as tags
+use Rattle.unit_forms.specs.Tags as numbers
 
 -- whether octets are the contents of a BIT STRING, which are kept as they are
 abbrev pub kept_if : List ℕ → Option ℕ → Option (List ℕ)
@@ -35,15 +35,16 @@ is_single elements octets = single_or_none (first_element elements) (first_eleme
 
 -- X.690, 8.18: single-ASN1-type [0], octet-aligned [1], arbitrary [2]
 abbrev pub encoding_choice : List Tag
-encoding_choice = context tags.single_asn1_type ∷ context tags.octet_aligned ∷ context tags.arbitrary ∷ []
+encoding_choice = context numbers.single_asn1_type ∷ context numbers.octet_aligned ∷ context numbers.arbitrary ∷ []
 
 abbrev pub encoding_of : Field → Result (Form × List ℕ) Refusal
 encoding_of field =
-    if field.tag.number == tags.single_asn1_type
-    then read_as (λ octets. (Single, octets)) (within (λ inner. value_or (BadValue tags.single_asn1_type) (is_single inner field.contents)) field)
-    else (if field.tag.number == tags.octet_aligned then read_as (λ octets. (Octets, octets)) (octets_of field)
-    else (if field.tag.constructed then Err (LeftOut tags.arbitrary)
-    else read_as (λ octets. (Arbitrary, octets)) (value_or (BadValue tags.arbitrary) (kept_if field.contents (bits_in field.contents)))))
+    if field.tag.number == numbers.single_asn1_type
+    then read_as (λ octets. (Single, octets))
+    (within (λ inner. value_or (BadValue numbers.single_asn1_type) (is_single inner field.contents)) field)
+    else (if field.tag.number == numbers.octet_aligned then read_as (λ octets. (Octets, octets)) (octets_of field)
+    else (if field.tag.constructed then Err (LeftOut numbers.arbitrary)
+    else read_as (λ octets. (Arbitrary, octets)) (value_or (BadValue numbers.arbitrary) (kept_if field.contents (bits_in field.contents)))))
 
 abbrev as_record : List ℕ × (Form × List ℕ) → Item
 as_record p = Record p.0 p.1.0 p.1.1
@@ -51,17 +52,19 @@ as_record p = Record p.0 p.1.0 p.1.1
 -- X.690, 8.18: EXTERNAL: direct-reference, and the encoding
 unfoldable pub external_in : Forest → Result Item Refusal
 external_in fields =
-    read_as as_record (required_of 6 (universal 6 ∷ []) oid_of fields ⊗ required_of tags.single_asn1_type encoding_choice encoding_of fields)
+    read_as as_record (
+    required_of 6 (universal 6 ∷ []) oid_of fields
+    ⊗ required_of numbers.single_asn1_type encoding_choice encoding_of fields)
 
 -- retrievalRecord [1], round an EXTERNAL, or surrogateDiagnostic [2], round a diagnostic
 abbrev pub item_of : Field → Result Item Refusal
 item_of field =
-    if field.tag.number == tags.retrieval_record then within (required_of 8 (universal 8 ∷ []) (within external_in)) field
+    if field.tag.number == numbers.retrieval_record then within (required_of 8 (universal 8 ∷ []) (within external_in)) field
     else read_as Surrogate (within (required_of 16 (universal 16 ∷ []) diag_of) field)
 
 unfoldable pub item_in : Forest → Result Item Refusal
 item_in elements =
-    required_of tags.retrieval_record (context tags.retrieval_record ∷ context tags.surrogate_diagnostic ∷ []) item_of elements
+    required_of numbers.retrieval_record (context numbers.retrieval_record ∷ context numbers.surrogate_diagnostic ∷ []) item_of elements
 
 abbrev as_named : Option (List ℕ) × Item → NamedRecord
 as_named p = record { name = p.0; item = p.1 }
@@ -70,8 +73,8 @@ as_named p = record { name = p.0; item = p.1 }
 unfoldable pub named_in : Forest → Result NamedRecord Refusal
 named_in fields =
     read_as as_named (
-    optional tags.name_of_name_plus_record octets_of fields
-    ⊗ required tags.record_of_name_plus_record (within item_in) fields)
+    optional numbers.name_of_name_plus_record octets_of fields
+    ⊗ required numbers.record_of_name_plus_record (within item_in) fields)
 
 abbrev pub named_of : Field → Result NamedRecord Refusal
 named_of field = within named_in field
@@ -87,8 +90,8 @@ diags_in elements = each_with (universal 16) diag_of elements
 -- Records: responseRecords [28], nonSurrogateDiagnostic [130], multipleNonSurDiagnostics [205]
 abbrev pub body_of : Field → Result Body Refusal
 body_of field =
-    if field.tag.number == tags.response_records then read_as body.Records (within records_in field)
-    else (if field.tag.number == tags.non_surrogate_diagnostic then read_as body.Diag (diag_of field)
+    if field.tag.number == numbers.response_records then read_as body.Records (within records_in field)
+    else (if field.tag.number == numbers.non_surrogate_diagnostic then read_as body.Diag (diag_of field)
     else read_as body.Diags (within diags_in field))
 
 abbrev pub body_or_none : Option Field → Result Body Refusal
@@ -98,6 +101,6 @@ body_or_none (Some field) = body_of field
 unfoldable pub body_in : Forest → Result Body Refusal
 body_in fields =
     body_or_none (first_of (
-    context tags.response_records
-    ∷ context tags.non_surrogate_diagnostic
-    ∷ context tags.multiple_non_surrogate_diagnostics ∷ []) fields)
+    context numbers.response_records
+    ∷ context numbers.non_surrogate_diagnostic
+    ∷ context numbers.multiple_non_surrogate_diagnostics ∷ []) fields)

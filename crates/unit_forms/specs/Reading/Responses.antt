@@ -18,7 +18,7 @@ use Rattle.unit_forms.specs.Reading.Elements.{Field}
 use Rattle.unit_forms.specs.Reading.InitRequest.{init_response_in}
 use Rattle.unit_forms.specs.Reading.Records.{body_in, diags_in}
 use Rattle.unit_forms.specs.Reading.Rows.{octets_of, integer_of, number_of, truth_of, context, required, required_of, optional, within, each_with}
-use Rattle.unit_forms.specs.Tags as tags
+use Rattle.unit_forms.specs.Tags as numbers
 
 -- an InitializeResponse
 abbrev as_init_reply : Init × Bool → Reply
@@ -30,15 +30,15 @@ init_reply_in fields = read_as as_init_reply (init_response_in fields)
 -- referenceId [2] OPTIONAL, resultCount [23], numberOfRecordsReturned [24], nextResultSetPosition [25]
 unfoldable pub counts_in : Forest → Result (Option (List ℕ) × (ℕ × (ℕ × ℕ))) Refusal
 counts_in fields =
-    optional tags.reference_id octets_of fields
-    ⊗ required tags.result_count number_of fields
-    ⊗ required tags.number_of_records_returned number_of fields
-    ⊗ required tags.next_result_set_position number_of fields
+    optional numbers.reference_id octets_of fields
+    ⊗ required numbers.result_count number_of fields
+    ⊗ required numbers.number_of_records_returned number_of fields
+    ⊗ required numbers.next_result_set_position number_of fields
 
 -- searchStatus [22], presentStatus [27] OPTIONAL, records OPTIONAL
 unfoldable pub found_in : Forest → Result (Bool × (Option ℕ × Body)) Refusal
 found_in fields =
-    required tags.search_status truth_of fields ⊗ optional tags.present_status number_of fields ⊗ body_in fields
+    required numbers.search_status truth_of fields ⊗ optional numbers.present_status number_of fields ⊗ body_in fields
 
 abbrev as_search_reply : (Option (List ℕ) × (ℕ × (ℕ × ℕ))) × (Bool × (Option ℕ × Body)) → Reply
 as_search_reply p = reply.Search p.0.0 p.0.1.0 p.0.1.1.0 p.0.1.1.1 p.1.0 p.1.1.0 p.1.1.1
@@ -50,13 +50,13 @@ search_reply_in fields = read_as as_search_reply (counts_in fields ⊗ found_in 
 -- referenceId [2] OPTIONAL, numberOfRecordsReturned [24], nextResultSetPosition [25]
 unfoldable pub returned_in : Forest → Result (Option (List ℕ) × (ℕ × ℕ)) Refusal
 returned_in fields =
-    optional tags.reference_id octets_of fields
-    ⊗ required tags.number_of_records_returned number_of fields
-    ⊗ required tags.next_result_set_position number_of fields
+    optional numbers.reference_id octets_of fields
+    ⊗ required numbers.number_of_records_returned number_of fields
+    ⊗ required numbers.next_result_set_position number_of fields
 
 -- presentStatus [27], records OPTIONAL
 unfoldable pub presented_in : Forest → Result (ℕ × Body) Refusal
-presented_in fields = required tags.present_status number_of fields ⊗ body_in fields
+presented_in fields = required numbers.present_status number_of fields ⊗ body_in fields
 
 abbrev as_present_reply : (Option (List ℕ) × (ℕ × ℕ)) × (ℕ × Body) → Reply
 as_present_reply p = reply.Present p.0.0 p.0.1.0 p.0.1.1 p.1.0 p.1.1
@@ -68,9 +68,9 @@ present_reply_in fields = read_as as_present_reply (returned_in fields ⊗ prese
 -- the term of an entry; there is no diagnostic for a form that is not served, which is left out
 abbrev pub entry_term_of : Field → Result Term Refusal
 entry_term_of field =
-    if field.tag.number == tags.general_term then read_as General (octets_of field)
-    else (if field.tag.number == tags.numeric_term then read_as Number (integer_of field)
-    else (if field.tag.number == tags.character_string_term then read_as Words (octets_of field)
+    if field.tag.number == numbers.general_term then read_as General (octets_of field)
+    else (if field.tag.number == numbers.numeric_term then read_as Number (integer_of field)
+    else (if field.tag.number == numbers.character_string_term then read_as Words (octets_of field)
     else Err (LeftOut field.tag.number)))
 
 abbrev as_entry : Term × Option ℕ → ScanEntry
@@ -80,15 +80,15 @@ as_entry p = record { term = p.0; occurrences = p.1 }
 unfoldable pub entry_in : Forest → Result ScanEntry Refusal
 entry_in fields =
     read_as as_entry (
-    required_of tags.general_term term_choice entry_term_of fields
-    ⊗ optional tags.global_occurrences number_of fields)
+    required_of numbers.general_term term_choice entry_term_of fields
+    ⊗ optional numbers.global_occurrences number_of fields)
 
 abbrev pub entry_of : Field → Result ScanEntry Refusal
 entry_of field = within entry_in field
 
 -- Entry: termInfo [1]; others are skipped
 unfoldable pub entries_in : Forest → Result (List ScanEntry) Refusal
-entries_in elements = each_with (context tags.term_info) entry_of elements
+entries_in elements = each_with (context numbers.term_info) entry_of elements
 
 -- a list that may be absent is then empty
 abbrev pub or_empty : {A : Type 0} → Option (List A) → List A
@@ -106,8 +106,8 @@ as_listed p = (or_empty p.0, or_empty p.1)
 unfoldable pub listed_in : Forest → Result Listed Refusal
 listed_in fields =
     read_as as_listed (
-    optional tags.list_entries (within entries_in) fields
-    ⊗ optional tags.nonsurrogate_diagnostics (within diags_in) fields)
+    optional numbers.list_entries (within entries_in) fields
+    ⊗ optional numbers.nonsurrogate_diagnostics (within diags_in) fields)
 
 abbrev pub listed_or_nothing : Option Listed → Listed
 listed_or_nothing None = ([], [])
@@ -115,14 +115,14 @@ listed_or_nothing (Some listed) = listed
 
 -- entries [7] OPTIONAL
 unfoldable pub listing_in : Forest → Result Listed Refusal
-listing_in fields = read_as listed_or_nothing (optional tags.scan_entries (within listed_in) fields)
+listing_in fields = read_as listed_or_nothing (optional numbers.scan_entries (within listed_in) fields)
 
 -- referenceId [2] OPTIONAL, scanStatus [4], numberOfEntriesReturned [5]
 unfoldable pub scanned_in : Forest → Result (Option (List ℕ) × (ℕ × ℕ)) Refusal
 scanned_in fields =
-    optional tags.reference_id octets_of fields
-    ⊗ required tags.scan_status number_of fields
-    ⊗ required tags.number_of_entries_returned number_of fields
+    optional numbers.reference_id octets_of fields
+    ⊗ required numbers.scan_status number_of fields
+    ⊗ required numbers.number_of_entries_returned number_of fields
 
 abbrev answer_of : Option ℕ → Listed → ScanAnswer
 answer_of position listed = record { position = position; entries = listed.0 }
@@ -133,4 +133,4 @@ as_scan_reply p = reply.Scan p.0.0 p.0.1.0 (answer_of p.1.0 p.1.1) p.1.1.1
 -- ScanResponse, with positionOfTerm [6] OPTIONAL
 unfoldable pub scan_reply_in : Forest → Result Reply Refusal
 scan_reply_in fields =
-    read_as as_scan_reply (scanned_in fields ⊗ (optional tags.position_of_term number_of fields ⊗ listing_in fields))
+    read_as as_scan_reply (scanned_in fields ⊗ (optional numbers.position_of_term number_of fields ⊗ listing_in fields))

@@ -11,7 +11,7 @@ use Rattle.unit_forms.specs.Reading.Answers.{◌⊗◌, read_as, asked_as}
 use Rattle.unit_forms.specs.Reading.Attributes.{attrs_and_term_in}
 use Rattle.unit_forms.specs.Reading.Rows.{octets_of, number_of, oid_of, universal, required, optional, optional_of, within}
 use Rattle.unit_forms.specs.Reading.SearchRequest.{databases_of}
-use Rattle.unit_forms.specs.Tags as tags
+use Rattle.unit_forms.specs.Tags as numbers
 
 -- the attribute set, the attributes and the term, stepSize, numberOfTermsRequested, preferredPositionInResponse
 abbrev pub Start : Type 0
@@ -35,10 +35,10 @@ unfoldable pub ask_in : Forest → Result (Asked ScanAsk) Refusal
 ask_in fields =
     read_as as_ask (
     optional_of (universal 6 ∷ []) oid_of fields
-    ⊗ required tags.term_list_and_start_point (within attrs_and_term_in) fields
-    ⊗ optional tags.step_size number_of fields
-    ⊗ required tags.number_of_terms_requested number_of fields
-    ⊗ optional tags.preferred_position_in_response number_of fields)
+    ⊗ required numbers.term_list_and_start_point (within attrs_and_term_in) fields
+    ⊗ optional numbers.step_size number_of fields
+    ⊗ required numbers.number_of_terms_requested number_of fields
+    ⊗ optional numbers.preferred_position_in_response number_of fields)
 
 abbrev as_scan : Option (List ℕ) × (List (List ℕ) × Asked ScanAsk) → Scan
 as_scan p = record { ref_id = p.0; dbs = p.1.0; ask = p.1.1 }
@@ -47,6 +47,6 @@ as_scan p = record { ref_id = p.0; dbs = p.1.0; ask = p.1.1 }
 unfoldable pub scan_in : Forest → Result Scan Refusal
 scan_in fields =
     read_as as_scan (
-    optional tags.reference_id octets_of fields
-    ⊗ required tags.scan_database_names databases_of fields
+    optional numbers.reference_id octets_of fields
+    ⊗ required numbers.scan_database_names databases_of fields
     ⊗ ask_in fields)

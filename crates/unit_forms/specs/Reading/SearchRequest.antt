@@ -11,11 +11,11 @@ use Rattle.unit_forms.specs.Reading.Elements.{Field}
 use Rattle.unit_forms.specs.Reading.ElementNames.{names_of}
 use Rattle.unit_forms.specs.Reading.Queries.{query_in}
 use Rattle.unit_forms.specs.Reading.Rows.{octets_of, number_of, truth_of, oid_of, context, required, optional, within, each_with}
-use Rattle.unit_forms.specs.Tags as tags
+use Rattle.unit_forms.specs.Tags as numbers
 
 -- the names of databases, each a DatabaseName [105]
 unfoldable pub databases_in : Forest → Result (List (List ℕ)) Refusal
-databases_in elements = each_with (context tags.database_name) octets_of elements
+databases_in elements = each_with (context numbers.database_name) octets_of elements
 
 abbrev pub databases_of : Field → Result (List (List ℕ)) Refusal
 databases_of field = within databases_in field
@@ -39,10 +39,10 @@ Bounds = Option (List ℕ) × (ℕ × (ℕ × ℕ))
 
 unfoldable pub bounds_in : Forest → Result Bounds Refusal
 bounds_in fields =
-    optional tags.reference_id octets_of fields
-    ⊗ required tags.small_set_upper_bound number_of fields
-    ⊗ required tags.large_set_lower_bound number_of fields
-    ⊗ required tags.medium_set_present_number number_of fields
+    optional numbers.reference_id octets_of fields
+    ⊗ required numbers.small_set_upper_bound number_of fields
+    ⊗ required numbers.large_set_lower_bound number_of fields
+    ⊗ required numbers.medium_set_present_number number_of fields
 
 -- replaceIndicator [16], resultSetName [17], databaseNames [18]
 abbrev pub Named : Type 0
@@ -50,9 +50,9 @@ Named = Bool × (List ℕ × List (List ℕ))
 
 unfoldable pub named_in : Forest → Result Named Refusal
 named_in fields =
-    required tags.replace_indicator truth_of fields
-    ⊗ required tags.result_set_name octets_of fields
-    ⊗ required tags.database_names databases_of fields
+    required numbers.replace_indicator truth_of fields
+    ⊗ required numbers.result_set_name octets_of fields
+    ⊗ required numbers.database_names databases_of fields
 
 -- smallSetElementSetNames [100] OPTIONAL, mediumSetElementSetNames [101] OPTIONAL, preferredRecordSyntax [104] OPTIONAL, query [21]
 abbrev pub Wanted : Type 0
@@ -60,10 +60,10 @@ Wanted = Option (Asked (List ℕ)) × (Option (Asked (List ℕ)) × (Option (Lis
 
 unfoldable pub wanted_in : Forest → Result Wanted Refusal
 wanted_in fields =
-    optional tags.small_set_element_set_names names_of fields
-    ⊗ optional tags.medium_set_element_set_names names_of fields
-    ⊗ optional tags.preferred_record_syntax oid_of fields
-    ⊗ required tags.query (within query_in) fields
+    optional numbers.small_set_element_set_names names_of fields
+    ⊗ optional numbers.medium_set_element_set_names names_of fields
+    ⊗ optional numbers.preferred_record_syntax oid_of fields
+    ⊗ required numbers.query (within query_in) fields
 
 abbrev pub as_search : Bounds × (Named × Wanted) → Search
 as_search p = record {

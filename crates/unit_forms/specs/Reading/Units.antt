@@ -16,16 +16,16 @@ use Rattle.unit_forms.specs.Reading.Responses.{init_reply_in, search_reply_in, p
 use Rattle.unit_forms.specs.Reading.Rows.{within}
 use Rattle.unit_forms.specs.Reading.ScanRequest.{scan_in}
 use Rattle.unit_forms.specs.Reading.SearchRequest.{search_in}
-use Rattle.unit_forms.specs.Tags as tags
+use Rattle.unit_forms.specs.Tags as numbers
 
 -- initRequest [20], searchRequest [22], presentRequest [24], scanRequest [35], close [48]
 abbrev pub numbered_request : ℕ → Field → Result Request Refusal
 numbered_request number field =
-    if number == tags.init_request then read_as request.Init (within init_in field)
-    else (if number == tags.search_request then read_as request.Search (within search_in field)
-    else (if number == tags.present_request then read_as request.Present (within present_in field)
-    else (if number == tags.scan_request then read_as request.Scan (within scan_in field)
-    else (if number == tags.close then read_as request.Close (within close_in field)
+    if number == numbers.init_request then read_as request.Init (within init_in field)
+    else (if number == numbers.search_request then read_as request.Search (within search_in field)
+    else (if number == numbers.present_request then read_as request.Present (within present_in field)
+    else (if number == numbers.scan_request then read_as request.Scan (within scan_in field)
+    else (if number == numbers.close then read_as request.Close (within close_in field)
     else Err (UnknownUnit number)))))
 
 -- a unit has a tag of the context class
@@ -36,11 +36,11 @@ request_of field =
 -- initResponse [21], searchResponse [23], presentResponse [25], scanResponse [36], close [48]
 abbrev pub numbered_reply : ℕ → Field → Result Reply Refusal
 numbered_reply number field =
-    if number == tags.init_response then within init_reply_in field
-    else (if number == tags.search_response then within search_reply_in field
-    else (if number == tags.present_response then within present_reply_in field
-    else (if number == tags.scan_response then within scan_reply_in field
-    else (if number == tags.close then read_as reply.Close (within close_in field)
+    if number == numbers.init_response then within init_reply_in field
+    else (if number == numbers.search_response then within search_reply_in field
+    else (if number == numbers.present_response then within present_reply_in field
+    else (if number == numbers.scan_response then within scan_reply_in field
+    else (if number == numbers.close then read_as reply.Close (within close_in field)
     else Err (UnknownUnit number)))))
 
 unfoldable pub reply_of : Field → Result Reply Refusal
