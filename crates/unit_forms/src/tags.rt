@@ -95,6 +95,8 @@ pub const ADDITIONAL_RANGES: u32 = 212;
 // ScanRequest
 pub const SCAN_DATABASE_NAMES: u32 = 3;
 
+pub const TERM_LIST_AND_START_POINT: u32 = 102;
+
 pub const STEP_SIZE: u32 = 5;
 
 pub const NUMBER_OF_TERMS_REQUESTED: u32 = 6;
