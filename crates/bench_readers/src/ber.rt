@@ -41,6 +41,25 @@ fn count(levels: u32, mut element: Element<'_>) -> u64 {
     found
 }
 
+/// Walks through an element, with all in it down to `levels` levels, and puts the contents octets of
+/// the primitive ones behind others; answers how many elements there are.
+fn copy(levels: u32, mut element: Element<'_>, out: &mut Text) -> Result<u64, Memory> {
+    let mut found = 1u64;
+    if !element.tag().constructed {
+        out.append(element.body())?;
+    }
+    if levels == 0 {
+        return Ok(found);
+    }
+    for _ in 0..element.body().len() {
+        let Ok(Some(child)) = element.next_child() else {
+            return Ok(found);
+        };
+        found = found.saturating_add(copy(levels - 1, child, out)?);
+    }
+    Ok(found)
+}
+
 /// How many octets are equal to one.
 fn equal(octets: &[u8], wanted: u8) -> u64 {
     octets.iter().filter(|octet| **octet == wanted).count() as u64
@@ -104,6 +123,24 @@ pub(crate) fn read_whole(octets: &[u8]) -> u64 {
     match Element::first(octets) {
         Ok(element) => count(64, element),
         Err(_) => 0,
+    }
+}
+
+/// Checks a unit and walks through its elements, and answers how many they are.
+pub(crate) fn walk_unit(octets: &[u8]) -> u64 {
+    match Element::of_unit(octets) {
+        Ok(element) => count(64, element),
+        Err(_) => 0,
+    }
+}
+
+/// Checks a unit and walks through its elements, whose contents octets it copies into a text; answers
+/// how many elements they are.
+pub(crate) fn copy_unit(octets: &[u8], out: &mut Text) -> Result<u64, Memory> {
+    out.truncate(0);
+    match Element::of_unit(octets) {
+        Ok(element) => copy(64, element, out),
+        Err(_) => Ok(0),
     }
 }
 

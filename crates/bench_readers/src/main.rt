@@ -30,8 +30,7 @@ enum Sample {
     Cql(cql::Shape),
     Written(writes::Shape),
     Sru(sru::Shape),
-    Read(units::Shape),
-    Walked(units::Shape),
+    Unit(units::Shape, units::Pass),
     Located,
     Script(scripts::Shape),
 }
@@ -70,10 +69,13 @@ fn stream_named(word: &str) -> Option<frames::Shape> {
 /// What a word names.
 fn named(word: &str) -> Option<Sample> {
     if let Some(unit) = word.strip_prefix("read-") {
-        return Some(Sample::Read(unit_named(unit)?));
+        return Some(Sample::Unit(unit_named(unit)?, units::Pass::Read));
     }
     if let Some(unit) = word.strip_prefix("walk-") {
-        return Some(Sample::Walked(unit_named(unit)?));
+        return Some(Sample::Unit(unit_named(unit)?, units::Pass::Walked));
+    }
+    if let Some(unit) = word.strip_prefix("copy-") {
+        return Some(Sample::Unit(unit_named(unit)?, units::Pass::Copied));
     }
     if let Some(stream) = word.strip_prefix("frames-") {
         return Some(Sample::Frames(stream_named(stream)?));
@@ -129,8 +131,7 @@ fn read(
         Sample::Elements(shape) => elements::read(alloc, shape, size, times),
         Sample::Cql(shape) => cql::read(alloc, shape, size, times),
         Sample::Written(shape) => writes::write(alloc, shape, size, times),
-        Sample::Read(shape) => units::read(alloc, shape, false, size, times),
-        Sample::Walked(shape) => units::read(alloc, shape, true, size, times),
+        Sample::Unit(shape, pass) => units::read(alloc, shape, pass, size, times),
         Sample::Sru(shape) => sru::run(alloc, shape, size, times),
         Sample::Located => Ok(merge::locate_all(size, times)),
         Sample::Script(shape) => scripts::read(alloc, shape, size, times),

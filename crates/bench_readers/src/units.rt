@@ -32,6 +32,17 @@ pub enum Shape {
     OpenLevels,
 }
 
+/// How a unit is gone through.
+#[derive(Clone, Copy)]
+pub enum Pass {
+    /// It is read by the table of its fields.
+    Read,
+    /// All of its elements are checked, and each is lent.
+    Walked,
+    /// The same, and the contents octets of each are copied.
+    Copied,
+}
+
 /// What stands before the query of a Search.
 const BOUNDS: &[u8] = &[
     0x8d, 0x01, 0x00, 0x8e, 0x01, 0x01, 0x8f, 0x01, 0x00, 0x90, 0x01, 0xff, 0x91, 0x01, 0x31, 0xb2,
@@ -241,24 +252,25 @@ fn is_read(alloc: Global, shape: Shape, unit: &[u8]) -> bool {
     }
 }
 
-/// Reads a unit of about `size` octets `times` times, and answers its octets and how often it was
-/// read; or walks through its elements, and answers how many they were.
+/// Reads a unit of about `size` octets `times` times, or walks through its elements; answers its
+/// octets, and how often it was read, or how many elements there were.
 pub(crate) fn read(
     alloc: Global,
     shape: Shape,
-    walked: bool,
+    pass: Pass,
     size: usize,
     times: u32,
 ) -> Result<(usize, u64), Memory>
     ensures { times ≡ 0 → IfOk result (λ read. read.1 ≡ 0) }
 {
     let unit = sample(alloc, shape, size)?;
+    let mut out = Text::new(alloc);
     let mut parts = 0u64;
     for _ in 0..times {
-        let read = if walked {
-            ber::read_whole(unit.as_slice())
-        } else {
-            u64::from(is_read(alloc, shape, unit.as_slice()))
+        let read = match pass {
+            Pass::Read => u64::from(is_read(alloc, shape, unit.as_slice())),
+            Pass::Walked => ber::walk_unit(unit.as_slice()),
+            Pass::Copied => ber::copy_unit(unit.as_slice(), &mut out)?,
         };
         parts = parts.saturating_add(read);
     }
