@@ -48,7 +48,7 @@ pub fn begin_unit(
 {
     match read_unit(alloc, unit) {
         Ok(Some(request)) => begin_request(alloc, session, route, &request, at, out),
-        Ok(None) => write_bad(at, out),
+        Ok(None) => put_bad(at, out),
         Err(_) => Begun::Memory,
     }
 }
@@ -100,10 +100,10 @@ fn begin_request(
         (record { session = session.new; out = out.new }) result }
 {
     match session.admit(alloc, route, request) {
-        Admitted::Reply(reply) => write_reply(&reply, end_behind(request), out),
+        Admitted::Reply(reply) => put_plain(&reply, end_behind(request), out),
         Admitted::Work(work) => Begun::Work(work),
-        Admitted::Bad => write_bad(at, out),
-        Admitted::Limited => write_limited(request, out),
+        Admitted::Bad => put_bad(at, out),
+        Admitted::Limited => put_limited(request, out),
         Admitted::Memory => Begun::Memory,
     }
 }
@@ -119,14 +119,14 @@ fn end_behind(request: &Request) -> Option<End>
 }
 
 /// Writes a reply under the mark Plain.
-fn write_reply(reply: &Reply, end: Option<End>, out: &mut Text) -> Begun
+fn put_plain(reply: &Reply, end: Option<End>, out: &mut Text) -> Begun
     ensures { IsWritten reply.now (Some Plain) end out.old out.new result }
 {
     written(put_reply(out, reply), Some(Mark::Plain), end)
 }
 
 /// Writes the answer to a unit that is bad.
-fn write_bad(at: u64, out: &mut Text) -> Begun
+fn put_bad(at: u64, out: &mut Text) -> Begun
     ensures { IsWritten bad_unit_reply None (Some (Malformed at)) out.old out.new result }
 {
     let reply = close(None, PROTOCOL_ERROR);
@@ -134,7 +134,7 @@ fn write_bad(at: u64, out: &mut Text) -> Begun
 }
 
 /// Writes the answer to a unit beyond the last that the connection may send.
-fn write_limited(request: &Request, out: &mut Text) -> Begun
+fn put_limited(request: &Request, out: &mut Text) -> Begun
     ensures { IsWritten (limit_reply request.now) None (Some Limited) out.old out.new result }
 {
     let Ok(ref_id) = copy(ref_id_of(request)) else {

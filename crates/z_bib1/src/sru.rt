@@ -1,11 +1,11 @@
 //! Conditions of bib-1 as diagnostics of SRU.
 
-ghost use Rattle.std.specs.Prelude.{◌≡◌, ◌≢◌};
-ghost use Rattle.z_types.specs.Bib1.{bib1_diagnostics};
+ghost use Rattle.std.specs.Prelude.{◌≡◌, ◌≢◌, nat_eq};
+ghost use Rattle.z_types.specs.Bib1.{bib1_diagnostics, number_of};
 ghost use Rattle.z_bib1.specs.SruDiagnostics.{sru_of, sru_text};
 
 use crate::sets::is_of_bib1;
-use z_types::Diag;
+use z_types::{Condition, Diag};
 
 /// The diagnostic of SRU that a condition of bib-1 is told as, a general system error where it has
 /// none of its own (SRU 1.2, the list of diagnostics). Conditions of other sets are general system
@@ -13,16 +13,32 @@ use z_types::Diag;
 pub fn sru_of(condition: u32) -> u32
     ensures { result ≡ sru_of condition }
 {
-    match condition {
-        2 | 109 => 2,
-        13 => 61,
-        25 => 66,
-        108 => 10,
-        110 => 37,
-        114 => 16,
-        239 => 67,
-        _ => 1,
+    if is(condition, Condition::TemporarySystemError)
+        || is(condition, Condition::DatabaseUnavailable)
+    {
+        2
+    } else if is(condition, Condition::PresentRequestOutOfRange) {
+        61
+    } else if is(condition, Condition::ElementSetNameNotValid) {
+        66
+    } else if is(condition, Condition::MalformedQuery) {
+        10
+    } else if is(condition, Condition::OperatorUnsupported) {
+        37
+    } else if is(condition, Condition::UnsupportedUseAttribute) {
+        16
+    } else if is(condition, Condition::RecordSyntaxNotSupported) {
+        67
+    } else {
+        1
     }
+}
+
+/// Whether the number of a condition is that of a known one.
+fn is(condition: u32, known: Condition) -> bool
+    ensures { result ≡ nat_eq condition (number_of known) }
+{
+    condition == known.number()
 }
 
 /// The diagnostic of SRU that a diagnostic is told as: by its condition where it is of bib-1, and a

@@ -5,14 +5,14 @@ use Rattle.front_z.proofs.units.begin_request.Goals as goal
 pub returns-in-Reply : goal.returns-in-Reply
 returns-in-Reply c =
     begun-reply c.args.request.now c.args.route.now c.args.at _ _ _ _ _ _ c.in-Reply.ensures
-    (rw (sym c.end_behind.ensures) c.write_reply.ensures)
+    (rw (sym c.end_behind.ensures) c.put_plain.ensures)
 
 pub returns-in-Work : goal.returns-in-Work
 returns-in-Work c = begun-work c.args.request.now c.args.route.now c.args.at _ _ _ _ c.in-Work.ensures
 
 pub returns-in-Bad : goal.returns-in-Bad
-returns-in-Bad c = begun-bad c.args.request.now c.args.route.now c.args.at _ _ _ _ _ c.in-Bad.ensures c.write_bad.ensures
+returns-in-Bad c = begun-bad c.args.request.now c.args.route.now c.args.at _ _ _ _ _ c.in-Bad.ensures c.put_bad.ensures
 
 pub returns-in-Limited : goal.returns-in-Limited
 returns-in-Limited c =
-    begun-limited c.args.request.now c.args.route.now c.args.at _ _ _ _ _ c.in-Limited.ensures c.write_limited.ensures
+    begun-limited c.args.request.now c.args.route.now c.args.at _ _ _ _ _ c.in-Limited.ensures c.put_limited.ensures
