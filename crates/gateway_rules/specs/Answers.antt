@@ -10,7 +10,7 @@ use Rattle.z_types.specs.declared.marks.End.TheVariants.{Finished, Malformed, Cu
 use Rattle.z_types.specs.declared.world.World as world
 use Rattle.z_ber.specs.Frames.{IsFrame}
 use Rattle.z_ber.specs.Element.{Forest}
-use Rattle.z_ber.specs.Header.{Begins, Opens}
+use Rattle.z_ber.specs.Header.{IsBadFor, IsOpenFor}
 use Rattle.z_ber.specs.Place.{IsUnit}
 use Rattle.unit_forms.specs.Reading.Units.{request_in}
 use Rattle.unit_forms.specs.Replies.{spell_reply}
@@ -36,11 +36,11 @@ IsReceived unit = IsFrame unit.octets × IsReading unit.octets unit.request
 
 -- no unit is whole, and some continuation of the octets begins with one
 abbrev pub IsOpen : List ℕ → Type 0
-IsOpen rest = ¬ Begins IsFrame rest × Opens IsFrame rest
+IsOpen rest = IsOpenFor IsFrame rest
 
 -- no continuation of the octets begins with a unit
 abbrev pub IsBad : List ℕ → Type 0
-IsBad rest = ¬ Opens IsFrame rest
+IsBad rest = IsBadFor IsFrame rest
 
 -- what the octets behind the last unit, from this offset on, lead to: the input ends between two units, inside one, or
 -- with octets that begin none
