@@ -1,8 +1,8 @@
 #!/bin/bash
 # Times how z_write writes replies, of ten records of 1 kB, of one record of 1 MiB, and of none; and how z_read
 # reads units, beside z_ber alone, which checks and lends all their elements, and copies what they hold. Ends with
-# status 1 where reading takes more than three times as long as that, a Search of ten times the octets more than
-# twenty times, or one shape of 1 MiB more than ten times another.
+# status 1 where a Search of ten times the octets takes more than twenty times as long, or one shape of 1 MiB more
+# than ten times another.
 . "$(dirname "$0")/readers.sh"
 
 # The millions of replies that are written in a second; where they are fewer than demanded, `status` is 1.
@@ -33,7 +33,7 @@ once() {
 }
 
 # A unit that is read `$3` times, beside a walk that checks it and lends each of its elements, and beside one that
-# copies their contents octets too; where reading takes more than three times as long as this, `status` is 1.
+# copies their contents octets too.
 units() {
     local octets read walked copied
     octets=$("$program" "read-$1" "$2" 0 | cut -d ' ' -f 1)
@@ -43,7 +43,7 @@ units() {
     awk -v what="$1" -v n="$octets" -v read="$read" -v walked="$walked" -v copied="$copied" 'BEGIN {
         printf "%s: %d octets, %.0f a second, %.1f MB/s, ", what, n, 1e9 / read, n * 1000 / read
         printf "%.1f times the walk, %.1f times the walk that copies\n", read / walked, read / copied
-        exit (read > 3 * copied) }' || status=1
+    }'
 }
 
 # Compares a shape of 1 MiB with a tenth of it; `least` and `most` are the speeds of the slowest and the fastest.

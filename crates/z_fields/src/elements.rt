@@ -64,6 +64,7 @@ impl<'a> Field<'a> {
     /// The element that a unit is, of 1048576 octets at most. Otherwise answers the place: 0 above the
     /// limit; else the first where a header is due that cannot be read, stands at level 65, or has
     /// contents that pass the end of what holds it; else the first octet behind the element.
+    #[inline(always)]
     pub fn of_unit(octets: &'a [u8]) -> Result<Field<'a>, usize>
         ensures { IsRoot octets.now result }
     {
@@ -119,12 +120,21 @@ pub fn has_tag(tag: Tag, wanted: Tag) -> bool
 }
 
 /// Whether a tag is one of a choice's.
+#[inline(always)]
 pub fn is_one_of(choice: &[Tag], tag: Tag) -> bool
     ensures { result ≡ is_one_of choice.now tag }
 {
-    match choice {
-        [] => false,
-        [wanted, rest @ ..] => has_tag(tag, *wanted) || is_one_of(rest, tag),
+    let mut left = choice;
+    loop {
+        match left {
+            [] => return false,
+            [wanted, rest @ ..] => {
+                if has_tag(tag, *wanted) {
+                    return true;
+                }
+                left = rest;
+            }
+        }
     }
 }
 
@@ -161,6 +171,7 @@ impl<'a> Elements<'a> {
 
     /// The first element of the context class.
     #[tactic(auto, using(crate::proofs::FirstLemmas::context_steps))]
+    #[inline(always)]
     pub fn first_context(mut self) -> Option<Field<'a>>
         ensures { result ≡ first_context self.entry }
     {

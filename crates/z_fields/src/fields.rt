@@ -34,6 +34,7 @@ impl<'a> Model for Fields<'a> {
 }
 
 /// The first of these fields whose tag is one of a choice's.
+#[inline(always)]
 fn first_kept<'a>(kept: &[Field<'a>], choice: &[Tag]) -> Option<Field<'a>>
     ensures { result ≡ first_kept choice.now kept.now }
 {
@@ -52,26 +53,45 @@ fn first_kept<'a>(kept: &[Field<'a>], choice: &[Tag]) -> Option<Field<'a>>
 }
 
 /// Whether each tag of a choice is wanted.
+#[inline(always)]
 fn are_wanted(wanted: &[Tag], choice: &[Tag]) -> bool
     ensures { result ≡ are_wanted wanted.now choice.now }
 {
-    match choice {
-        [] => true,
-        [tag, rest @ ..] => is_one_of(wanted, *tag) && are_wanted(wanted, rest),
+    let mut left = choice;
+    loop {
+        match left {
+            [] => return true,
+            [tag, rest @ ..] => {
+                if !is_one_of(wanted, *tag) {
+                    return false;
+                }
+                left = rest;
+            }
+        }
     }
 }
 
 /// Whether a field of this tag is kept.
+#[inline(always)]
 fn is_kept(kept: &[Field<'_>], tag: Tag) -> bool
     ensures { result ≡ is_kept tag kept.now }
 {
-    match kept {
-        [] => false,
-        [field, rest @ ..] => has_tag(field.tag(), tag) || is_kept(rest, tag),
+    let mut left = kept;
+    loop {
+        match left {
+            [] => return false,
+            [field, rest @ ..] => {
+                if has_tag(field.tag(), tag) {
+                    return true;
+                }
+                left = rest;
+            }
+        }
     }
 }
 
 /// Keeps a field where its tag is wanted and none of that tag is kept.
+#[inline(always)]
 fn keep<'a>(kept: &mut Vec<Field<'a>>, field: Field<'a>, wanted: &[Tag]) -> Result<(), Memory>
     ensures { OnOk result (kept.new.items ≡ with_kept wanted.now kept.old.items field.entry) }
 {
@@ -83,6 +103,7 @@ fn keep<'a>(kept: &mut Vec<Field<'a>>, field: Field<'a>, wanted: &[Tag]) -> Resu
 
 /// The first element of each wanted tag.
 #[tactic(auto, using(crate::proofs::KeptLemmas::kept_steps))]
+#[inline(always)]
 fn firsts<'a>(
     alloc: Global,
     mut elements: Elements<'a>,
@@ -114,6 +135,7 @@ impl<'a> Fields<'a> {
     }
 
     /// The fields of an element, those with wanted tags found at once.
+    #[inline(always)]
     pub fn keeping(
         alloc: Global,
         field: &Field<'a>,
@@ -142,6 +164,7 @@ impl<'a> Fields<'a> {
     }
 
     /// The elements, from the first on.
+    #[inline(always)]
     pub fn elements(&self) -> Elements<'a>
         ensures { result ≡ self.now }
     {

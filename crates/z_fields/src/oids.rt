@@ -6,6 +6,9 @@ ghost use Rattle.unit_forms.specs.Reading.Contents.{arcs_of, greatest_arc, arcs_
 use std::alloc::Global;
 use z_types::{Memory, Oid};
 
+/// The most numbers of an object identifier.
+const MOST_ARCS: usize = 32;
+
 /// The greatest number that may stand in a place: the first two numbers stand as one.
 fn greatest_arc(first: bool) -> u64
     ensures value { result ≡ greatest_arc first }
@@ -33,7 +36,7 @@ fn put_arcs(arcs: &mut Vec<u32>, first: bool, number: u64) -> Result<(), Memory>
 fn arcs_in(alloc: Global, octets: &[u8]) -> Result<Option<Vec<u32>>, Memory>
     ensures { IfOk result (λ arcs. option_map (λ v. v.items) arcs ≡ arcs_after true 0 octets.now) }
 {
-    let mut arcs = Vec::new(alloc);
+    let mut arcs = Vec::with_capacity(alloc, octets.len().saturating_add(1).min(MOST_ARCS))?;
     let mut first = true;
     let mut high: u64 = 0;
     let mut left = octets;

@@ -38,6 +38,7 @@ pub fn universal(number: u32) -> Tag
 }
 
 /// A string, in primitive form alone.
+#[inline(always)]
 pub fn octets_of(alloc: Global, field: &Field<'_>) -> Result<Result<Text, Refusal>, Memory>
     ensures { IfOk result (λ read. read ≡ octets_in_field field.now) }
 {
@@ -49,6 +50,7 @@ pub fn octets_of(alloc: Global, field: &Field<'_>) -> Result<Result<Text, Refusa
 }
 
 /// A BIT STRING, in primitive form alone.
+#[inline(always)]
 pub fn bits_of(field: &Field<'_>) -> Result<u32, Refusal>
     ensures { result ≡ bits_in_field field.now }
 {
@@ -63,6 +65,7 @@ pub fn bits_of(field: &Field<'_>) -> Result<u32, Refusal>
 }
 
 /// A BOOLEAN.
+#[inline(always)]
 pub fn flag_of(field: &Field<'_>) -> Result<bool, Refusal>
     ensures { result ≡ truth_in_field field.now }
 {
@@ -77,6 +80,7 @@ pub fn flag_of(field: &Field<'_>) -> Result<bool, Refusal>
 }
 
 /// An INTEGER of up to 8 octets.
+#[inline(always)]
 pub fn integer_of(field: &Field<'_>) -> Result<i64, Refusal>
     ensures { result ≡ integer_in_field field.now }
 {
@@ -91,6 +95,7 @@ pub fn integer_of(field: &Field<'_>) -> Result<i64, Refusal>
 }
 
 /// An INTEGER from 0 to 2147483647.
+#[inline(always)]
 pub fn number_of(field: &Field<'_>) -> Result<u32, Refusal>
     ensures { result ≡ number_in_field field.now }
 {
@@ -105,6 +110,7 @@ pub fn number_of(field: &Field<'_>) -> Result<u32, Refusal>
 }
 
 /// An OBJECT IDENTIFIER.
+#[inline(always)]
 pub fn oid_of(alloc: Global, field: &Field<'_>) -> Result<Result<Oid, Refusal>, Memory>
     ensures { IfOk result (λ read. read ≡ oid_in_field field.now) }
 {
@@ -119,6 +125,7 @@ pub fn oid_of(alloc: Global, field: &Field<'_>) -> Result<Result<Oid, Refusal>, 
 }
 
 /// The string of this number, which has to be there.
+#[inline(always)]
 pub fn required_octets(
     alloc: Global,
     fields: &Fields<'_>,
@@ -133,6 +140,7 @@ pub fn required_octets(
 }
 
 /// The string of this number, where it is there.
+#[inline(always)]
 pub fn optional_octets(
     alloc: Global,
     fields: &Fields<'_>,
@@ -150,6 +158,7 @@ pub fn optional_octets(
 }
 
 /// The OBJECT IDENTIFIER with one of these tags, where it is there.
+#[inline(always)]
 pub fn optional_oid(
     alloc: Global,
     fields: &Fields<'_>,
@@ -167,6 +176,7 @@ pub fn optional_oid(
 }
 
 /// The OBJECT IDENTIFIER with the universal tag, which has to be there.
+#[inline(always)]
 pub fn required_oid(alloc: Global, fields: &Fields<'_>) -> Result<Result<Oid, Refusal>, Memory>
     ensures { IfOk result (λ read. read
         ≡ required_of 6 (universal_tag 6 ∷ []) oid_in_field fields.now) }
@@ -178,6 +188,7 @@ pub fn required_oid(alloc: Global, fields: &Fields<'_>) -> Result<Result<Oid, Re
 }
 
 /// The bits of this number, which have to be there.
+#[inline(always)]
 pub fn required_bits(fields: &Fields<'_>, number: u32) -> Result<u32, Refusal>
     ensures { result ≡ required number bits_in_field fields.now }
 {
@@ -188,6 +199,7 @@ pub fn required_bits(fields: &Fields<'_>, number: u32) -> Result<u32, Refusal>
 }
 
 /// The truth value of this number, which has to be there.
+#[inline(always)]
 pub fn required_flag(fields: &Fields<'_>, number: u32) -> Result<bool, Refusal>
     ensures { result ≡ required number truth_in_field fields.now }
 {
@@ -198,6 +210,7 @@ pub fn required_flag(fields: &Fields<'_>, number: u32) -> Result<bool, Refusal>
 }
 
 /// The INTEGER of this number, which has to be there.
+#[inline(always)]
 pub fn required_integer(fields: &Fields<'_>, number: u32) -> Result<i64, Refusal>
     ensures { result ≡ required number integer_in_field fields.now }
 {
@@ -208,6 +221,7 @@ pub fn required_integer(fields: &Fields<'_>, number: u32) -> Result<i64, Refusal
 }
 
 /// The number of this tag, which has to be there.
+#[inline(always)]
 pub fn required_number(fields: &Fields<'_>, number: u32) -> Result<u32, Refusal>
     ensures { result ≡ required number number_in_field fields.now }
 {
@@ -218,6 +232,7 @@ pub fn required_number(fields: &Fields<'_>, number: u32) -> Result<u32, Refusal>
 }
 
 /// The number of this tag, where it is there.
+#[inline(always)]
 pub fn optional_number(fields: &Fields<'_>, number: u32) -> Result<Option<u32>, Refusal>
     ensures { result ≡ optional number number_in_field fields.now }
 {

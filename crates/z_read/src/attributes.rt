@@ -1,9 +1,10 @@
 //! Attributes and terms (ANSI/NISO Z39.50-2003, AttributesPlusTerm, AttributeElement, Term).
 
-ghost use Rattle.std.specs.Prelude.{◌≡◌, true, IfOk};
+ghost use Rattle.std.specs.Prelude.{◌≡◌, ◌∷◌, true, IfOk};
 ghost use Rattle.unit_forms.specs.Tags as numbers;
 ghost use Rattle.unit_forms.specs.Reading.Answers.{read_as, each, all_asked};
-ghost use Rattle.unit_forms.specs.Reading.Rows.{required, required_of};
+ghost use Rattle.unit_forms.specs.Reading.Elements.{first_of};
+ghost use Rattle.unit_forms.specs.Reading.Rows.{context as context_tag, required, required_of};
 ghost use Rattle.unit_forms.specs.Reading.Attributes.{value_of, value_choice, attr_in, attr_of, attrs_of, term_of, term_choice, is_attributes_first, operand_asked, attrs_and_term_in};
 ghost use Rattle.z_read.specs.Parts.{put_asked, asked_behind};
 
@@ -196,23 +197,27 @@ fn required_term(alloc: Global, fields: &Fields<'_>) -> Result<Result<Asked<Term
     }
 }
 
-/// Whether attributes stand before a term, where one of the two is there.
-fn is_attributes_first(found: Option<Field<'_>>) -> bool
-    ensures { result ≡ is_attributes_first found.entry }
+/// Whether attributes stand before a term among these fields, where one of the two is there.
+fn are_attributes_first(fields: &Fields<'_>) -> bool
+    ensures { result ≡ is_attributes_first
+        (first_of (context_tag numbers.attribute_list ∷ term_choice) fields.now) }
 {
-    match found {
+    let [general, numeric, words, a, b, c, d, e] = term_choice();
+    let list = context(tags::ATTRIBUTE_LIST);
+    match fields.first_of(&[list, general, numeric, words, a, b, c, d, e]) {
         Some(field) => field.tag().number == tags::ATTRIBUTE_LIST,
         None => true,
     }
 }
 
-/// Attributes and a term, or the first from the left that is not served.
+/// Attributes and a term of these fields, or the first from the left that is not served.
 fn operand_asked(
-    attributes_first: bool,
+    fields: &Fields<'_>,
     attrs: Asked<List<Attr>>,
     term: Asked<Term>,
 ) -> Asked<(List<Attr>, Term)>
-    ensures { result ≡ operand_asked attributes_first (attrs, term) }
+    ensures { result ≡ operand_asked (is_attributes_first
+        (first_of (context_tag numbers.attribute_list ∷ term_choice) fields.now)) (attrs, term) }
 {
     match attrs {
         Asked::Good(attrs) => match term {
@@ -222,7 +227,7 @@ fn operand_asked(
         Asked::Bad(diag) => match term {
             Asked::Good(_) => Asked::Bad(diag),
             Asked::Bad(other) => {
-                if attributes_first {
+                if are_attributes_first(fields) {
                     Asked::Bad(diag)
                 } else {
                     Asked::Bad(other)
@@ -240,14 +245,10 @@ pub fn attrs_and_term_in(
 ) -> Result<Result<Asked<(List<Attr>, Term)>, Refusal>, Memory>
     ensures { IfOk result (λ read. read ≡ attrs_and_term_in fields.now) }
 {
-    let [general, numeric, words, a, b, c, d, e] = term_choice();
-    let list = context(tags::ATTRIBUTE_LIST);
-    let choice = [list, general, numeric, words, a, b, c, d, e];
-    let attributes_first = is_attributes_first(fields.first_of(&choice));
     let attrs = required_attrs(alloc, fields)?;
     let term = required_term(alloc, fields)?;
     match both(attrs, term) {
-        Ok((attrs, term)) => Ok(Ok(operand_asked(attributes_first, attrs, term))),
+        Ok((attrs, term)) => Ok(Ok(operand_asked(fields, attrs, term))),
         Err(refusal) => Ok(Err(refusal)),
     }
 }
