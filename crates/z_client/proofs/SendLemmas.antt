@@ -1,0 +1,80 @@
+-- A true peer that takes what is sent to it (this project's own)
+use Rattle.std.proofs.Common.{true, false, ◌≡◌, ◌∙◌, ℕ, List, [], ◌∷◌, ◌++◌, Option, None, Some, sym, ap, subst}
+use Rattle.z_types.specs.Pending.{Pending, IsPending, resting, opening, asked, broken}
+use Rattle.z_types.specs.declared.address.Address.{Address}
+use Rattle.z_types.specs.declared.ask.Ask.{Ask}
+use Rattle.z_types.specs.declared.world.World as world
+use Rattle.z_types.specs.declared.ask.Ask.TheVariants.{Search, Present, Scan}
+use Rattle.z_types.specs.Tree.{Tree, leaf, operand, and, or, and_not}
+use Rattle.gw_outside.specs.Asks.{MayAsk, HasNoSet}
+use Rattle.gw_outside.specs.Peers.{Peer, new_peer, TakesRequest, IsShortRequest, HasShortOperands}
+use Rattle.gw_outside.specs.Sessions.{Made}
+use Rattle.gw_outside.specs.Wires.{IsNewPeer, IsRequestUnit, PeerTakes}
+use Rattle.z_client.specs.Sets.{made_in}
+use Rattle.z_client.specs.TrueSession.{IsTruePeer, IsToldTrue}
+use Rattle.z_client.specs.Units.{init_request, request_of, IsAskUnit}
+use Rattle.z_client.proofs.TrueAsks.{asks_true}
+
+-- a session that waits for a reply is not broken
+pub waits_unbroken : (p : Pending) → IsPending p → p ≡ broken → ⊥
+waits_unbroken resting is e = is
+waits_unbroken opening is e = cc
+waits_unbroken (asked ask) is e = cc
+waits_unbroken broken is e = is
+
+-- one that rests is not broken
+pub rests_unbroken : (p : Pending) → p ≡ resting → p ≡ broken → ⊥
+rests_unbroken p is e = let no_way : resting ≡ broken = sym is ∙ e in cc
+
+module _ {W : Type 0} (w : world.Ghosts W) (address : Address) where
+  -- a new peer that takes an Init owes a true reply to it
+  new_takes : (old new : Peer) → old ≡ new_peer address → TakesRequest w init_request old new → IsTruePeer w address (made_in []) opening new
+  new_takes old new fresh takes = record {
+    same_address = takes.address ∙ ap (λ (peer : Peer). peer.address) fresh;
+    sets = record {
+      hits = λ name key hits m. absurd cc;
+      holds = λ name key hits apart m. absurd cc;
+      searched = tt;
+    };
+    owed = (takes.answer, takes.owed ∙ ap (λ (peer : Peer). peer.owed ++ takes.answer ∷ []) fresh, λ heard e. tt);
+  }
+
+  pub told_opens : (unit : List ℕ) (old new : Option Peer) → w.told address → IsNewPeer (w.told address) address old → PeerTakes w unit old new
+      → IsRequestUnit unit init_request → IsToldTrue w address (made_in []) opening new
+  told_opens unit None new told fresh takes is = let no_way : false ≡ true = fresh.where_told told in absurd cc
+  told_opens unit (Some old) None told fresh takes is = absurd takes
+  told_opens unit (Some old) (Some new) told fresh takes is = new_takes old new fresh.new (takes init_request is tt)
+
+  pub told_asks : (made : Made) (ask : Ask) (unit : List ℕ) (old new : Option Peer) → IsToldTrue w address made resting old → MayAsk made ask
+      → PeerTakes w unit old new → IsRequestUnit unit (request_of ask) → IsShortRequest (request_of ask) → IsToldTrue w address made (asked ask) new
+  told_asks made ask unit None new t may takes is short = absurd t
+  told_asks made ask unit (Some old) None t may takes is short = absurd takes
+  told_asks made ask unit (Some old) (Some new) t may takes is short = asks_true w address made ask old new t may (takes (request_of ask) is short)
+
+-- a query without sets has no names of sets that are long
+no_long_operand : (tree : Tree) → HasNoSet tree → HasShortOperands tree
+no_long_operand (leaf attrs term) h = tt
+no_long_operand (operand name) h = absurd h
+no_long_operand (and l r) h = (no_long_operand l h.0, no_long_operand r h.1)
+no_long_operand (or l r) h = (no_long_operand l h.0, no_long_operand r h.1)
+no_long_operand (and_not l r) h = (no_long_operand l h.0, no_long_operand r h.1)
+
+-- what may be asked is a request whose texts are short
+pub may_short : (made : Made) (ask : Ask) → MayAsk made ask → IsShortRequest (request_of ask)
+may_short made (Search name key) may = record {
+  ref_id = tt;
+  name = may.short;
+  dbs = may.databases.each;
+  small_element = tt;
+  medium_element = tt;
+  query = no_long_operand key.query.root may.no_set;
+}
+may_short made (Present name first count syntax element) may = (tt, may.short, may.short_element)
+may_short made (Scan dbs ask) may = (tt, may.databases.each)
+
+-- the unit of an ask is that of one's own copy of it
+pub copied_unit : (made : Made) (ask own : Ask) (octets : List ℕ) → own ≡ ask → IsAskUnit ask octets → MayAsk made ask → IsRequestUnit octets (request_of own)
+copied_unit made ask own octets e unit may = subst (λ other. IsRequestUnit octets (request_of other)) (sym e) (unit made may)
+
+-- what a session that is asked needs
+pub ruleset asking = (rests_unbroken, may_short, copied_unit)

@@ -1,0 +1,56 @@
+-- What a look at a session hears, and what has arrived when it does (this project's own)
+use Rattle.std.specs.Prelude.{◌≡◌, ℕ, false, List, [], take, drop, Option, None, Some, Result, Ok, Err}
+use Rattle.z_types.specs.Pending.{Pending, resting}
+use Rattle.z_types.specs.declared.address.Address.{Address}
+use Rattle.z_types.specs.declared.replies.Reply.{Reply}
+use Rattle.z_types.specs.declared.world.World as world
+use Rattle.gw_outside.specs.declared.backends.Heard.{Heard}
+use Rattle.gw_outside.specs.declared.backends.Heard.TheVariants.{Failed}
+use Rattle.gw_outside.specs.declared.wires.Linked as linked
+use Rattle.gw_outside.specs.Peers.{Peer}
+use Rattle.gw_outside.specs.Sessions.{Made, Fits, pending_after, is_not_yet}
+use Rattle.gw_outside.specs.Wires.{IsReplyUnit}
+use Rattle.z_read.specs.Read.{IsReplyRead}
+use Rattle.z_read.specs.declared.fault.ReadFault.{ReadFault}
+use Rattle.z_read.specs.declared.fault.ReadFault.TheVariants.{Ber, UnknownUnit, Missing, BadValue, LeftOut, Memory}
+use Rattle.z_client.specs.declared.session.Parts.{Parts}
+use Rattle.z_client.specs.Heard.{heard_of}
+use Rattle.z_client.specs.Sets.{made_in}
+use Rattle.z_client.specs.TrueSession.{HasCome}
+
+-- what is heard of a unit by what is pending: of the reply that it is; nothing where it is no reply to that
+abbrev pub IsHeardIn : Pending → List ℕ → Option Heard → Type 0
+IsHeardIn p unit (Some heard) = (reply : Reply) × IsReplyRead unit (Ok reply) × (heard_of p reply ≡ Some heard)
+IsHeardIn p unit None = (reply : Reply) → IsReplyUnit unit reply → heard_of p reply ≡ None
+
+-- nothing is heard of a unit that is refused
+abbrev pub IsUnheard : ReadFault → Option Heard → Type 0
+IsUnheard Memory heard = ⊥
+IsUnheard (Ber at) heard = heard ≡ None
+IsUnheard (UnknownUnit n) heard = heard ≡ None
+IsUnheard (Missing n) heard = heard ≡ None
+IsUnheard (BadValue n) heard = heard ≡ None
+IsUnheard (LeftOut n) heard = heard ≡ None
+
+-- an answer after which a session rests
+pub record EndsWait (p : Pending) (heard : Heard) : Type 0 where
+  pub fits : Fits p heard
+  pub rests : pending_after p heard ≡ resting
+  pub come : is_not_yet heard ≡ false
+
+-- what a look answers: a breach is a failure
+abbrev pub answer_of : Result Heard (List ℕ) → Heard
+answer_of (Ok heard) = heard
+answer_of (Err octets) = Failed
+
+module _ {W : Type 0} (w : world.Ghosts W) (address : Address) where
+  -- a peer is told, whose reply has come
+  abbrev pub IsToldCome : Made → Pending → Option Peer → List ℕ → Type 0
+  IsToldCome made p None octets = ⊥
+  IsToldCome made p (Some peer) octets = HasCome w address made p peer octets
+
+module _ {W L : Type 0} (w : world.Ghosts W) (l : linked.Ghosts L) where
+  -- where the address is told, the reply to what is pending has come as the first octets, and nothing more
+  pub record HasArrived (s : Parts L) (p : Pending) (size : ℕ) : Type 0 where
+    pub come : w.told s.address → IsToldCome w s.address (made_in s.made.items) p (l.peer s.link) (take size (l.arrived s.link))
+    pub all : w.told s.address → drop size (l.arrived s.link) ≡ []
