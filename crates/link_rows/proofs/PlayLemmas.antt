@@ -1,15 +1,15 @@
 -- What may be asked of a session that is played, and what it has after an answer (this project's own)
-use Rattle.std.proofs.Common.{◌≡◌, ◌∙◌, ℕ, ◌≤◌, List, [], ◌∷◌, ◌++◌, length, Option, None, Some, refl, sym, ap, subst, arith}
-use Rattle.z_types.specs.Pending.{Pending, IsPending, opening, asked}
+use Rattle.std.proofs.Common.{◌≡◌, ◌∙◌, ℕ, List, Option, None, Some, sym, subst, arith}
+use Rattle.z_types.specs.Pending.{Pending, IsPending, asked}
 use Rattle.z_types.specs.declared.ask.Ask.{Ask}
 use Rattle.z_types.specs.declared.ask.Ask.TheVariants.{Search, Present, Scan}
 use Rattle.z_types.specs.declared.key.SetKey.{SetKey}
 use Rattle.z_types.specs.declared.sitting.Sitting as sitting
-use Rattle.gw_outside.specs.Asks.{MayAsk, MayPresent}
+use Rattle.gw_outside.specs.Asks.{MayAsk}
 use Rattle.gw_outside.specs.Sessions.{Made, made_after, pending_after}
 use Rattle.gw_outside.specs.declared.backends.Heard.{Heard}
 use Rattle.gw_outside.specs.declared.backends.Heard.TheVariants.{Opened, Hits, Refused, Items, Gone, Scanned, NotYet, Failed, Memory}
-use Rattle.link_rows.specs.Stories.{set_name, IsWithin, MayTell, HasHits, IsOwn, IsStage, hits_after, stage_after, awaited}
+use Rattle.link_rows.specs.Stories.{set_name, MayTell, HasHits, IsOwn, IsStage, hits_after, stage_after, awaited}
 
 -- ---- what may be asked
 
@@ -17,29 +17,7 @@ use Rattle.link_rows.specs.Stories.{set_name, IsWithin, MayTell, HasHits, IsOwn,
 pub no_hits : (made : Made) → HasHits made 0
 no_hits made some = absurd (omega (arith, some))
 
--- what may be asked of few records may be of more
-pub tell_more : (ask : Ask) (few hits : ℕ) → few ≤ hits → MayTell few ask → MayTell hits ask
-tell_more (Search name key) few hits le h = h
-tell_more (Present name first count syntax element) few hits le h = (
-  h.0,
-  record {
-    from_one = h.1.from_one;
-    some = h.1.some;
-    within = omega (arith, le, h.1.within);
-    first_number = h.1.first_number;
-    count_number = h.1.count_number;
-  },
-  h.2,
-)
-tell_more (Scan dbs ask) few hits le h = h
-
--- a search that may be asked is for the set
-pub own_ask : (ask : Ask) (hits : ℕ) → MayTell hits ask → IsOwn (Some ask)
-own_ask (Search name key) hits h = h.0
-own_ask (Present name first count syntax element) hits h = tt
-own_ask (Scan dbs ask) hits h = tt
-
--- a session whose set has so many records may be asked
+-- a session whose set has `hits` records may be asked
 pub may_ask : (made : Made) (ask : Ask) (hits : ℕ) → HasHits made hits → MayTell hits ask → MayAsk made ask
 may_ask made (Search name key) hits has h = rw h.0 h.1
 may_ask made (Present name first count syntax element) hits has h =

@@ -23,7 +23,7 @@ pub record IsOneAttribute (attrs : List Attr) : Type 0 where
   pub one : length attrs ≡ 1
   pub numbers : AllByRecursion HasNumbers attrs
 
--- some of so many records
+-- some of `hits` records
 pub record IsWithin (hits first count : ℕ) : Type 0 where
   pub from_one : 1 ≤ first
   pub some : 1 ≤ count
@@ -31,13 +31,13 @@ pub record IsWithin (hits first count : ℕ) : Type 0 where
   pub first_number : IsNumber first
   pub count_number : IsNumber count
 
--- what may be asked of a session whose set has so many records
+-- what may be asked of a session whose set has `hits` records
 abbrev pub MayTell : ℕ → Ask → Type 0
 MayTell hits (Search name key) = (name ≡ set_name) × MaySearch set_name key
 MayTell hits (Present name first count syntax element) = (name ≡ set_name) × IsWithin hits first count × IfSome element IsShort
 MayTell hits (Scan dbs ask) = MayScan dbs ask
 
--- the set has so many records, unless it has none
+-- the set has `hits` records, unless it has none
 abbrev pub HasHits : Made → ℕ → Type 0
 HasHits made hits = 1 ≤ hits → (key : SetKey) × (made set_name ≡ Some (key, hits))
 
@@ -74,13 +74,13 @@ stage_after session ask Memory = stage.None
 stage_after session ask heard = stage.Rests session
 
 module _ {W S : Type 0} (t : sitting.Ghosts S W) where
-  -- a session waits for the reply to an ask, or else to its Init, and its set has so many records
+  -- a session waits for the reply to an ask, or else to its Init, and its set has `hits` records
   pub record Awaits (session : S) (ask : Option Ask) (hits : ℕ) : Type 0 where
     pub pending : t.pending session ≡ awaited ask
     pub own : IsOwn ask
     pub has : HasHits (t.made session) hits
 
-  -- a session rests, and its set has so many records
+  -- a session rests, and its set has `hits` records
   pub record IsAtRest (session : S) (hits : ℕ) : Type 0 where
     pub pending : t.pending session ≡ resting
     pub has : HasHits (t.made session) hits

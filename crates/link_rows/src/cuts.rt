@@ -119,7 +119,7 @@ const HALVES: [(&[&str], &str, &[Step], &str); 4] = [
 /// The looks for a reply: that many of them hear none, and then the link is found cut.
 const LOOKS: [(u32, &[Step]); 3] = [(0, &[Look]), (1, &[Look, Look]), (2, &[Look, Look, Look])];
 
-/// A wire that brings replies, all but the last octet of another, nothing for so many looks, and is cut.
+/// A wire that brings replies, all but the last octet of another, nothing for `waits` looks, and is cut.
 fn cut_in(alloc: Global, before: &[&str], digits: &str, waits: u32) -> Result<PlayedWire, Memory> {
     let mut wire = PlayedWire::new(alloc, 3);
     for reply in before {

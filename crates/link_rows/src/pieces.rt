@@ -12,7 +12,7 @@ use std::test::Fail;
 use z_types::{Body, Form, Item, List, Memory, NamedRecord, Oid, Reply, Text};
 use z_write::write_reply;
 
-/// Asks, each with so many looks behind it.
+/// Asks, each with its number of looks behind it.
 fn steps_of(alloc: Global, asks: &[(Step, usize)]) -> Result<List<Step>, Memory> {
     let mut steps = List::new(alloc);
     for (ask, looks) in asks {
@@ -35,8 +35,8 @@ fn sending_pieces(alloc: Global, replies: &[Text], size: usize) -> Result<FarPla
     far_play(alloc, wire)
 }
 
-/// What is told of asks, each with so many looks behind it, with a target that sends these replies in
-/// pieces of a size.
+/// What is told of asks, each with its number of looks behind it, with a target that sends these
+/// replies in pieces of `size` octets.
 fn told_in_pieces(
     alloc: Global,
     replies: &[Text],
@@ -59,8 +59,8 @@ fn replies_around(alloc: Global, reply: Text) -> Result<List<Text>, Memory> {
     Ok(replies)
 }
 
-/// What is told of an Init, a Search, a Present that hears this record, and a Search again, in so many
-/// looks that hear no reply.
+/// What is told of an Init, a Search, a Present that hears this record, and a Search again, where `waits`
+/// looks hear no reply.
 fn words_of(alloc: Global, record: &[u8], waits: u32) -> Result<Text, Memory> {
     let mut words = Text::copy_of(alloc, b"opened; hits 3; ")?;
     words.append(record)?;
@@ -69,8 +69,8 @@ fn words_of(alloc: Global, record: &[u8], waits: u32) -> Result<Text, Memory> {
     Ok(words)
 }
 
-/// Whether replies in pieces of a size are heard after so many looks each, all but the last of each in
-/// vain.
+/// Whether replies in pieces of `size` octets are heard after `counts` looks each, all but the last of
+/// each in vain.
 fn are_heard(
     alloc: Global,
     replies: &List<Text>,

@@ -45,7 +45,7 @@ impl Linked for PlayedLink {
 }
 
 impl PlayedWire {
-    /// A wire over which so many units can be sent, whose looks find nothing yet.
+    /// A wire over which `sends` units can be sent, whose looks find nothing yet.
     pub(crate) fn new(alloc: Global, sends: u32) -> PlayedWire {
         PlayedWire {
             finds: Vec::new(alloc),
