@@ -2,11 +2,9 @@
 //! test targets, and of octets that no true target sends. All of it is tests, over public calls alone.
 #![tactic(auto)]
 
-#[cfg(test)]
 mod asks;
 #[cfg(test)]
 mod breaches;
-#[cfg(test)]
 mod counts;
 #[cfg(test)]
 mod cuts;
@@ -18,7 +16,6 @@ mod far;
 mod pieces;
 #[cfg(test)]
 mod played;
-#[cfg(test)]
 mod plays;
 #[cfg(test)]
 mod replies;
@@ -26,5 +23,4 @@ mod replies;
 mod sent;
 #[cfg(test)]
 mod stories;
-#[cfg(test)]
 mod words;
