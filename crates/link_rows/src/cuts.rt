@@ -1,11 +1,13 @@
 //! Links that are cut before, in and after each reply.
 
-use crate::far::far_play;
+ghost use Rattle.std.specs.Prelude.{◌≡◌};
+
+use crate::far::{FarPlay, far_play};
 use crate::played::PlayedWire;
 use crate::plays::Step::{self, Look, Open, Present, Scan, Search};
 use crate::plays::{take_steps, told};
 use crate::replies::{INIT, PRESENT, SCAN, SEARCH, octets};
-use crate::stories::test_play;
+use crate::stories::{TestPlay, test_play};
 use gw_outside::Events;
 use std::alloc::Global;
 use std::test::Fail;
@@ -61,10 +63,22 @@ dials 1 searches 0 gones 0 faults 1 waits 0",
 /// What is told of a session with the test target 0 whose link is cut between these steps.
 fn told_of_cut(alloc: Global, before: &[Step], after: &[Step]) -> Result<Text, Memory> {
     let mut play = test_play(alloc);
-    take_steps(alloc, &mut play, before)?;
+    told_around_a_cut(alloc, &mut play, before, after)
+}
+
+/// What is told of steps of a play, between which its link is cut.
+fn told_around_a_cut(
+    alloc: Global,
+    play: &mut TestPlay,
+    before: &[Step],
+    after: &[Step],
+) -> Result<Text, Memory>
+    requires { play.old.stage ≡ Stage.None }
+{
+    take_steps(alloc, play, before)?;
     play.backend.cut(0)?;
-    take_steps(alloc, &mut play, after)?;
-    told(alloc, &play)
+    take_steps(alloc, play, after)?;
+    told(alloc, play)
 }
 
 #[test]
@@ -143,12 +157,25 @@ fn told_unless_kept(
     looks: &[Step],
 ) -> Result<Text, Memory> {
     let mut play = far_play(alloc, wire)?;
-    take_steps(alloc, &mut play, steps)?;
-    take_steps(alloc, &mut play, looks)?;
-    if !play.backend.last().is_empty() {
-        return Text::copy_of(alloc, b"kept");
+    told_where_nothing_is_kept(alloc, &mut play, steps, looks)
+}
+
+/// What is told of these steps and looks of a play, where no octets are kept.
+fn told_where_nothing_is_kept(
+    alloc: Global,
+    play: &mut FarPlay,
+    steps: &[Step],
+    looks: &[Step],
+) -> Result<Text, Memory>
+    requires { play.old.stage ≡ Stage.None }
+{
+    take_steps(alloc, play, steps)?;
+    take_steps(alloc, play, looks)?;
+    if play.backend.last().is_empty() {
+        told(alloc, play)
+    } else {
+        Text::copy_of(alloc, b"kept")
     }
-    told(alloc, &play)
 }
 
 /// Whether a link that is cut within a reply is told of with these words.

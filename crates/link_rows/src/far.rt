@@ -32,6 +32,25 @@ fn joined(alloc: Global, parts: &[&str]) -> Result<Text, Memory> {
     Ok(all)
 }
 
+/// A wire that brings replies, each at one look, and behind them others at one look.
+fn bringing(alloc: Global, each: &[&str], together: &[&str]) -> Result<PlayedWire, Memory> {
+    let mut wire = PlayedWire::new(alloc, 100);
+    for digits in each {
+        wire.bring(alloc, octets(alloc, digits).as_slice())?;
+    }
+    wire.bring(alloc, joined(alloc, together)?.as_slice())?;
+    Ok(wire)
+}
+
+/// What is told of these steps of a play, and the octets that are kept of a breach.
+fn told_and_kept(alloc: Global, play: &mut FarPlay, steps: &[Step]) -> Result<(Text, Text), Memory>
+    requires { play.old.stage ≡ Stage.None }
+{
+    take_steps(alloc, play, steps)?;
+    let last = Text::copy_of(alloc, play.backend.last())?;
+    Ok((told(alloc, play)?, last))
+}
+
 /// What is told of these steps with a target that sends replies, each at one look, and behind them others
 /// at one look; and the octets that are kept of a breach.
 pub(crate) fn told_of_sent(
@@ -40,13 +59,7 @@ pub(crate) fn told_of_sent(
     together: &[&str],
     steps: &[Step],
 ) -> Result<(Text, Text), Memory> {
-    let mut wire = PlayedWire::new(alloc, 100);
-    for digits in each {
-        wire.bring(alloc, octets(alloc, digits).as_slice())?;
-    }
-    wire.bring(alloc, joined(alloc, together)?.as_slice())?;
+    let wire = bringing(alloc, each, together)?;
     let mut play = far_play(alloc, wire)?;
-    take_steps(alloc, &mut play, steps)?;
-    let last = Text::copy_of(alloc, play.backend.last())?;
-    Ok((told(alloc, &play)?, last))
+    told_and_kept(alloc, &mut play, steps)
 }
