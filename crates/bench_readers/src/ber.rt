@@ -116,7 +116,7 @@ pub(crate) fn sample(alloc: Global, shape: Shape, size: usize) -> Result<Text, M
 }
 
 /// Reads a unit whole: how long it is, and each element in it.
-pub(crate) fn read_whole(octets: &[u8]) -> u64 {
+fn read_whole(octets: &[u8]) -> u64 {
     if whole(octets).is_err() {
         return 0;
     }

@@ -2,6 +2,6 @@ pub mod Characters
 pub mod Tokens
 pub mod Spans
 pub mod OneReading
-pub mod Numbers
+pub mod Fault
 pub mod Sentences
 pub mod Refusals

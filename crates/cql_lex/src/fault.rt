@@ -2,7 +2,7 @@
 
 ghost use Rattle.std.specs.Prelude.{◌≡◌};
 ghost use Rattle.cql_lex.specs.declared.fault.LexFault.TheVariants.{Memory as no_memory};
-ghost use Rattle.cql_lex.specs.Numbers.{number_of};
+ghost use Rattle.cql_lex.specs.Fault.{fault_number};
 
 use std::fmt;
 use z_types::Memory;
@@ -22,7 +22,7 @@ pub enum LexFault {
 impl LexFault {
     /// The number of the refusal: 1 OpenQuote, 2 NotUtf8; 0 for want of memory, which is none.
     pub fn number(&self) -> u32
-        ensures { result ≡ number_of self.now }
+        ensures { result ≡ fault_number self.now }
     {
         match self {
             LexFault::Memory => 0,

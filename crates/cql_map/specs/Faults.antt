@@ -127,6 +127,6 @@ abbrev pub IsFirst : List MapFault → MapFault → Type 0
 IsFirst [] e = ⊥
 IsFirst (f ∷ fs) e = e ≡ f
 
--- the first of them is told, or memory is wanting
+-- the first of them is printed_detail, or memory is wanting
 abbrev pub IsRefusal : List MapFault → MapFault → Type 0
 IsRefusal fs e = (e ≡ fault.Memory) ⊎ IsFirst fs e

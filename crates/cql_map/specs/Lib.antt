@@ -8,5 +8,5 @@ pub mod Operators
 pub mod Meaning
 pub mod Mapped
 pub mod Faults
-pub mod Numbers
+pub mod Fault
 pub mod Sentences

@@ -1,7 +1,7 @@
 -- What is printed of a query that is not mapped (this project's own).
 use Rattle.std.specs.Prelude.{ℕ, List, [], ◌++◌, cond, codes, length, nat_eq}
 use Rattle.std.specs.Str.{is_utf8}
-use Rattle.cql_map.specs.Numbers.{detail_of}
+use Rattle.cql_map.specs.Fault.{detail_of}
 use Rattle.cql_map.specs.declared.fault.MapFault.{MapFault}
 use Rattle.cql_map.specs.declared.fault.MapFault.TheVariants.{ContextSet, Index, Relation, Modifier, Boolean, Masking, EmptyTerm, Sort, BooleanModifier, Anchoring, Memory}
 
@@ -20,8 +20,8 @@ text_of (Anchoring text) = codes "anchoring character not supported"
 text_of Memory = codes "out of memory"
 
 -- the detail, where it is UTF-8
-abbrev pub told_of : List ℕ → List ℕ
-told_of detail = cond (is_utf8 detail) detail []
+abbrev pub printed_detail : List ℕ → List ℕ
+printed_detail detail = cond (is_utf8 detail) detail []
 
 -- behind the rule stands a detail, where there is one
 abbrev pub with_detail : List ℕ → List ℕ → List ℕ
@@ -29,4 +29,4 @@ with_detail text detail = cond (nat_eq (length detail) 0) text (text ++ codes ":
 
 -- its rule, with its detail
 abbrev pub sentence : MapFault → List ℕ
-sentence fault = with_detail (text_of fault) (told_of (detail_of fault))
+sentence fault = with_detail (text_of fault) (printed_detail (detail_of fault))

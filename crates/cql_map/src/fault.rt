@@ -2,8 +2,8 @@
 
 ghost use Rattle.std.specs.Prelude.{◌≡◌};
 ghost use Rattle.cql_map.specs.declared.fault.MapFault.TheVariants.{Memory as no_memory};
-ghost use Rattle.cql_map.specs.Numbers.{number_of, diagnostic_of, detail_of};
-ghost use Rattle.cql_map.specs.Sentences.{text_of, told_of};
+ghost use Rattle.cql_map.specs.Fault.{fault_number, diagnostic_of, detail_of};
+ghost use Rattle.cql_map.specs.Sentences.{text_of, printed_detail};
 
 use std::{fmt, str};
 use z_types::{Memory, Text};
@@ -38,7 +38,7 @@ pub enum MapFault {
 impl MapFault {
     /// The number of the refusal, 1 to 10 in the order above; 0 for want of memory, which is none.
     pub fn number(&self) -> u32
-        ensures { result ≡ number_of self.now }
+        ensures { result ≡ fault_number self.now }
     {
         match self {
             MapFault::ContextSet(_) => 1,
@@ -114,9 +114,9 @@ impl MapFault {
     }
 
     /// The detail where it is UTF-8, and else nothing.
-    #[tactic(auto, using(crate::proofs::SentenceLemmas::told_text, crate::proofs::SentenceLemmas::told_none))]
-    fn told(&self) -> &str
-        ensures { result.now ≡ told_of (detail_of self.now) }
+    #[tactic(auto, using(crate::proofs::SentenceLemmas::detail_is_printed, crate::proofs::SentenceLemmas::no_detail_is_printed))]
+    fn printed_detail(&self) -> &str
+        ensures { result.now ≡ printed_detail (detail_of self.now) }
     {
         match str::from_utf8(self.detail()) {
             Ok(detail) => detail,
@@ -140,7 +140,7 @@ impl fmt::Display for MapFault {
     ghost output = { λ fault. Some (sentence fault) };
 
     fn fmt<W: fmt::Write>(&self, f: &mut fmt::Formatter<W>) -> fmt::Result {
-        let detail = self.told();
+        let detail = self.printed_detail();
         if detail.is_empty() {
             f.write_str(self.text())
         } else {

@@ -8,7 +8,7 @@ pub mod Grammar
 pub mod WellFormed
 pub mod Nesting
 pub mod Refusals
-pub mod Numbers
+pub mod Fault
 pub mod Sentences
 pub mod Written
 pub mod Again

@@ -2,7 +2,7 @@
 
 ghost use Rattle.std.specs.Prelude.{◌≡◌};
 ghost use Rattle.cql_parse.specs.declared.fault.Stop.TheVariants.{Memory as no_memory};
-ghost use Rattle.cql_parse.specs.Numbers.{number_of};
+ghost use Rattle.cql_parse.specs.Fault.{fault_number};
 
 use std::fmt;
 use z_types::Memory;
@@ -22,7 +22,7 @@ pub enum ParseFault {
 impl ParseFault {
     /// The number of the refusal: 1 Syntax, 2 TooDeep; 0 for want of memory, which is none.
     pub fn number(&self) -> u32
-        ensures { result ≡ number_of self.now }
+        ensures { result ≡ fault_number self.now }
     {
         match self {
             ParseFault::Memory => 0,

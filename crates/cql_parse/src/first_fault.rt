@@ -64,7 +64,7 @@ fn at_phase(phase: Phase, open: usize) -> Option<Spot>
 }
 
 /// A closing bracket, where one is open.
-fn closed(open: usize) -> Option<Spot>
+fn close_bracket(open: usize) -> Option<Spot>
     ensures next { result ≡ closed «open» }
     ensures bound { IfSome result (λ next. next.«open» ≤ «open» + 1) }
 {
@@ -96,7 +96,7 @@ fn after_step(open: usize, class: Class) -> Option<Spot>
     match class {
         Class::Boolean => at_phase(Phase::Modified(Owner::Boolean), open),
         Class::SortBy => at_phase(Phase::SortBy, open),
-        Class::Close => closed(open),
+        Class::Close => close_bracket(open),
         _ => None,
     }
 }
@@ -116,7 +116,7 @@ fn modified_step(owner: Owner, open: usize, class: Class) -> Option<Spot>
         Owner::Key if class.is_term() => at_phase(Phase::Modified(Owner::Key), open),
         Owner::Key => {
             if matches!(class, Class::Close) {
-                closed(open)
+                close_bracket(open)
             } else {
                 None
             }

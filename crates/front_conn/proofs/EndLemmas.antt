@@ -9,7 +9,7 @@ use Rattle.z_types.specs.declared.marks.End.TheVariants.{Finished, Malformed, Cu
 use Rattle.z_types.specs.declared.marks.Mark.{Mark}
 use Rattle.z_types.specs.declared.replies.Reply.{Reply}
 use Rattle.z_types.specs.declared.world.World as world
-use Rattle.z_types.specs.QueryMeasures.{within64}
+use Rattle.z_types.specs.Bounds.{within64}
 use Rattle.route_config.specs.declared.route.Route.{Route}
 use Rattle.unit_forms.specs.Replies.{spell_reply}
 use Rattle.z_ber.specs.Frames.{IsFrame}

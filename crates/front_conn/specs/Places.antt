@@ -5,7 +5,7 @@ use Rattle.z_types.specs.declared.known_set.KnownSet.{KnownSet}
 use Rattle.z_types.specs.declared.marks.Mark.{Mark}
 use Rattle.z_types.specs.declared.marks.End.{End}
 use Rattle.z_types.specs.declared.world.World as world
-use Rattle.z_types.specs.QueryMeasures.{within64}
+use Rattle.z_types.specs.Bounds.{within64}
 use Rattle.route_config.specs.declared.route.Route.{Route}
 use Rattle.gateway_rules.specs.Answers as kind
 use Rattle.gateway_rules.specs.Answers.{Answers, kind_of}

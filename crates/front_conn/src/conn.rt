@@ -139,7 +139,7 @@ impl Conn {
             }
             Ahead::Bad(at) => {
                 let put = put_bad_unit(&mut self.out);
-                stepped(&mut self.end, put, Some(End::Malformed(at)))
+                end_step(&mut self.end, put, Some(End::Malformed(at)))
             }
             Ahead::Whole(start, end) => {
                 let unit = self.framer.unit(start, end);
@@ -147,9 +147,9 @@ impl Conn {
                 match answer_unit(alloc, session, route, unit, start, out, targets) {
                     Ok(told) => {
                         let put = put_mark(&mut self.marks, told.mark);
-                        stepped(&mut self.end, put, told.end)
+                        end_step(&mut self.end, put, told.end)
                     }
-                    Err(memory) => stepped(&mut self.end, Err(memory), None),
+                    Err(memory) => end_step(&mut self.end, Err(memory), None),
                 }
             }
         }
@@ -167,7 +167,7 @@ fn put_mark(marks: &mut List<Mark>, mark: Option<Mark>) -> Result<(), Memory>
 }
 
 /// How the connection stands behind a step: without memory it has ended so.
-fn stepped(end: &mut Option<End>, done: Result<(), Memory>, ended: Option<End>) -> Stepped
+fn end_step(end: &mut Option<End>, done: Result<(), Memory>, ended: Option<End>) -> Stepped
     ensures { IsEndAfter done ended end.new result }
 {
     match done {

@@ -3,7 +3,8 @@ use Rattle.std.proofs.Common.{◌≡◌, ◌≤◌, refl, ℕ, Bool, true, false
 use Rattle.std.proofs.lemmas.Bool.{ltb-false}
 use Rattle.z_types.specs.declared.diagnostic.Diag.{Diag}
 use Rattle.route_config.specs.declared.route.Route.{Route}
-use Rattle.virt_db.specs.Legs.{found_legs, known_legs, few_legs, legs_of, distinct, first_unknown, most_legs, most_databases}
+use Rattle.virt_db.specs.Legs.{found_legs, known_legs, few_legs, legs_of, distinct, first_unknown}
+use Rattle.z_types.specs.Bounds.{most_legs, most_databases}
 use Rattle.virt_db.specs.declared.fault.DbFault.{DbFault}
 use Rattle.virt_db.specs.declared.fault.DbFault.TheVariants.{Unknown, TooMany}
 use Rattle.gateway_rules.specs.Asking as asking

@@ -1,10 +1,8 @@
 -- The parts of what a Present is due (this project's own)
-use Rattle.std.specs.Prelude.{◌≡◌, ℕ, false, List, [], is_none, nat_abs, Option, None, Some, Result, Ok, Err}
+use Rattle.std.specs.Prelude.{◌≡◌, ℕ, false, List, nat_abs, None, Some, Result, Ok, Err}
 use Rattle.std.specs.Borrow.{Bor}
-use Rattle.z_types.specs.Bib1.{bib1}
 use Rattle.z_types.specs.MergedOrder.{total}
 use Rattle.z_types.specs.declared.conditions.Condition.TheVariants as condition
-use Rattle.z_types.specs.declared.diagnostic.Diag.{Diag}
 use Rattle.z_types.specs.declared.known_set.KnownSet.{KnownSet}
 use Rattle.z_types.specs.declared.limits.Limits.{Limits}
 use Rattle.z_types.specs.declared.requests.Present.{Present}
@@ -15,16 +13,11 @@ use Rattle.limit_rules.specs.Limits.{are_too_many}
 use Rattle.limit_rules.specs.declared.spent.Spent.{Spent}
 use Rattle.z_sets.specs.Sets.{stored, known_set_named, stored_set_named}
 use Rattle.gateway_rules.specs.Asking.{element_of, present_due}
-use Rattle.gateway_rules.specs.Checks.{refused_where, is_out_of_range}
+use Rattle.gateway_rules.specs.Checks.{set_check, is_out_of_range}
 use Rattle.front_session.specs.declared.refusal.Refusal.{Refusal}
 use Rattle.front_session.specs.Admitting.{hits_named}
 use Rattle.front_session.specs.Refusals.{AnswersDue, IsRefusal, client_with}
 use Rattle.front_session.specs.declared.due.Due.{Due}
-
--- there is no set of a name
-abbrev pub set_check : List KnownSet → List ℕ → Option Diag
-set_check sets name =
-    refused_where (is_none (stored_set_named name sets)) (bib1 condition.ResultSetDoesNotExist name)
 
 -- the set of a name, with its hits and without them
 pub record IsNamed (sets : List KnownSet) (name : List ℕ) (set : KnownSet) : Type 0 where
@@ -33,18 +26,8 @@ pub record IsNamed (sets : List KnownSet) (name : List ℕ) (set : KnownSet) : T
 
 -- the set of a name, or the diagnostic where there is none
 abbrev pub AnswersSet : List KnownSet → List ℕ → Result (Bor KnownSet) Refusal → Type 0
-AnswersSet sets name (Ok set) = (set_check sets name ≡ None) × IsNamed sets name set.now
-AnswersSet sets name (Err refusal) = IsRefusal (set_check sets name) refusal
-
--- records do not lie within a set of these hits
-abbrev pub range_check : Present → List ℕ → Option Diag
-range_check present hits =
-    refused_where (is_out_of_range present (total hits)) (bib1 condition.PresentRequestOutOfRange [])
-
--- records are too many for one request, or after those that were given
-abbrev pub number_check : Limits → ℕ → Present → Option Diag
-number_check limits given present =
-    refused_where (are_too_many limits given present.number) (bib1 condition.TooManyRecordsRetrieved [])
+AnswersSet sets name (Ok set) = (set_check (stored_set_named name sets) name ≡ None) × IsNamed sets name set.now
+AnswersSet sets name (Err refusal) = IsRefusal (set_check (stored_set_named name sets) name) refusal
 
 -- the set that a Present names has its records, and they are not too many
 pub record MayFetch (limits : Limits) (spent : Spent) (sets : List KnownSet) (present : Present) (set : KnownSet) : Type 0 where

@@ -1,48 +1,26 @@
 -- The parts of what a Search is due (this project's own)
-use Rattle.std.specs.Prelude.{◌≡◌, ℕ, ◌&&◌, ◌||◌, not, List, [], ◌∷◌, length, codes, is_some, Option, None, Result, Ok, Err}
-use Rattle.z_types.specs.Bib1.{bib1}
+use Rattle.std.specs.Prelude.{◌≡◌, ℕ, List, None, Result, Ok, Err}
 use Rattle.z_types.specs.declared.conditions.Condition.TheVariants as condition
 use Rattle.z_types.specs.declared.diagnostic.Diag.{Diag}
 use Rattle.z_types.specs.declared.known_set.KnownSet.{KnownSet}
-use Rattle.z_types.specs.declared.limits.Limits.{Limits}
 use Rattle.z_types.specs.declared.query.RpnQuery.{RpnQuery}
 use Rattle.z_types.specs.declared.requests.Asked.{Asked}
 use Rattle.z_types.specs.declared.requests.Asked.TheVariants.{Good, Bad}
 use Rattle.z_types.specs.declared.requests.Search.{Search}
 use Rattle.z_types.specs.declared.work.Work.{Work}
 use Rattle.z_types.specs.declared.work.Work.TheVariants as work
-use Rattle.limit_rules.specs.Limits.{are_searches_spent, are_sets_full}
 use Rattle.limit_rules.specs.declared.spent.Spent.{Spent}
 use Rattle.route_config.specs.declared.route.Route.{Route}
-use Rattle.z_sets.specs.Sets.{StoredSet, without_hits, stored_set_named}
+use Rattle.z_sets.specs.Sets.{StoredSet}
 use Rattle.z_sets.specs.Expansion.{expanded}
 use Rattle.z_sets.specs.declared.fault.ExpandFault.{ExpandFault}
 use Rattle.z_sets.specs.declared.fault.ExpandFault.TheVariants as fault
 use Rattle.gateway_rules.specs.Asking.{search_due}
-use Rattle.gateway_rules.specs.Checks.{refused_where, is_too_long, no_expansion}
+use Rattle.gateway_rules.specs.Checks.{no_expansion}
 use Rattle.front_session.specs.Refusals.{AnswersDue, client_with}
 use Rattle.front_session.specs.declared.due.Due.{Due}
 use Rattle.front_session.specs.declared.refusal.Refusal.{Refusal}
 use Rattle.front_session.specs.declared.refusal.Refusal.TheVariants.{Refused, Memory}
-
--- no Search may be asked after `searches` others
-abbrev pub searches_check : Limits → ℕ → Option Diag
-searches_check limits searches =
-    refused_where (are_searches_spent limits searches) (bib1 condition.ResourcesExhausted (codes "searches"))
-
--- an element set name is too long
-abbrev pub elements_check : Search → Option Diag
-elements_check search =
-    refused_where (is_too_long search.small_element || is_too_long search.medium_element)
-    (bib1 condition.ElementSetNameNotValid (codes "long"))
-
--- the name of the result set is in use and is not to be replaced, or is one too many
-abbrev pub name_checks : Limits → List KnownSet → Search → List (Option Diag)
-name_checks limits sets search =
-    let in_use = is_some (stored_set_named search.set_name sets) in
-    refused_where (in_use && not search.replace) (bib1 condition.ResultSetExists search.set_name)
-    ∷ refused_where (not in_use && are_sets_full limits (length (without_hits sets))) (bib1 condition.TooManyResultSets [])
-    ∷ []
 
 -- an expansion, or the diagnostic of its fault
 abbrev pub or_fault : Result RpnQuery ExpandFault → Result RpnQuery Diag

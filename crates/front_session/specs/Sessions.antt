@@ -6,7 +6,7 @@ use Rattle.z_types.specs.declared.work.Work.{Work}
 use Rattle.z_types.specs.declared.work.Work.TheVariants as work
 use Rattle.z_sets.specs.Sets.{stored}
 use Rattle.limit_rules.specs.declared.spent.Spent.{Spent}
-use Rattle.virt_db.specs.Legs.{most_legs}
+use Rattle.z_types.specs.Bounds.{most_legs}
 use Rattle.gateway_rules.specs.State.{ClientState, Progress}
 use Rattle.gateway_rules.specs.Works.{CanBegin}
 

@@ -10,10 +10,7 @@ use crate::refusal::Refusal;
 use route_config::Route;
 use std::alloc::Global;
 use virt_db::{DbFault, legs_of};
-use z_types::{Asked, Condition, Diag, List, Memory, Text, copy};
-
-/// The most octets of an element set name.
-const LONGEST_ELEMENT_SET_NAME: usize = 4096;
+use z_types::{Asked, Condition, Diag, List, MOST_NAME_OCTETS, Memory, Text, copy};
 
 /// Refuses with the diagnostic of a condition where a test says so.
 pub(crate) fn refuse_where(
@@ -32,7 +29,7 @@ pub(crate) fn refuse_where(
 }
 
 /// What is asked for, or the diagnostic of a form that is not served.
-pub(crate) fn served<T>(asked: &Asked<T>) -> Result<&T, Refusal>
+pub(crate) fn served_form<T>(asked: &Asked<T>) -> Result<&T, Refusal>
     ensures { AnswersAsked asked.now result }
 {
     match asked {
@@ -46,7 +43,7 @@ pub(crate) fn is_too_long(name: &Option<Text>) -> bool
     ensures { result ≡ is_too_long name.now }
 {
     match name {
-        Some(name) => name.len() > LONGEST_ELEMENT_SET_NAME,
+        Some(name) => name.len() > MOST_NAME_OCTETS,
         None => false,
     }
 }

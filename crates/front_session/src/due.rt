@@ -8,7 +8,7 @@ ghost use Rattle.front_session.specs.Sessions.{HasHitsOfLegs};
 
 use crate::present::present_due;
 use crate::refusal::Refusal;
-use crate::replies::{FINISHED, close_reply, failed};
+use crate::replies::{FINISHED, close_reply, failed_reply};
 use crate::scan::scan_due;
 use crate::search::search_due;
 use gateway_rules::init_reply;
@@ -71,7 +71,7 @@ fn unless_refused(
 {
     match due {
         Ok(due) => Ok(due),
-        Err(Refusal::Refused(diag)) => Ok(Due::AtOnce(failed(alloc, request, diag)?)),
+        Err(Refusal::Refused(diag)) => Ok(Due::AtOnce(failed_reply(alloc, request, diag)?)),
         Err(Refusal::Memory) => Err(Memory),
     }
 }

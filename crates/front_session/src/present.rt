@@ -5,13 +5,13 @@ ghost use Rattle.z_types.specs.MergedOrder as merged_order;
 ghost use Rattle.z_sets.specs.Sets.{stored};
 ghost use Rattle.limit_rules.specs.Limits.{are_too_many};
 ghost use Rattle.gateway_rules.specs.Asking as asking;
-ghost use Rattle.gateway_rules.specs.Checks.{is_out_of_range, present_checks};
+ghost use Rattle.gateway_rules.specs.Checks.{is_out_of_range, number_check, present_checks, range_check};
 ghost use Rattle.front_session.specs.Admitting.{hits_named};
-ghost use Rattle.front_session.specs.Presents.{AnswersPresent, AnswersSet, MayFetch, fetch_work, range_check, number_check};
+ghost use Rattle.front_session.specs.Presents.{AnswersPresent, AnswersSet, MayFetch, fetch_work};
 ghost use Rattle.front_session.specs.Refusals.{AnswersCheck, AnswersChecks, IsReady, client_with, due_of};
 ghost use Rattle.front_session.specs.Sessions.{HasHitsOfLegs};
 
-use crate::check::{is_too_long, refuse_where, served};
+use crate::check::{is_too_long, refuse_where, served_form};
 use crate::due::Due;
 use crate::limited::are_too_many;
 use crate::refusal::Refusal;
@@ -53,7 +53,7 @@ fn check_present<'a>(
         (hits_named sets.now present.now.set_name))
         (λ set. MayFetch route.now.limits spent.now sets.now present.now set.now) result }
 {
-    let element = served(&present.element)?;
+    let element = served_form(&present.element)?;
     let is_long = is_too_long(element);
     refuse_where(alloc, is_long, Condition::ElementSetNameNotValid, b"long")?;
     let set = check_set(alloc, sets, &present.set_name)?;
@@ -81,7 +81,7 @@ fn check_set<'a>(
 
 /// Refuses where records do not lie within their set.
 fn check_range(alloc: Global, present: &Present, set: &KnownSet) -> Result<(), Refusal>
-    ensures { AnswersCheck (range_check present.now set.now.hits) result }
+    ensures { AnswersCheck (range_check present.now (merged_order.total set.now.hits)) result }
 {
     let is_out = is_out_of_range(present, total(set.hits.as_slice()));
     refuse_where(alloc, is_out, Condition::PresentRequestOutOfRange, b"")

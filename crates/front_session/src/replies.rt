@@ -43,7 +43,7 @@ pub fn close_reply(ref_id: &Option<Text>, reason: u32) -> Result<Reply, Memory>
 }
 
 /// The reply to a request that fails.
-pub(crate) fn failed(alloc: Global, request: &Request, diag: Diag) -> Result<Reply, Memory>
+pub(crate) fn failed_reply(alloc: Global, request: &Request, diag: Diag) -> Result<Reply, Memory>
     ensures { IfOk result (λ reply. reply ≡ replies.failed request.now diag) }
 {
     match request {
@@ -108,7 +108,7 @@ fn only(alloc: Global, diag: Diag) -> Result<List<Diag>, Memory>
 }
 
 /// How many records are given.
-pub(crate) fn returned(fetched: &Fetched) -> u32
+pub(crate) fn count_returned(fetched: &Fetched) -> u32
     requires few { returned fetched.now ≤ most_records }
     ensures { result ≡ returned fetched.now }
 {
@@ -137,7 +137,10 @@ fn next_position(count: u32, from: u64, fetched: &Fetched) -> u32
     match fetched {
         Fetched::Whole(_) => 0,
         Fetched::None | Fetched::Records(_) => {
-            place_or_zero(count, from.saturating_add(u64::from(returned(fetched))))
+            place_or_zero(
+                count,
+                from.saturating_add(u64::from(count_returned(fetched))),
+            )
         }
     }
 }
@@ -186,7 +189,7 @@ pub(crate) fn search_reply(
     Ok(Reply::Search {
         ref_id: copy(&search.ref_id)?,
         count,
-        returned: returned(&fetched),
+        returned: count_returned(&fetched),
         next: next_position(count, 1, &fetched),
         ok: true,
         status: search_status(&fetched),
@@ -206,7 +209,7 @@ pub(crate) fn present_reply(
     let count = total(hits);
     Ok(Reply::Present {
         ref_id: copy(&present.ref_id)?,
-        returned: returned(&fetched),
+        returned: count_returned(&fetched),
         next: next_position(count, present.start.unsigned_abs(), &fetched),
         status: present_status(&fetched),
         body: body_of(fetched),

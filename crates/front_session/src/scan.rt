@@ -1,33 +1,22 @@
 //! What a Scan asks, once its checks have passed (ANSI/NISO Z39.50-2003, 3.2.8.1).
 
 ghost use Rattle.std.specs.Prelude.{◌≡◌, IfOk, nat_lt};
-ghost use Rattle.z_types.specs.QueryMeasures.{leaf_cost, most_cost};
+ghost use Rattle.z_types.specs.QueryMeasures.{leaf_cost};
+ghost use Rattle.z_types.specs.Bounds.{most_query_cost};
 ghost use Rattle.gateway_rules.specs.Asking as asking;
-ghost use Rattle.gateway_rules.specs.Checks.{scan_checks};
+ghost use Rattle.gateway_rules.specs.Checks.{cost_check, scan_checks, terms_check};
 ghost use Rattle.front_session.specs.Refusals.{AnswersCheck, AnswersChecks, AnswersDue};
-ghost use Rattle.front_session.specs.Scans.{IsAskedOf, IsScan, terms_check, cost_check};
+ghost use Rattle.front_session.specs.Scans.{IsAskedOf, IsScan};
 
-use crate::check::{check_databases, refuse_where, served};
+use crate::check::{check_databases, refuse_where, served_form};
 use crate::due::Due;
 use crate::refusal::Refusal;
 use route_config::Route;
 use std::alloc::Global;
-use z_types::{Attr, Condition, List, Scan, ScanAsk, Term, Work, copy};
+use z_types::{Attr, Condition, List, MOST_QUERY_COST, Measures, Scan, ScanAsk, Term, Work, copy};
 
 /// The most terms of a Scan.
 const MOST_TERMS: u32 = 1000;
-
-/// The most that the attributes and the term of a Scan may cost.
-const MOST_COST: u64 = 900_000;
-
-/// What an operand costs, before its attributes and its term.
-const NODE_COST: u64 = 64;
-
-/// What an attribute costs.
-const ATTRIBUTE_COST: u64 = 192;
-
-/// What a number costs as a term.
-const NUMBER_COST: u64 = 8;
 
 /// What a Scan asks of its leg, or why it fails.
 pub(crate) fn scan_due(alloc: Global, route: &Route, scan: &Scan) -> Result<Due, Refusal>
@@ -51,7 +40,7 @@ fn check_scan<'a>(
     ensures { AnswersChecks (scan_checks route.now scan.now)
         (λ both. IsAskedOf route.now scan.now both.0.now both.1) result }
 {
-    let ask = served(&scan.ask)?;
+    let ask = served_form(&scan.ask)?;
     let legs = check_databases(alloc, route, &scan.dbs)?;
     let is_other = legs.len() != 1;
     refuse_where(
@@ -83,15 +72,7 @@ fn check_cost(alloc: Global, ask: &ScanAsk) -> Result<(), Refusal>
 
 /// Whether attributes and a term cost too much as one operand.
 fn is_costly(attrs: &List<Attr>, term: &Term) -> bool
-    ensures { result ≡ nat_lt most_cost (leaf_cost attrs.now term.now) }
+    ensures { result ≡ nat_lt most_query_cost (leaf_cost attrs.now term.now) }
 {
-    let of_term = match term {
-        Term::General(text) | Term::Words(text) => text.len() as u64,
-        Term::Number(_) => NUMBER_COST,
-    };
-    let of_attributes = (attrs.len() as u64).saturating_mul(ATTRIBUTE_COST);
-    let cost = NODE_COST
-        .saturating_add(of_attributes)
-        .saturating_add(of_term);
-    cost > MOST_COST
+    Measures::of_leaf(attrs, term).cost > MOST_QUERY_COST
 }

@@ -1,14 +1,14 @@
 //! What a Search asks, once its checks have passed (ANSI/NISO Z39.50-2003, 3.2.2.1).
 
 ghost use Rattle.std.specs.Prelude.{◌≡◌, ◌+◌, ◌<◌, ◌^◌, Ok, length, map, IfOk};
-ghost use Rattle.z_sets.specs.Sets.{stored};
+ghost use Rattle.z_sets.specs.Sets.{stored, stored_set_named, without_hits};
 ghost use Rattle.limit_rules.specs.Limits as limits_of;
 ghost use Rattle.virt_db.specs.Legs.{found_legs};
-ghost use Rattle.gateway_rules.specs.Checks.{search_checks};
+ghost use Rattle.gateway_rules.specs.Checks.{elements_check, name_checks, search_checks, searches_check};
 ghost use Rattle.front_session.specs.Refusals.{AnswersCheck, AnswersChecks, AnswersResult, IsReady, Passes, client_with};
-ghost use Rattle.front_session.specs.Searches.{AnswersSearch, IsNoExpansion, elements_check, expansion_of, name_checks, search_work, searches_check};
+ghost use Rattle.front_session.specs.Searches.{AnswersSearch, IsNoExpansion, expansion_of, search_work};
 
-use crate::check::{check_databases, is_too_long, refuse_where, served};
+use crate::check::{check_databases, is_too_long, refuse_where, served_form};
 use crate::due::Due;
 use crate::limited::{are_searches_spent, are_sets_full};
 use crate::refusal::Refusal;
@@ -33,7 +33,7 @@ pub(crate) fn search_due(
     ensures ready { IfOk result (IsReady spent.now) }
 {
     let legs = check_search(alloc, route, spent, sets, search)?;
-    let query = expanded(alloc, &search.query, &legs, sets)?;
+    let query = expand_query(alloc, &search.query, &legs, sets)?;
     let room = room_left(&route.parts().limits, spent);
     Ok(Due::Works(search_work(search, legs, query, room)?))
 }
@@ -51,7 +51,7 @@ fn check_search(
         (λ legs. found_legs route.now search.now.dbs ≡ Ok legs) result }
 {
     check_searches(alloc, &route.parts().limits, spent)?;
-    let _query = served(&search.query)?;
+    let _query = served_form(&search.query)?;
     check_elements(alloc, search)?;
     let legs = check_databases(alloc, route, &search.dbs)?;
     check_name(alloc, &route.parts().limits, spent, sets, search)?;
@@ -83,7 +83,8 @@ fn check_name(
     search: &Search,
 ) -> Result<(), Refusal>
     requires counted { spent.now.sets ≡ length sets.now }
-    ensures { AnswersChecks (name_checks limits.now sets.now search.now) Passes result }
+    ensures { AnswersChecks (name_checks limits.now (stored_set_named search.now.set_name sets.now)
+        (length (without_hits sets.now)) search.now) Passes result }
 {
     let name = search.set_name.as_slice();
     let in_use = find_set(sets, name).is_some();
@@ -94,7 +95,7 @@ fn check_name(
 }
 
 /// A query with the client's result sets in place of its operands, or why there is none.
-fn expanded(
+fn expand_query(
     alloc: Global,
     query: &Asked<RpnQuery>,
     legs: &List<u32>,
@@ -102,7 +103,7 @@ fn expanded(
 ) -> Result<RpnQuery, Refusal>
     ensures { AnswersResult (expansion_of query.now legs.now (map stored sets.now)) result }
 {
-    let query = served(query)?;
+    let query = served_form(query)?;
     match expand(alloc, query, legs, sets) {
         Ok(query) => Ok(query),
         Err(fault) => Err(no_expansion(alloc, fault)?),

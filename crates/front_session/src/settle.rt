@@ -9,7 +9,7 @@ ghost use Rattle.gateway_rules.specs.Works.{CanBegin, FitsWork};
 ghost use Rattle.front_session.specs.Settling.{ArePartsOf, IsAnswered, good_reply_to, only_why, reply_by_parts, searches_behind};
 
 use crate::replies::{
-    FINISHED, close_reply, failed, present_reply, returned, scan_reply, search_reply,
+    FINISHED, close_reply, count_returned, failed_reply, present_reply, scan_reply, search_reply,
 };
 use gateway_rules::init_reply;
 use std::alloc::Global;
@@ -76,7 +76,7 @@ pub(crate) fn answer_to(
 {
     let parts = parts_of(alloc, outcome)?;
     let is_good = parts.why.is_none();
-    let given = returned(&parts.fetched);
+    let given = count_returned(&parts.fetched);
     let (reply, hits) = reply_to(alloc, pending, parts)?;
     Ok(Answer {
         reply,
@@ -169,7 +169,7 @@ fn reply_to(alloc: Global, pending: &Pending, parts: Parts) -> Result<(Reply, Li
         scanned,
     } = parts;
     let reply = match why {
-        Some(diag) => failed(alloc, &pending.request, diag)?,
+        Some(diag) => failed_reply(alloc, &pending.request, diag)?,
         None => good_reply(alloc, pending, &hits, fetched, scanned)?,
     };
     Ok((reply, hits))

@@ -5,7 +5,7 @@ use Rattle.gw_outside.specs.Counts.{Rose}
 use Rattle.gw_outside.specs.Sinks.{appended, ReceivedPrefix}
 use Rattle.route_config.specs.declared.route.Route.{Route}
 use Rattle.route_text.specs.declared.fault.RouteFault.{RouteFault}
-use Rattle.route_text.specs.Faults.{fault_number, fault_text}
+use Rattle.route_text.specs.Fault.{fault_number, fault_text}
 use Rattle.gateway_program.specs.Outside.{SinkWrites}
 
 -- words, and the end of a line

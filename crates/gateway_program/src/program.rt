@@ -25,7 +25,7 @@ replay CONFIG SCRIPT  plays the octets that a script feeds to clients, and print
 --version             prints the version\n";
 
 /// What `--version` prints.
-pub(crate) const VERSION: &[u8] = b"zaklumen 0.1.0\n";
+const VERSION: &[u8] = b"zaklumen 0.1.0\n";
 
 /// Does what the words after the program's name say, with the system's files and output and the
 /// built-in test targets, and answers the exit status.

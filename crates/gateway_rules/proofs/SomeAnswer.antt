@@ -8,7 +8,7 @@ use Rattle.z_types.specs.declared.marks.End.{End}
 use Rattle.z_types.specs.declared.marks.End.TheVariants.{Finished, Malformed, Cut}
 use Rattle.z_types.specs.declared.requests.Request.{Request}
 use Rattle.z_types.specs.declared.world.World as world
-use Rattle.z_types.specs.QueryMeasures.{within64}
+use Rattle.z_types.specs.Bounds.{within64}
 use Rattle.z_ber.specs.Element.{Forest}
 use Rattle.z_ber.specs.Frames.{IsFrame}
 use Rattle.z_ber.specs.Header.{Begins, Opens}

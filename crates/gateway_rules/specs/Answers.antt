@@ -14,7 +14,7 @@ use Rattle.z_ber.specs.Header.{IsBadFor, IsOpenFor}
 use Rattle.z_ber.specs.Place.{IsUnit}
 use Rattle.unit_forms.specs.Reading.Units.{request_in}
 use Rattle.unit_forms.specs.Replies.{spell_reply}
-use Rattle.z_types.specs.QueryMeasures.{within64}
+use Rattle.z_types.specs.Bounds.{within64}
 use Rattle.route_config.specs.declared.route.Route.{Route}
 use Rattle.gateway_rules.specs.Course.{Course, Received, octets_of, course, ends, followed, stands_at, end_of}
 use Rattle.gateway_rules.specs.Marks.{Cause, IsAllowed}

@@ -19,8 +19,10 @@ use Rattle.virt_db.specs.declared.fault.DbFault.{DbFault}
 use Rattle.virt_db.specs.Legs.{legs_of, found_legs}
 use Rattle.limit_rules.specs.Limits.{are_searches_spent, are_sets_full, are_too_many}
 use Rattle.z_types.specs.MergedOrder.{total}
-use Rattle.z_types.specs.QueryMeasures.{leaf_cost, most_cost}
-use Rattle.z_sets.specs.Sets.{set_named}
+use Rattle.z_types.specs.QueryMeasures.{leaf_cost}
+use Rattle.z_types.specs.Bounds.{most_name_octets, most_query_cost}
+use Rattle.z_types.specs.declared.limits.Limits.{Limits}
+use Rattle.z_sets.specs.Sets.{StoredSet, set_named}
 use Rattle.gateway_rules.specs.State.{ClientState}
 use Rattle.z_types.specs.declared.requests.Present.{Present}
 use Rattle.z_types.specs.declared.requests.Scan.{Scan}
@@ -28,10 +30,6 @@ use Rattle.z_types.specs.declared.requests.Scan.{Scan}
 -- the most terms of a Scan
 abbrev pub most_terms : ℕ
 most_terms = 1000
-
--- the most octets of an element set name
-abbrev pub longest_element_set_name : ℕ
-longest_element_set_name = 4096
 
 -- a check: its diagnostic, where it refuses
 abbrev pub refused_where : Bool → Diag → Option Diag
@@ -51,7 +49,7 @@ checked (Some diag ∷ checks) behind = Err diag
 -- an element set name is too long
 abbrev pub is_too_long : Option (List ℕ) → Bool
 is_too_long None = false
-is_too_long (Some name) = nat_lt longest_element_set_name (length name)
+is_too_long (Some name) = nat_lt most_name_octets (length name)
 
 -- database names that stand for no legs
 abbrev pub no_legs : DbFault → Option Diag
@@ -64,18 +62,32 @@ abbrev pub not_found : Result (List ℕ) DbFault → Option Diag
 not_found (Ok legs) = None
 not_found (Err fault) = no_legs fault
 
+-- no Search may be asked after `searches` others
+abbrev pub searches_check : Limits → ℕ → Option Diag
+searches_check limits searches =
+    refused_where (are_searches_spent limits searches) (bib1 condition.ResourcesExhausted (codes "searches"))
+
+-- an element set name of a Search is too long
+abbrev pub elements_check : Search → Option Diag
+elements_check search =
+    refused_where (is_too_long search.small_element || is_too_long search.medium_element)
+    (bib1 condition.ElementSetNameNotValid (codes "long"))
+
+-- the result set's name is in use and is not to be replaced, or is new and one too many beside `count` others
+abbrev pub name_checks : Limits → Option StoredSet → ℕ → Search → List (Option Diag)
+name_checks limits named count search =
+    refused_where (is_some named && not search.replace) (bib1 condition.ResultSetExists search.set_name)
+    ∷ refused_where (not (is_some named) && are_sets_full limits count) (bib1 condition.TooManyResultSets [])
+    ∷ []
+
 -- a Search, up to its query
 abbrev pub search_checks : Route → ClientState → Search → List (Option Diag)
 search_checks route client search =
-    let in_use = is_some (set_named search.set_name client.sets) in
-    refused_where (are_searches_spent route.limits client.searches) (bib1 condition.ResourcesExhausted (codes "searches"))
+    searches_check route.limits client.searches
     ∷ not_served search.query
-    ∷ refused_where (is_too_long search.small_element || is_too_long search.medium_element)
-    (bib1 condition.ElementSetNameNotValid (codes "long"))
+    ∷ elements_check search
     ∷ not_found (found_legs route search.dbs)
-    ∷ refused_where (in_use && not search.replace) (bib1 condition.ResultSetExists search.set_name)
-    ∷ refused_where (not in_use && are_sets_full route.limits (length client.sets)) (bib1 condition.TooManyResultSets [])
-    ∷ []
+    ∷ name_checks route.limits (set_named search.set_name client.sets) (length client.sets) search
 
 -- a query that has no expansion
 abbrev pub no_expansion : ExpandFault → Diag
@@ -84,33 +96,50 @@ no_expansion (fault.OtherLegs name) = bib1 condition.CombinationOfDatabasesNotSu
 no_expansion too_much = bib1 condition.ResourcesExhausted (codes "query")
 
 -- the element set name of a Present is too long
-abbrev pub is_asked_too_long : Asked (Option (List ℕ)) → Bool
-is_asked_too_long (Good element) = is_too_long element
-is_asked_too_long (Bad diag) = false
+abbrev pub element_check : Asked (Option (List ℕ)) → Option Diag
+element_check (Good element) = refused_where (is_too_long element) (bib1 condition.ElementSetNameNotValid (codes "long"))
+element_check (Bad diag) = None
+
+-- there is no result set of a name
+abbrev pub set_check : Option StoredSet → List ℕ → Option Diag
+set_check named name = refused_where (is_none named) (bib1 condition.ResultSetDoesNotExist name)
 
 -- a Present does not lie within a result set of this count: its start is below 1, or its last record beyond the count
 abbrev pub is_out_of_range : Present → ℕ → Bool
 is_out_of_range present count =
     int_lt present.start (pos 1) || nat_lt count (nat_abs present.start + present.number - 1)
 
+abbrev pub range_check : Present → ℕ → Option Diag
+range_check present count =
+    refused_where (is_out_of_range present count) (bib1 condition.PresentRequestOutOfRange [])
+
+-- records are too many for one request, or after `given` others
+abbrev pub number_check : Limits → ℕ → Present → Option Diag
+number_check limits given present =
+    refused_where (are_too_many limits given present.number) (bib1 condition.TooManyRecordsRetrieved [])
+
 -- a Present, where its set has these hits
 abbrev pub present_checks : Route → ClientState → Present → List ℕ → List (Option Diag)
 present_checks route client present hits =
     not_served present.element
-    ∷ refused_where (is_asked_too_long present.element) (bib1 condition.ElementSetNameNotValid (codes "long"))
-    ∷ refused_where (is_none (set_named present.set_name client.sets))
-    (bib1 condition.ResultSetDoesNotExist present.set_name)
-    ∷ refused_where (is_out_of_range present (total hits)) (bib1 condition.PresentRequestOutOfRange [])
-    ∷ refused_where (are_too_many route.limits client.records present.number) (bib1 condition.TooManyRecordsRetrieved [])
+    ∷ element_check present.element
+    ∷ set_check (set_named present.set_name client.sets) present.set_name
+    ∷ range_check present (total hits)
+    ∷ number_check route.limits client.records present
     ∷ []
 
--- a Scan asks for too many terms, or its attributes and term cost too much
+-- a Scan asks for too many terms
+abbrev pub terms_check : ScanAsk → Option Diag
+terms_check ask = refused_where (nat_lt most_terms ask.number) (bib1 condition.ResourcesExhausted (codes "terms"))
+
+-- the attributes and the term of a Scan cost too much as an operand
+abbrev pub cost_check : ScanAsk → Option Diag
+cost_check ask =
+    refused_where (nat_lt most_query_cost (leaf_cost ask.attrs ask.term)) (bib1 condition.ResourcesExhausted (codes "query"))
+
 abbrev pub ask_checks : Asked ScanAsk → List (Option Diag)
 ask_checks (Bad diag) = []
-ask_checks (Good ask) =
-    refused_where (nat_lt most_terms ask.number) (bib1 condition.ResourcesExhausted (codes "terms"))
-    ∷ refused_where (nat_lt most_cost (leaf_cost ask.attrs ask.term)) (bib1 condition.ResourcesExhausted (codes "query"))
-    ∷ []
+ask_checks (Good ask) = terms_check ask ∷ cost_check ask ∷ []
 
 -- a Scan
 abbrev pub scan_checks : Route → Scan → List (Option Diag)

@@ -5,7 +5,7 @@ use Rattle.std.specs.Prelude.{if◌then◌else◌}
 use Rattle.z_types.specs.declared.marks.End.{End}
 use Rattle.z_types.specs.declared.marks.End.TheVariants.{Closed, Malformed, Limited}
 use Rattle.z_types.specs.declared.requests.Close.{Close}
-use Rattle.z_types.specs.QueryMeasures.{within64}
+use Rattle.z_types.specs.Bounds.{within64}
 use Rattle.route_config.specs.declared.route.Route.{Route}
 use Rattle.limit_rules.specs.Limits.{are_units_spent}
 use Rattle.gateway_rules.specs.Replies.{is_accepted, bad_unit_reply, limit_reply}

@@ -7,7 +7,7 @@ use Rattle.z_types.specs.declared.outcome.Outcome.TheVariants as outcome
 use Rattle.z_types.specs.declared.work.Work.{Work}
 use Rattle.z_types.specs.declared.work.Work.TheVariants as work
 use Rattle.limit_rules.specs.Limits.{most_records}
-use Rattle.virt_db.specs.Legs.{most_legs}
+use Rattle.z_types.specs.Bounds.{most_legs}
 use Rattle.gateway_rules.specs.Given.{returned}
 
 -- a work can begin: its legs are not too many; a fetch has the hits of each leg, and asks for one record at least, for

@@ -1,8 +1,8 @@
 -- What a session may be asked for (this project's own): an ask whose unit, and the reply to it, are within the bounds of units
 use Rattle.std.specs.Prelude.{◌≡◌, ℕ, ◌+◌, ◌≤◌, List, length, Option, Some, IfSome}
 use Rattle.std.specs.List.{AllByRecursion}
-use Rattle.z_types.specs.Bounds.{most_number, most_query_depth}
-use Rattle.z_types.specs.QueryMeasures.{tree_depth, tree_cost, leaf_cost, most_nodes, most_cost}
+use Rattle.z_types.specs.Bounds.{most_databases, most_name_octets, most_number, most_query_depth, most_query_nodes, most_query_cost}
+use Rattle.z_types.specs.QueryMeasures.{tree_depth, tree_cost, leaf_cost}
 use Rattle.z_types.specs.Tree.{Tree, tree_size, leaf, operand, and, or, and_not}
 use Rattle.z_types.specs.declared.ask.Ask.{Ask}
 use Rattle.z_types.specs.declared.ask.Ask.TheVariants.{Search, Present, Scan}
@@ -10,17 +10,9 @@ use Rattle.z_types.specs.declared.key.SetKey.{SetKey}
 use Rattle.z_types.specs.declared.query.Attr.{Attr}
 use Rattle.z_types.specs.declared.scan.ScanAsk.{ScanAsk}
 
--- octets of a name at most, a term aside
-abbrev pub most_name : ℕ
-most_name = 4096
-
--- databases of an ask at most
-abbrev pub most_databases : ℕ
-most_databases = 16
-
 -- a name is short
 abbrev pub IsShort : List ℕ → Type 0
-IsShort name = length name ≤ most_name
+IsShort name = length name ≤ most_name_octets
 
 -- a number of a field: 0 to 2147483647
 abbrev pub IsNumber : ℕ → Type 0
@@ -48,9 +40,9 @@ pub record MaySearch (name : List ℕ) (key : SetKey) : Type 0 where
   pub short : IsShort name
   pub databases : AreFewShort key.dbs
   pub no_set : HasNoSet key.query.root
-  pub small : tree_size key.query.root ≤ most_nodes
+  pub small : tree_size key.query.root ≤ most_query_nodes
   pub shallow : tree_depth key.query.root ≤ most_query_depth
-  pub cheap : tree_cost key.query.root ≤ most_cost
+  pub cheap : tree_cost key.query.root ≤ most_query_cost
 
 -- the records are some of a set that was made
 pub record MayPresent (made : List ℕ → Option (SetKey × ℕ)) (name : List ℕ) (first count : ℕ) (element : Option (List ℕ)) : Type 0 where
@@ -69,7 +61,7 @@ pub record MayPresent (made : List ℕ → Option (SetKey × ℕ)) (name : List 
 pub record MayScan (dbs : List (List ℕ)) (ask : ScanAsk) : Type 0 where
   pub databases : AreFewShort dbs
   pub attrs : AllByRecursion HasNumbers ask.attrs
-  pub cheap : leaf_cost ask.attrs ask.term ≤ most_cost
+  pub cheap : leaf_cost ask.attrs ask.term ≤ most_query_cost
   pub number : IsNumber ask.number
   pub step : IfSome ask.step IsNumber
   pub position : IfSome ask.position IsNumber

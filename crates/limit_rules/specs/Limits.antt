@@ -39,9 +39,9 @@ allowed_of limits spent (Records number) = if are_too_many limits spent.records 
 allowed_of limits spent NewSet = if are_sets_full limits spent.sets then allowed.Sets else allowed.Ok
 
 -- each refusal's number
-abbrev pub number_of : Allowed → ℕ
-number_of allowed.Ok = 0
-number_of allowed.Units = 1
-number_of allowed.Searches = 2
-number_of allowed.Records = 3
-number_of allowed.Sets = 4
+abbrev pub allowed_number : Allowed → ℕ
+allowed_number allowed.Ok = 0
+allowed_number allowed.Units = 1
+allowed_number allowed.Searches = 2
+allowed_number allowed.Records = 3
+allowed_number allowed.Sets = 4

@@ -1,7 +1,7 @@
 //! What a client is told of what it wants.
 
 ghost use Rattle.std.specs.Prelude.{◌≡◌};
-ghost use Rattle.limit_rules.specs.Limits.{number_of};
+ghost use Rattle.limit_rules.specs.Limits.{allowed_number};
 
 /// Whether a client may have what it wants, and if not, which limit it has met.
 #[derive(Clone, Copy, PartialEq, Eq, Debug)]
@@ -21,7 +21,7 @@ pub enum Allowed {
 impl Allowed {
     /// The number of the limit that is met, from 1; 0 where none is.
     pub fn number(&self) -> u32
-        ensures { result ≡ number_of self.now }
+        ensures { result ≡ allowed_number self.now }
     {
         match self {
             Allowed::Ok => 0,

@@ -2,18 +2,17 @@
 
 ghost use Rattle.std.specs.Prelude.{◌≡◌, ◌+◌, ◌-◌, ◌<◌, ◌≤◌, length, sum, Some, slice_get};
 ghost use Rattle.multi_merge.specs.Ranks.{up_to, IsOfRank};
+ghost use Rattle.z_types.specs.Bounds.{most_legs};
 ghost use Rattle.z_types.specs.MergedOrder as merged_order;
 ghost use Rattle.z_types.specs.MergedOrder.{merged, of_rank, place_at};
 
 use crate::ranks::{Rank, rank_at};
-
-/// The most legs of a request.
-const MOST_LEGS: usize = 16;
+use z_types::MOST_LEGS;
 
 /// The leg, counted from 0, and the rank, from 1, of the record at a position from 1 of the merged
 /// order of legs with these hits. It takes as long for many hits as for few.
 pub fn locate(hits: &[u32], position: u32) -> (u32, u32)
-    requires few { length hits.now ≤ 16 }
+    requires few { length hits.now ≤ most_legs }
     requires counted { 0 < position }
     requires within { position ≤ merged_order.total hits.now }
     ensures { slice_get (merged hits.now) (position - 1) ≡ Some (place_at result.0 result.1) }
@@ -24,7 +23,7 @@ pub fn locate(hits: &[u32], position: u32) -> (u32, u32)
 
 /// The rank of a position.
 fn rank_of(hits: &[u32], position: u32) -> Rank
-    requires few { length hits.now ≤ 16 }
+    requires few { length hits.now ≤ most_legs }
     requires counted { 0 < position }
     requires within { position ≤ sum hits.now }
     ensures rank { IsOfRank hits.now position result.number }
@@ -39,7 +38,7 @@ fn rank_of(hits: &[u32], position: u32) -> Rank
 
 /// The leg of the record of a rank that has `before` others of that rank before it.
 fn leg_at(hits: &[u32], rank: u32, before: u64) -> u32
-    requires few { length hits.now ≤ 16 }
+    requires few { length hits.now ≤ most_legs }
     requires within { before < length (of_rank hits.now rank) }
     ensures { slice_get (of_rank hits.now rank) before ≡ Some (place_at result rank) }
 {

@@ -2,6 +2,7 @@
 
 ghost use Rattle.std.specs.Prelude.{◌≡◌, ◌+◌, ◌-◌, ◌<◌, ◌≤◌, length, sum};
 ghost use Rattle.std.specs.List.Sorted.{IsNonDecreasing};
+ghost use Rattle.z_types.specs.Bounds.{most_legs};
 ghost use Rattle.multi_merge.specs.Ranks.{up_to, IsOfRank};
 
 /// A rank, from 1, and how many records of it stand before a position.
@@ -15,7 +16,7 @@ pub(crate) struct Rank {
 /// order one after another, and between two of them each rank has as many records as legs are left.
 pub(crate) fn rank_at(hits: &[u32], position: u32) -> Rank
     requires ascending { IsNonDecreasing hits.now }
-    requires few { length hits.now ≤ 16 }
+    requires few { length hits.now ≤ most_legs }
     requires counted { 0 < position }
     requires within { position ≤ sum hits.now }
     ensures rank { IsOfRank hits.now position result.number }

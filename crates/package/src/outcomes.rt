@@ -2,6 +2,7 @@
 
 ghost use Rattle.std.specs.Prelude.{◌≡◌, ◌+◌, ◌<◌, ◌≤◌, length, IfOk, if◌then◌else◌, nat_le};
 ghost use Rattle.std.specs.Option.{option_copied};
+ghost use Rattle.z_types.specs.Bounds.{most_legs};
 ghost use Rattle.z_types.specs.MergedOrder as merged_order;
 ghost use Rattle.z_types.specs.Shown.{shown};
 ghost use Rattle.gateway_rules.specs.Given.{returned};
@@ -78,7 +79,7 @@ fn search<T: Targets>(
         syntax: syntax.as_ref(),
         element: element_shown(all, *small, small_element, medium_element),
     };
-    let count = shown(all, *small, *large, *medium);
+    let count = shown_count(all, *small, *large, *medium);
     let fetched = fetch_shown(alloc, route, targets, wanted, &hits, count, *room)?;
     Ok(Outcome::Found { hits, fetched })
 }
@@ -136,7 +137,7 @@ fn element_shown<'a>(
 }
 
 /// How many records a Search of `count` hits shows (ANSI/NISO Z39.50-2003, 3.2.2).
-fn shown(count: u32, small: u32, large: u32, medium: u32) -> u32
+fn shown_count(count: u32, small: u32, large: u32, medium: u32) -> u32
     ensures shown { result ≡ shown count small large medium }
     ensures within { result ≤ count }
 {
@@ -160,7 +161,7 @@ fn fetch_shown<T: Targets>(
     count: u32,
     room: u32,
 ) -> Result<Fetched, Memory>
-    requires few { length hits.now ≤ 16 }
+    requires few { length hits.now ≤ most_legs }
     requires within { count ≤ merged_order.total hits.now }
     ensures records { IfOk result (λ fetched. fetched
         ≡ within_room room count (whole
@@ -189,7 +190,7 @@ fn fetch<T: Targets>(
     first: u32,
     count: u32,
 ) -> Result<Fetched, Memory>
-    requires few { length hits.now ≤ 16 }
+    requires few { length hits.now ≤ most_legs }
     requires counted { 0 < first }
     requires within { first + count ≤ merged_order.total hits.now + 1 }
     ensures records { IfOk result (λ fetched. fetched

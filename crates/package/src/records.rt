@@ -2,6 +2,7 @@
 
 ghost use Rattle.std.specs.Prelude.{◌≡◌, ◌+◌, ◌<◌, ◌≤◌, ◌++◌, length, OnOk, option_to_list};
 ghost use Rattle.std.specs.Option.{option_copied};
+ghost use Rattle.z_types.specs.Bounds.{most_legs};
 ghost use Rattle.z_types.specs.MergedOrder as merged_order;
 ghost use Rattle.z_types.specs.MergedOrder.{place_at};
 ghost use Rattle.gw_outside.specs.Targets.{AnswersAs};
@@ -40,7 +41,7 @@ pub(crate) fn records_from<T: Targets>(
     first: u32,
     count: u32,
 ) -> TargetAnswer<List<NamedRecord>>
-    requires few { length hits.now ≤ 16 }
+    requires few { length hits.now ≤ most_legs }
     requires counted { 0 < first }
     requires within { first + count ≤ merged_order.total hits.now + 1 }
     ensures { AnswersAs result
@@ -101,14 +102,14 @@ fn record_at<T: Targets>(
         ..
     } = wanted;
     match targets.record_(alloc, leg.address, leg.dbs, query, rank, syntax, element) {
-        TargetAnswer::Good(item) => named(&leg.database.name, item),
+        TargetAnswer::Good(item) => with_name(&leg.database.name, item),
         TargetAnswer::Refused(diag) => TargetAnswer::Refused(diag),
         TargetAnswer::Memory => TargetAnswer::Memory,
     }
 }
 
 /// A record under its virtual database's name.
-fn named(name: &Text, item: Item) -> TargetAnswer<Option<NamedRecord>>
+fn with_name(name: &Text, item: Item) -> TargetAnswer<Option<NamedRecord>>
     ensures { AnswersAsAny result
         (Some (Ok (record { name = Some name.now; item = item }))) }
 {

@@ -12,21 +12,21 @@ use pool_sets::{Open, Pooled, Seat, Stand};
 use z_types::{Address, SetKey, Sitting, World};
 
 /// Whether an address is one of these.
-pub fn is_among(at: &[Address], address: &Address) -> bool
+fn is_among(at: &[Address], address: &Address) -> bool
     ensures { result ≡ is_among at.now address.now }
 {
     at.iter().any(|a| *a == *address)
 }
 
 /// Whether a spot's address is one of these.
-pub fn is_spot_among(at: &[Address], spot: &Spot) -> bool
+fn is_spot_among(at: &[Address], spot: &Spot) -> bool
     ensures { result ≡ is_among at.now spot.now }
 {
     at.iter().any(|a| spot.is(a))
 }
 
 /// Whether the session is one of the class.
-pub fn is_in_class<W: World, S: Sitting<W>>(
+fn is_in_class<W: World, S: Sitting<W>>(
     session: &Open<Pooled<W, S>, Spot>,
     class: u32,
     at: &[Address],
@@ -43,7 +43,7 @@ pub fn is_in_class<W: World, S: Sitting<W>>(
 }
 
 /// Whether the session is idle and one of the class.
-pub fn is_idle_in<W: World, S: Sitting<W>>(
+fn is_idle_in<W: World, S: Sitting<W>>(
     session: &Open<Pooled<W, S>, Spot>,
     class: u32,
     at: &[Address],
@@ -54,7 +54,7 @@ pub fn is_idle_in<W: World, S: Sitting<W>>(
 }
 
 /// Whether the session is idle and one of the class, and holds a set of the key.
-pub fn holds_in<W: World, S: Sitting<W>>(
+fn holds_in<W: World, S: Sitting<W>>(
     session: &Open<Pooled<W, S>, Spot>,
     class: u32,
     at: &[Address],

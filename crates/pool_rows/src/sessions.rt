@@ -24,7 +24,7 @@ pub(crate) fn key_for(alloc: Global, number: i64) -> Result<SetKey, Memory>
 }
 
 /// A session at an address, which rests.
-pub(crate) fn open_at<W: World, B: Backend<W>>(
+fn open_at<W: World, B: Backend<W>>(
     alloc: Global,
     backend: &mut B,
     address: &Address,

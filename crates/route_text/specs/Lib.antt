@@ -9,4 +9,4 @@ pub mod RouteOf
 pub mod Configuration
 pub mod Reads
 pub mod Sizes
-pub mod Faults
+pub mod Fault

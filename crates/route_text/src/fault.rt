@@ -2,7 +2,7 @@
 
 ghost use Rattle.std.specs.Prelude.{◌≡◌, IfOk};
 ghost use Rattle.route_text.specs.declared.fault.RouteFault.TheVariants.{Memory as no_memory};
-ghost use Rattle.route_text.specs.Faults.{spaced};
+ghost use Rattle.route_text.specs.Fault.{spaced};
 
 use std::alloc::Global;
 use z_types::{Memory, Text, copy};
@@ -34,7 +34,7 @@ pub enum RouteFault {
 }
 
 impl RouteFault {
-    ghost use Rattle.route_text.specs.Faults.{fault_number, fault_text};
+    ghost use Rattle.route_text.specs.Fault.{fault_number, fault_text};
 
     /// The number of the refusal, 1 to 9, and 0 for want of memory.
     pub fn number(&self) -> u32
@@ -63,12 +63,12 @@ impl RouteFault {
             RouteFault::Toml => Text::copy_of(alloc, b"toml"),
             RouteFault::Missing(path) => copy(path),
             RouteFault::WrongKind(path) => copy(path),
-            RouteFault::OutOfRange(path, value) => spaced(path, value.as_slice()),
+            RouteFault::OutOfRange(path, value) => join_by_space(path, value.as_slice()),
             RouteFault::Twice(name) => copy(name),
             RouteFault::NoSuchTarget(name) => copy(name),
             RouteFault::TooMany(path, count) => {
                 let digits = format!(in alloc; "{count}")?;
-                spaced(path, digits.as_bytes())
+                join_by_space(path, digits.as_bytes())
             }
             RouteFault::TtlOrder => Text::copy_of(alloc, b"pool.set_ttl"),
             RouteFault::Unknown(path) => copy(path),
@@ -78,7 +78,7 @@ impl RouteFault {
 }
 
 /// A text, a space and another.
-fn spaced(one: &Text, other: &[u8]) -> Result<Text, Memory>
+fn join_by_space(one: &Text, other: &[u8]) -> Result<Text, Memory>
     ensures { IfOk result (λ text. text ≡ spaced one.now other.now) }
 {
     let mut text = copy(one)?;

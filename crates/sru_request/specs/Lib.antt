@@ -1,6 +1,6 @@
 pub mod Head
 pub mod Request
-pub mod Numbers
+pub mod Faults
 pub mod Name
 pub mod Parameters
 pub mod Choices

@@ -7,14 +7,14 @@ use crate::number::number_in;
 use z_types::Schema;
 
 /// The most records of a reply.
-const MOST_RECORDS: u32 = 100;
+const MOST_MAXIMUM_RECORDS: u32 = 100;
 
 /// How many records at most.
 pub(crate) fn maximum_in(value: &[u8]) -> Option<u32>
     ensures { result ≡ maximum_in value.now }
 {
     match number_in(0, 10, value) {
-        Some(number) => Some(number.min(MOST_RECORDS)),
+        Some(number) => Some(number.min(MOST_MAXIMUM_RECORDS)),
         None => None,
     }
 }

@@ -3,7 +3,7 @@
 ghost use Rattle.std.specs.Prelude.{◌≡◌};
 ghost use Rattle.sru_request.specs.declared.faults.HeadFault.TheVariants.{Memory as no_head_memory};
 ghost use Rattle.sru_request.specs.declared.faults.QueryFault.TheVariants.{Memory as no_query_memory};
-ghost use Rattle.sru_request.specs.Numbers.{number_of};
+ghost use Rattle.sru_request.specs.Faults.{fault_number};
 
 use z_types::{Memory, SruDiag};
 
@@ -23,7 +23,7 @@ pub enum HeadFault {
 impl HeadFault {
     /// The number of the refusal, 1 to 3 in the order above; 0 for want of memory, which is none.
     pub fn number(self) -> u32
-        ensures { result ≡ number_of self }
+        ensures { result ≡ fault_number self }
     {
         match self {
             HeadFault::BadHttp => 1,

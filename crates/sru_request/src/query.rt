@@ -102,7 +102,7 @@ fn check_rest(alloc: Global, given: &[Parameter]) -> Result<(), QueryFault>
 }
 
 /// What is asked for, with the version and the query of its own.
-fn asked(
+fn make_query(
     alloc: Global,
     given: &[Parameter],
     window: Window,
@@ -141,7 +141,7 @@ fn read_query(
     let window = read_window(alloc, given)?;
     let layout = read_layout(alloc, given, schemas)?;
     check_rest(alloc, given)?;
-    Ok(asked(alloc, given, window, layout)?)
+    Ok(make_query(alloc, given, window, layout)?)
 }
 
 /// What a request asks for, by the parameters of its query: of a repeated one the first counts, and

@@ -7,7 +7,7 @@ use Rattle.std.proofs.lemmas.List.FromFn.{take-map-range_with_len}
 use Rattle.std.proofs.lemmas.Option.{slice_get-map, slice_get-get_or}
 use Rattle.z_types.specs.Tree.{Tree}
 use Rattle.z_types.specs.declared.key.SetKey.{SetKey}
-use Rattle.test_target.specs.declared.places.Place.{Place}
+use Rattle.test_target.specs.declared.places.Location.{Location}
 use Rattle.test_target.specs.Databases.{size_of}
 use Rattle.test_target.specs.Searches.{finds, found_in}
 use Rattle.test_target.specs.Places.{places, places_of, of_database, marked}
@@ -54,7 +54,7 @@ places_of-marks n tree name =
 pub places_by_marks : (n : ℕ) (key : SetKey)
     → flat_map (places_of n (map (finds n key.query.root) (range_with_len 1 99))) key.dbs ≡ places n key
 places_by_marks n key =
-    ap (λ (f : List ℕ → List Place). flat_map f key.dbs) (λ i name. places_of-marks n key.query.root name i)
+    ap (λ (f : List ℕ → List Location). flat_map f key.dbs) (λ i name. places_of-marks n key.query.root name i)
 
 -- ---- a place among those of several databases
 
@@ -69,11 +69,11 @@ slice_get_right (y ∷ xs) ys zero j e = absurd (omega (arith, e))
 slice_get_right (y ∷ xs) ys (suc i) j e = slice_get_right xs ys i j (omega (arith, e))
 
 -- a record of a database
-abbrev pub place_in : List ℕ → ℕ → Place
+abbrev pub place_in : List ℕ → ℕ → Location
 place_in name number = record { name = name; number = number }
 
 -- the next database has it
-pub place_here : (f : List ℕ → List Place) (names : List (List ℕ)) (i left : ℕ) (name : List ℕ) (number : ℕ) (numbers : List ℕ)
+pub place_here : (f : List ℕ → List Location) (names : List (List ℕ)) (i left : ℕ) (name : List ℕ) (number : ℕ) (numbers : List ℕ)
     → i < length names → get_or names i name ≡ name → of_database name numbers ≡ f name → left < length numbers
     → get_or numbers left 0 ≡ number
     → slice_get (flat_map f (drop i names)) left ≡ Some (record { name = name; number = number })
@@ -86,11 +86,11 @@ place_here f names i left name number numbers h e of within is =
     ∙ slice_get_left (f name) (flat_map f (drop (i + 1) names)) left _ (rw of at there)
 
 -- the next database does not have it
-pub place_behind : (f : List ℕ → List Place) (names : List (List ℕ)) (i left more : ℕ) (name : List ℕ) (numbers : List ℕ)
+pub place_behind : (f : List ℕ → List Location) (names : List (List ℕ)) (i left more : ℕ) (name : List ℕ) (numbers : List ℕ)
     → i < length names → get_or names i name ≡ name → of_database name numbers ≡ f name → left ≡ length numbers + more
     → slice_get (flat_map f (drop i names)) left ≡ slice_get (flat_map f (drop (i + 1) names)) more
 place_behind f names i left more name numbers h e of is =
-    let long : length (f name) ≡ length numbers = ap (λ (l : List Place). length l) (sym of) ∙ length-map numbers (place_in name) in
+    let long : length (f name) ≡ length numbers = ap (λ (l : List Location). length l) (sym of) ∙ length-map numbers (place_in name) in
     ap (λ (l : List (List ℕ)). slice_get (flat_map f l) left) (drop_more names i name h)
     ∙ ap (λ (l : List ℕ). slice_get (f l ++ flat_map f (drop (i + 1) names)) left) e
     ∙ slice_get_right (f name) (flat_map f (drop (i + 1) names)) left more (omega (arith, long, is))

@@ -9,19 +9,19 @@ use Rattle.z_types.specs.Bib1.{bib1}
 use Rattle.z_types.specs.declared.conditions.Condition.TheVariants.{TemporarySystemError, PresentRequestOutOfRange, ElementSetNameNotValid}
 use Rattle.gw_outside.specs.declared.targets.TargetAnswer.{TargetAnswer}
 use Rattle.gw_outside.specs.declared.targets.TargetAnswer.TheVariants.{Good, Refused, Memory}
-use Rattle.test_target.specs.declared.places.Place.{Place}
+use Rattle.test_target.specs.declared.places.Location.{Location}
 use Rattle.test_target.specs.declared.syntaxes.Syntax.{Syntax}
 use Rattle.test_target.specs.Databases.{same_name}
 use Rattle.test_target.specs.Places.{places}
 use Rattle.test_target.specs.Syntaxes.{syntax_in, in_syntax}
 
 -- the full text of a record: the target, the database and the record's number
-abbrev pub full_text : ℕ → Place → List ℕ
+abbrev pub full_text : ℕ → Location → List ℕ
 full_text n place =
     decimal n ++ 46 ∷ [] ++ place.name ++ 46 ∷ [] ++ decimal place.number
 
 -- the text of a record in an element set: F, dc and none are full, B is the number, and there is no other
-abbrev pub text_in : ℕ → Place → Option (List ℕ) → Result (List ℕ) Diag
+abbrev pub text_in : ℕ → Location → Option (List ℕ) → Result (List ℕ) Diag
 text_in n place None = Ok (full_text n place)
 text_in n place (Some element) =
     if same_name element (codes "F") || same_name element (codes "dc") then Ok (full_text n place)
@@ -34,18 +34,18 @@ IsShort (Refused diag) = Unit {0}
 IsShort Memory = Unit {0}
 
 -- record 13 of Default is a diagnostic in its place
-abbrev pub shown_at : Place → Item → Item
+abbrev pub shown_at : Location → Item → Item
 shown_at place item =
     if same_name place.name (codes "Default") && (place.number == 13) then Surrogate (bib1 TemporarySystemError (codes "13")) else item
 
 -- the record in its form, or the diagnostic of its syntax, or else of its element set
-abbrev pub written : Place → Result Syntax Diag → Result (List ℕ) Diag → Result Item Diag
+abbrev pub written : Location → Result Syntax Diag → Result (List ℕ) Diag → Result Item Diag
 written place (Err diag) text = Err diag
 written place (Ok syntax) (Err diag) = Err diag
 written place (Ok syntax) (Ok text) = Ok (shown_at place (in_syntax syntax text))
 
 -- what is answered for a place; there is none past the hits
-abbrev pub record_in : ℕ → Option Place → Option (List ℕ) → Option (List ℕ) → Result Item Diag
+abbrev pub record_in : ℕ → Option Location → Option (List ℕ) → Option (List ℕ) → Result Item Diag
 record_in n None syntax element = Err (bib1 PresentRequestOutOfRange [])
 record_in n (Some place) syntax element = written place (syntax_in syntax) (text_in n place element)
 

@@ -9,7 +9,7 @@ use Rattle.z_types.specs.declared.address.Address.TheVariants.{Test, Tcp}
 use Rattle.z_types.specs.declared.diagnostic.Diag.{Diag}
 use Rattle.test_target.specs.Databases.{same_name}
 use Rattle.test_target.specs.Searches.{answer_unless, database_fault, operand_fault}
-use Rattle.test_target.specs.declared.places.Place.{Place}
+use Rattle.test_target.specs.declared.places.Location.{Location}
 use Rattle.test_target.specs.declared.syntaxes.Syntax.{Syntax}
 use Rattle.test_target.specs.Places.{places}
 use Rattle.test_target.specs.Syntaxes.{syntax_in, xml, sutrs, same_oid}
@@ -32,7 +32,7 @@ either_not_gone : {T : Type 0} (b : Bool) (x y : Result T Diag) → NotGone x �
 either_not_gone true x y p q = p
 either_not_gone false x y p q = q
 
-text_not_gone : (n : ℕ) (place : Place) (element : Option (List ℕ)) → NotGone (text_in n place element)
+text_not_gone : (n : ℕ) (place : Location) (element : Option (List ℕ)) → NotGone (text_in n place element)
 text_not_gone n place None = tt
 text_not_gone n place (Some element) =
     either_not_gone (same_name element (codes "F") || same_name element (codes "dc")) _ _ tt
@@ -43,13 +43,13 @@ syntax_not_gone None = tt
 syntax_not_gone (Some syntax) =
     either_not_gone (same_oid syntax xml) _ _ tt (either_not_gone (same_oid syntax sutrs) _ _ tt refl)
 
-written_not_gone : (place : Place) (syntax : Result Syntax Diag) (text : Result (List ℕ) Diag) →
+written_not_gone : (place : Location) (syntax : Result Syntax Diag) (text : Result (List ℕ) Diag) →
     NotGone syntax → NotGone text → NotGone (written place syntax text)
 written_not_gone place (Err diag) text p q = p
 written_not_gone place (Ok syntax) (Err diag) p q = q
 written_not_gone place (Ok syntax) (Ok text) p q = tt
 
-record_not_gone : (n : ℕ) (place : Option Place) (syntax element : Option (List ℕ)) → NotGone (record_in n place syntax element)
+record_not_gone : (n : ℕ) (place : Option Location) (syntax element : Option (List ℕ)) → NotGone (record_in n place syntax element)
 record_not_gone n None syntax element = refl
 record_not_gone n (Some place) syntax element =
     written_not_gone place (syntax_in syntax) (text_in n place element) (syntax_not_gone syntax) (text_not_gone n place element)

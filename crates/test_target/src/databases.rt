@@ -9,12 +9,12 @@ use std::alloc::Global;
 use z_types::{Condition, Diag, List, Memory, Text, copy};
 
 /// The most records that a database of a test target has.
-pub(crate) const MOST_RECORDS: u32 = 99;
+pub(crate) const MOST_IN_DATABASE: u32 = 99;
 
 /// How many records the database of a name has, or `None` where there is no such database.
 pub(crate) fn size_of(target: u32, name: &Text) -> Option<u32>
     ensures value { result ≡ size_of target name.now }
-    ensures bound { IfSome result (λ size. size ≤ MOST_RECORDS) }
+    ensures bound { IfSome result (λ size. size ≤ MOST_IN_DATABASE) }
     ensures short { IfSome result (λ size. length name.now ≤ 7) }
 {
     let name = name.as_slice();

@@ -7,7 +7,7 @@ ghost use Rattle.z_types.specs.Tree.{leaf};
 ghost use Rattle.z_types.specs.declared.query.Term.TheVariants.{General};
 ghost use Rattle.test_target.specs.Searches.{finds, use_fault, operand_fault, found_of, hits};
 
-use crate::databases::{MOST_RECORDS, size_of};
+use crate::databases::{MOST_IN_DATABASE, size_of};
 use crate::operands::{is_use, letter_modulus, modulus, use_of};
 use std::alloc::Global;
 use z_types::{Attr, Condition, Diag, List, MOST_NUMBER, Memory, Node, Rpn, Text, copy};
@@ -49,10 +49,10 @@ pub(crate) fn use_fault(alloc: Global, value: u32) -> Result<Option<Diag>, Memor
     Ok(Some(Diag::bib1(alloc, Condition::UnsupportedUseAttribute, text)?))
 }
 
-/// Which of the records 1 to `MOST_RECORDS` a query finds.
+/// Which of the records 1 to `MOST_IN_DATABASE` a query finds.
 pub(crate) fn found(alloc: Global, target: u32, query: &Rpn) -> Result<Vec<bool>, Memory>
     ensures { IfOk result
-        (λ found. found.items ≡ map (finds target query.now) (range_with_len 1 MOST_RECORDS)) }
+        (λ found. found.items ≡ map (finds target query.now) (range_with_len 1 MOST_IN_DATABASE)) }
 {
     match &query.node {
         Node::Leaf(attrs, term) => {
@@ -83,10 +83,10 @@ fn found_by_operand(alloc: Global, target: u32, value: u32, every: u32) -> Resul
     requires { 0 < every }
     ensures { IfOk result
         (λ found. found.items
-        ≡ map (λ i. ((i + target + value) % every) == 0) (range_with_len 1 MOST_RECORDS)) }
+        ≡ map (λ i. ((i + target + value) % every) == 0) (range_with_len 1 MOST_IN_DATABASE)) }
 {
     let mut found = Vec::new(alloc);
-    for place in 0..MOST_RECORDS {
+    for place in 0..MOST_IN_DATABASE {
         let sum = u64::from(place) + 1 + u64::from(target) + u64::from(value);
         found.push(sum % u64::from(every) == 0)?;
     }
@@ -96,9 +96,9 @@ fn found_by_operand(alloc: Global, target: u32, value: u32, every: u32) -> Resul
 /// No record is found.
 fn none_found(alloc: Global) -> Result<Vec<bool>, Memory>
     ensures { IfOk result
-        (λ found. found.items ≡ map (λ i. false) (range_with_len 1 MOST_RECORDS)) }
+        (λ found. found.items ≡ map (λ i. false) (range_with_len 1 MOST_IN_DATABASE)) }
 {
-    Ok(vec![in alloc; false; MOST_RECORDS as usize]?)
+    Ok(vec![in alloc; false; MOST_IN_DATABASE as usize]?)
 }
 
 /// The records of both.
@@ -176,14 +176,14 @@ fn found_by_letter(
     ensures { IfOk result
         (λ found. found.items
         ≡ map (finds target (leaf attrs.now (General (letter ∷ []))))
-        (range_with_len 1 MOST_RECORDS)) }
+        (range_with_len 1 MOST_IN_DATABASE)) }
 {
     found_by_operand(alloc, target, use_of(attrs), letter_modulus(letter))
 }
 
 /// How many records of databases are found, at most `MOST_NUMBER`.
 fn count_hits(target: u32, found: &[bool], names: &List<Text>) -> u32
-    requires { length found.now ≡ MOST_RECORDS }
+    requires { length found.now ≡ MOST_IN_DATABASE }
     ensures { result ≡ min (sum_by (found_of target found.now) names.now) most_number }
 {
     let mut hits = 0;

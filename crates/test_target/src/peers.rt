@@ -89,7 +89,7 @@ fn answer(alloc: Global, peer: &mut Peer, request: &Request) -> Result<Reply, Me
         Request::Search(search) => search_reply(alloc, peer, search),
         Request::Present(present) => present_reply(alloc, peer, present),
         Request::Scan(scan) => scan_reply(alloc, peer.target, scan),
-        Request::Close(close) => finished(close),
+        Request::Close(close) => close_reply(close),
     }
 }
 
@@ -110,7 +110,7 @@ fn init_reply(init: &Init) -> Result<Reply, Memory>
 }
 
 /// The reply to a Close.
-fn finished(close: &Close) -> Result<Reply, Memory>
+fn close_reply(close: &Close) -> Result<Reply, Memory>
     ensures { IfOk result (λ reply. reply ≡ close_reply close.now) }
 {
     Ok(Reply::Close(Close {

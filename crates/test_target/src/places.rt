@@ -4,14 +4,14 @@ ghost use Rattle.std.specs.Prelude.{◌≡◌, ◌-◌, ◌<◌, ◌≤◌, ◌+
 ghost use Rattle.std.specs.List.{flat_map};
 ghost use Rattle.test_target.specs.Places.{places, places_of, of_database, marked};
 
-use crate::databases::{MOST_RECORDS, size_of};
+use crate::databases::{MOST_IN_DATABASE, size_of};
 use crate::hits::found;
 use std::alloc::Global;
 use z_types::{List, Memory, RpnQuery, Text, copy};
 
 /// A record of a database of a test target.
 #[derive(Drop)]
-pub(crate) struct Place {
+pub(crate) struct Location {
     /// The database's name.
     pub(crate) name: Text,
     /// The record's number in it, from 1.
@@ -25,7 +25,7 @@ pub(crate) fn place_at(
     names: &List<Text>,
     query: &RpnQuery,
     position: u32,
-) -> Result<Option<Place>, Memory>
+) -> Result<Option<Location>, Memory>
     ensures place { IfOk result (λ place. place
         ≡ slice_get (places target (record { dbs = names.now; query = query.now })) (position - 1)) }
     ensures short { IfOk result (λ place. IfSome place (λ p. length p.name ≤ 7)) }
@@ -48,8 +48,8 @@ fn find_place(
     found: &[bool],
     names: &List<Text>,
     before: u32,
-) -> Result<Option<Place>, Memory>
-    requires { length found.now ≡ MOST_RECORDS }
+) -> Result<Option<Location>, Memory>
+    requires { length found.now ≡ MOST_IN_DATABASE }
     ensures place { IfOk result (λ place. place
         ≡ slice_get (flat_map (places_of target found.now) names.now) before) }
     ensures short { IfOk result (λ place. IfSome place (λ p. length p.name ≤ 7)) }
@@ -59,7 +59,7 @@ fn find_place(
         let numbers = numbers_in(alloc, target, found, name)?;
         if left < numbers.len() {
             let number = numbers[left];
-            return Ok(Some(Place {
+            return Ok(Some(Location {
                 name: copy(name)?,
                 number,
             }));
@@ -71,7 +71,7 @@ fn find_place(
 
 /// The numbers of the records of a database that are marked.
 fn numbers_in(alloc: Global, target: u32, found: &[bool], name: &Text) -> Result<Vec<u32>, Memory>
-    requires { length found.now ≡ MOST_RECORDS }
+    requires { length found.now ≡ MOST_IN_DATABASE }
     ensures numbers { IfOk result (λ numbers. of_database name.now numbers.items
         ≡ places_of target found.now name.now) }
     ensures short { IfOk result
@@ -85,7 +85,7 @@ fn numbers_in(alloc: Global, target: u32, found: &[bool], name: &Text) -> Result
 
 /// The numbers of the records that are marked, from 1.
 fn numbers(alloc: Global, found: &[bool]) -> Result<Vec<u32>, Memory>
-    requires { length found.now ≤ MOST_RECORDS }
+    requires { length found.now ≤ MOST_IN_DATABASE }
     ensures { IfOk result (λ numbers. numbers.items ≡ marked 1 found.now) }
 {
     let mut numbers = Vec::new(alloc);

@@ -114,7 +114,7 @@ fn reply_from(
     match record_of(alloc, target, present, element, key, first) {
         TargetAnswer::Good(item) => {
             let mut records = List::new(alloc);
-            records.push(unnamed(item))?;
+            records.push(without_name(item))?;
             let left = present.number.min(MOST_GIVEN) - 1;
             give(
                 alloc,
@@ -172,7 +172,7 @@ fn give(
     }
     match record_of(alloc, target, present, element, key, position) {
         TargetAnswer::Good(item) => {
-            records.push(unnamed(item))?;
+            records.push(without_name(item))?;
             give(
                 alloc,
                 target,
@@ -190,7 +190,7 @@ fn give(
 }
 
 /// A record under no name.
-fn unnamed(item: Item) -> NamedRecord
+fn without_name(item: Item) -> NamedRecord
     ensures { result ≡ unnamed item }
 {
     NamedRecord { name: None, item }

@@ -10,7 +10,7 @@ ghost use Rattle.test_target.specs.Databases.{same_name};
 ghost use Rattle.test_target.specs.Syntaxes.{syntax_in, in_syntax};
 ghost use Rattle.test_target.specs.Records.{full_text, text_in, shown_at, written, record_at, IsShort};
 
-use crate::places::{Place, place_at};
+use crate::places::{Location, place_at};
 use crate::syntaxes::{Syntax, in_syntax, syntax_in};
 use gw_outside::TargetAnswer;
 use std::alloc::Global;
@@ -48,7 +48,7 @@ pub(crate) fn record_at(
 fn written(
     alloc: Global,
     target: u32,
-    place: &Place,
+    place: &Location,
     syntax: Option<&Oid>,
     element: Option<&Text>,
 ) -> TargetAnswer<Item>
@@ -59,7 +59,7 @@ fn written(
 {
     match syntax_in(alloc, syntax) {
         TargetAnswer::Good(syntax) => match text_in(alloc, target, place, element) {
-            TargetAnswer::Good(text) => TargetAnswer::good(shown(alloc, place, syntax, &text)),
+            TargetAnswer::Good(text) => TargetAnswer::good(show(alloc, place, syntax, &text)),
             TargetAnswer::Refused(diag) => TargetAnswer::Refused(diag),
             TargetAnswer::Memory => TargetAnswer::Memory,
         },
@@ -69,7 +69,12 @@ fn written(
 }
 
 /// The text of a record in an element set.
-fn text_in(alloc: Global, target: u32, place: &Place, element: Option<&Text>) -> TargetAnswer<Text>
+fn text_in(
+    alloc: Global,
+    target: u32,
+    place: &Location,
+    element: Option<&Text>,
+) -> TargetAnswer<Text>
     requires { length place.now.name ≤ 7 }
     ensures text { AnswersAs result (text_in target place.now (option_copied element.entry)) }
     ensures short { IsShort result }
@@ -109,7 +114,7 @@ fn decimal(alloc: Global, number: u32) -> Result<Text, Memory>
 }
 
 /// The full text of a record: the target, the database and the number.
-fn full_text(alloc: Global, target: u32, place: &Place) -> Result<Text, Memory>
+fn full_text(alloc: Global, target: u32, place: &Location) -> Result<Text, Memory>
     requires { length place.now.name ≤ 7 }
     ensures text { IfOk result (λ text. text ≡ full_text target place.now) }
     ensures short { IfOk result (λ text. length text < 128) }
@@ -123,7 +128,7 @@ fn full_text(alloc: Global, target: u32, place: &Place) -> Result<Text, Memory>
 }
 
 /// A record in its form, or the diagnostic that stands in its place.
-fn shown(alloc: Global, place: &Place, syntax: Syntax, text: &Text) -> Result<Item, Memory>
+fn show(alloc: Global, place: &Location, syntax: Syntax, text: &Text) -> Result<Item, Memory>
     requires { length text.now < 128 }
     ensures { IfOk result (λ item. item ≡ shown_at place.now (in_syntax syntax text.now)) }
 {

@@ -16,7 +16,7 @@ pub(crate) fn scan_reply(alloc: Global, target: u32, scan: &Scan) -> Result<Repl
     match &scan.ask {
         Asked::Bad(diag) => scan_failed(alloc, ref_id, copy(diag)?),
         Asked::Good(ask) => match scan_at(alloc, target, &scan.dbs, ask) {
-            TargetAnswer::Good(answer) => Ok(scanned(alloc, ref_id, answer)),
+            TargetAnswer::Good(answer) => Ok(scanned_reply(alloc, ref_id, answer)),
             TargetAnswer::Refused(diag) => scan_failed(alloc, ref_id, diag),
             TargetAnswer::Memory => Err(Memory),
         },
@@ -24,7 +24,7 @@ pub(crate) fn scan_reply(alloc: Global, target: u32, scan: &Scan) -> Result<Repl
 }
 
 /// The reply to a scan that found entries.
-fn scanned(alloc: Global, ref_id: Option<Text>, answer: ScanAnswer) -> Reply
+fn scanned_reply(alloc: Global, ref_id: Option<Text>, answer: ScanAnswer) -> Reply
     ensures { result ≡ scanned ref_id (Ok answer) }
 {
     Reply::Scan {

@@ -22,7 +22,7 @@ pub(crate) fn scan_answer(
     ensures { IfOk result (λ answer. answer ≡ scan_answer target names.now ask.now) }
 {
     let below = terms_below(alloc, &ask.term)?;
-    let wish = preferred(ask);
+    let wish = preferred_position(ask);
     let first = (below + 1).saturating_sub(wish as usize);
     let letters = window(&LETTERS, first, ask.number as usize);
     let entries = entries_of(alloc, target, names, &ask.attrs, letters)?;
@@ -59,7 +59,7 @@ fn letters_below(octets: &[u8]) -> usize
 }
 
 /// The position that is preferred for the asked term, within the number asked for.
-fn preferred(ask: &ScanAsk) -> u32
+fn preferred_position(ask: &ScanAsk) -> u32
     ensures { result ≡ preferred ask.now }
 {
     ask.position.unwrap_or(1).max(1).min(ask.number.max(1))

@@ -54,12 +54,12 @@ fn not_supported(alloc: Global, syntax: &Oid) -> Result<Diag, Memory>
     Diag::bib1(
         alloc,
         Condition::RecordSyntaxNotSupported,
-        dotted(alloc, syntax.arcs())?,
+        dotted_text(alloc, syntax.arcs())?,
     )
 }
 
 /// Numbers in decimal with full stops between them.
-fn dotted(alloc: Global, arcs: &[u32]) -> Result<Text, Memory>
+fn dotted_text(alloc: Global, arcs: &[u32]) -> Result<Text, Memory>
     ensures { IfOk result (λ text. text ≡ dotted arcs.now) }
 {
     let [first, rest @ ..] = arcs else {

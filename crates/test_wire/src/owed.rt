@@ -63,7 +63,7 @@ impl Owed {
     }
 
     /// Whether a look finds it. One that does not is counted.
-    pub(crate) fn comes(&mut self) -> bool
+    fn comes(&mut self) -> bool
         ensures reply { self.new.reply ≡ self.old.reply }
         ensures octets { self.new.octets ≡ self.old.octets }
         ensures looks { self.new.looks ≡ self.old.looks - 1 }

@@ -2,6 +2,7 @@
 use Rattle.std.specs.Prelude.{ℕ, ◌<◌, ◌^◌, pos, ℤ, Bool, true, false, List, [], Option, None, Some}
 use Rattle.z_ber.specs.declared.tag.Tag.{Tag}
 use Rattle.z_ber.specs.Written.{element, int_octets, bool_octets, bits_octets, oid_octets}
+use Rattle.unit_forms.specs.Tags as tag
 use Rattle.unit_forms.specs.Tags.{reference_id}
 
 -- the context tag of a number, around contents that are no elements
@@ -14,23 +15,23 @@ constructed number = record { class = 2; constructed = true; number = number }
 
 -- SEQUENCE (X.690, 8.9)
 abbrev pub sequence : Tag
-sequence = record { class = 0; constructed = true; number = 16 }
+sequence = record { class = 0; constructed = true; number = tag.sequence }
 
 -- the tag of an EXTERNAL (X.690, 8.18)
 abbrev pub external : Tag
-external = record { class = 0; constructed = true; number = 8 }
+external = record { class = 0; constructed = true; number = tag.external }
 
 -- the tag of an OBJECT IDENTIFIER (X.690, 8.19)
 abbrev pub object_identifier_tag : Tag
-object_identifier_tag = record { class = 0; constructed = false; number = 6 }
+object_identifier_tag = record { class = 0; constructed = false; number = tag.object_identifier }
 
 -- the tag of an INTEGER (X.690, 8.3)
 abbrev pub integer_tag : Tag
-integer_tag = record { class = 0; constructed = false; number = 2 }
+integer_tag = record { class = 0; constructed = false; number = tag.integer }
 
 -- the tag of a GeneralString (X.690, 8.23)
 abbrev pub general_string_tag : Tag
-general_string_tag = record { class = 0; constructed = false; number = 27 }
+general_string_tag = record { class = 0; constructed = false; number = tag.general_string }
 
 -- OBJECT IDENTIFIER
 abbrev pub object_identifier : List ℕ → List ℕ

@@ -1,4 +1,4 @@
--- The numbers of context tags, by the standard's names (ANSI/NISO Z39.50-2003, the definition of APDUs)
+-- The numbers of tags, by the standards' names: of the context class where nothing else is said (ANSI/NISO Z39.50-2003, the definition of APDUs)
 use Rattle.std.specs.Prelude.{ℕ}
 
 -- units (PDU)
@@ -288,3 +288,22 @@ octet_aligned = 1
 
 abbrev pub arbitrary : ℕ
 arbitrary = 2
+
+-- the universal class (X.690:2021, 8.3, 8.9, 8.18, 8.19, 8.23)
+abbrev pub integer : ℕ
+integer = 2
+
+abbrev pub object_identifier : ℕ
+object_identifier = 6
+
+abbrev pub external : ℕ
+external = 8
+
+abbrev pub sequence : ℕ
+sequence = 16
+
+abbrev pub visible_string : ℕ
+visible_string = 26
+
+abbrev pub general_string : ℕ
+general_string = 27

@@ -1,5 +1,5 @@
-//! The numbers of context tags, by the standard's names (ANSI/NISO Z39.50-2003, the definition of
-//! APDUs).
+//! The numbers of tags, by the standards' names: of the context class where nothing else is said
+//! (ANSI/NISO Z39.50-2003, the definition of APDUs).
 
 // units (PDU)
 pub const INIT_REQUEST: u32 = 20;
@@ -197,3 +197,16 @@ pub const SINGLE_ASN1_TYPE: u32 = 0;
 pub const OCTET_ALIGNED: u32 = 1;
 
 pub const ARBITRARY: u32 = 2;
+
+// the universal class (X.690:2021, 8.3, 8.9, 8.18, 8.19, 8.23)
+pub const INTEGER: u32 = 2;
+
+pub const OBJECT_IDENTIFIER: u32 = 6;
+
+pub const EXTERNAL: u32 = 8;
+
+pub const SEQUENCE: u32 = 16;
+
+pub const VISIBLE_STRING: u32 = 26;
+
+pub const GENERAL_STRING: u32 = 27;

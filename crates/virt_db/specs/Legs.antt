@@ -2,6 +2,7 @@
 use Rattle.std.specs.Prelude.{◌≡◌, ℕ, ◌==◌, not, List, [], ◌∷◌, length, Option, None, Some, option_map, option_and_then, filter, find}
 use Rattle.std.specs.Prelude.{flat_map, is_none, slice_get, nat_lt, Result, Ok, Err, if◌then◌else◌}
 use Rattle.std.specs.Str.{str_eq_ignore_ascii_case}
+use Rattle.z_types.specs.Bounds.{most_databases, most_legs}
 use Rattle.z_types.specs.declared.address.Address.{Address}
 use Rattle.route_config.specs.declared.route.Route.{Route}
 use Rattle.route_config.specs.declared.route.RouteLeg.{RouteLeg}
@@ -30,14 +31,6 @@ legs_behind (Some database) = database.legs
 -- the legs of the virtual databases of these names, in the order named
 abbrev pub legs_of : Route → List (List ℕ) → List ℕ
 legs_of route names = flat_map (λ name. legs_behind (database_named route name)) (distinct names)
-
--- the most databases of a request
-abbrev pub most_databases : ℕ
-most_databases = 16
-
--- the most legs of a request
-abbrev pub most_legs : ℕ
-most_legs = 16
 
 -- legs that are not too many
 abbrev pub few_legs : List ℕ → Result (List ℕ) DbFault

@@ -1,4 +1,4 @@
-pub mod Faults
+pub mod Fault
 pub mod Legs
 pub mod Names
 pub mod Lent

@@ -17,7 +17,7 @@ pub enum DbFault {
 }
 
 impl DbFault {
-    ghost use Rattle.virt_db.specs.Faults.{fault_number};
+    ghost use Rattle.virt_db.specs.Fault.{fault_number};
 
     /// The number of the refusal: 1 for `Unknown`, 2 for `TooMany`, and 0 for want of memory.
     pub fn number(&self) -> u32

@@ -3,7 +3,7 @@
 ghost use Rattle.std.specs.Prelude.{◌≡◌, ℕ, List, ◌∷◌, [], ◌++◌, not, find, IfOk, OnOk, is_none};
 ghost use Rattle.std.specs.Option.{option_copied};
 ghost use Rattle.route_config.specs.Lookup.{database_named};
-ghost use Rattle.virt_db.specs.Faults.{IsOrMemory};
+ghost use Rattle.virt_db.specs.Fault.{IsOrMemory};
 ghost use Rattle.virt_db.specs.Legs.{AreLegsOf, distinct, few_legs, first_unknown};
 ghost use Rattle.virt_db.specs.Names.{is_among, HasNames, legs_among, known_among};
 
@@ -11,13 +11,7 @@ use crate::DbFault;
 use route_config::{Route, database_named};
 use std::alloc::Global;
 use std::collections::BTreeSet;
-use z_types::{List, Memory, Text, copy};
-
-/// The most databases of a request.
-const MOST_DATABASES: u64 = 16;
-
-/// The most legs of a request.
-const MOST_LEGS: u64 = 16;
+use z_types::{List, MOST_DATABASES, MOST_LEGS, Memory, Text, copy};
 
 /// The places in the route of the legs that database names stand for: the legs of each virtual database
 /// in the order named. Case of ASCII letters makes no difference, and a name that was named before is
@@ -31,7 +25,7 @@ pub fn legs_of(alloc: Global, route: &Route, names: &List<Text>) -> Result<List<
     let databases = named.len() as u64;
     if databases == 0 {
         Err(DbFault::Unknown(Text::new(alloc)))
-    } else if databases > MOST_DATABASES {
+    } else if databases > MOST_DATABASES as u64 {
         Err(DbFault::TooMany(databases))
     } else {
         known_legs(alloc, route, named.as_slice())
@@ -110,7 +104,7 @@ fn test_legs(legs: List<u32>) -> Result<List<u32>, DbFault>
     ensures { result ≡ few_legs legs }
 {
     let count = legs.len() as u64;
-    if count > MOST_LEGS {
+    if count > MOST_LEGS as u64 {
         Err(DbFault::TooMany(count))
     } else {
         Ok(legs)

@@ -5,8 +5,8 @@ use Rattle.std.proofs.lemmas.Int.Digits.{number_digits_of, all_below_base_digits
 use Rattle.std.proofs.lemmas.Bool.{cases_lt, lt-ltb, le-ltb, eq-eqb, eqb-true}
 use Rattle.std.proofs.lemmas.List.{length-map, length-reverse, reverse-reverse, reverse-append}
 use Rattle.z_types.specs.equality.Tests.{both_true}
-use Rattle.z_ber.specs.Written.{mirror, unused_bits, bits_octets}
-use Rattle.z_ber.specs.Reading.{mirrored_number, bits_behind, bits_at}
+use Rattle.z_ber.specs.Written.{mirror, unused_bits, bits_octets, mirrored_number}
+use Rattle.z_ber.specs.Reading.{bits_behind, bits_at}
 use Rattle.z_ber.proofs.TagReading.{IsBytes, IsBytes-tail}
 use Rattle.z_ber.proofs.StrictReading.{same_digits}
 use Rattle.z_ber.proofs.ValueLaws.{mirrors_twice, all-reverse}

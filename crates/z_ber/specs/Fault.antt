@@ -4,9 +4,9 @@ use Rattle.z_ber.specs.declared.fault.BerFault.{BerFault}
 use Rattle.z_ber.specs.declared.fault.BerFault.TheVariants.{Short, BadTag, BadLength, TooLarge, TooDeep}
 
 -- each fault's place in their order
-abbrev pub number_of : BerFault → ℕ
-number_of Short = 1
-number_of BadTag = 2
-number_of BadLength = 3
-number_of (TooLarge n) = 4
-number_of TooDeep = 5
+abbrev pub fault_number : BerFault → ℕ
+fault_number Short = 1
+fault_number BadTag = 2
+fault_number BadLength = 3
+fault_number (TooLarge n) = 4
+fault_number TooDeep = 5

@@ -8,7 +8,7 @@ use Rattle.z_ber.specs.declared.fault.BerFault.TheVariants.{Short, BadTag, BadLe
 use Rattle.z_ber.specs.declared.step.Step.{Step}
 use Rattle.z_ber.specs.declared.step.Step.TheVariants.{End, Whole, Open}
 use Rattle.z_ber.specs.declared.tag.Tag.{Tag}
-use Rattle.z_ber.specs.Written.{mirror, unused_bits}
+use Rattle.z_ber.specs.Written.{mirrored_number, unused_bits}
 
 infixl 10 ◌>>=◌
 abbrev pub ◌>>=◌ : {A B : Type 0} → Result A BerFault → (A → Result B BerFault) → Result B BerFault
@@ -150,11 +150,6 @@ signed_at contents =
 -- the contents of an INTEGER of up to 8 octets
 unfoldable pub int_at : List ℕ → Option ℤ
 int_at contents = if is_fewest contents && nat_le (length contents) 8 then signed_at contents else None
-
--- the number whose octets stand from the last to the first, with their bits in turned order
-abbrev pub mirrored_number : List ℕ → ℕ
-mirrored_number [] = 0
-mirrored_number (octet ∷ rest) = mirrored_number rest * 256 + mirror octet
 
 -- the bits, where the count of unused bits and the count of octets are theirs
 abbrev pub bits_behind : ℕ → ℕ → ℕ → Option ℕ

@@ -62,6 +62,11 @@ mirror n =
     128 * (n % 2) + 64 * (n / 2 % 2) + 32 * (n / 4 % 2) + 16 * (n / 8 % 2)
     + 8 * (n / 16 % 2) + 4 * (n / 32 % 2) + 2 * (n / 64 % 2) + n / 128 % 2
 
+-- 8.6.2.1: the number of which bit 0 is the first bit of these octets
+abbrev pub mirrored_number : List ℕ → ℕ
+mirrored_number [] = 0
+mirrored_number (octet ∷ rest) = mirrored_number rest * 256 + mirror octet
+
 -- 8.6.2.2 and 11.2: how many bits of the last octet stand behind the last bit that is set
 unfoldable pub unused_bits : ℕ → ℕ
 unused_bits n = (8 - length (digits_of 2 n) % 8) % 8

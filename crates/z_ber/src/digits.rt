@@ -76,13 +76,13 @@ pub fn put_mirrored_digits(out: &mut Text, number: u64) -> Result<(), Memory>
     if number == 0 {
         return Ok(());
     }
-    out.push(mirrored((number % 256) as u8))?;
+    out.push(mirror((number % 256) as u8))?;
     put_mirrored_digits(out, number / 256)
 }
 
 /// The octet with its bits in turned order.
 #[tactic(auto, unfolding(crate::specs::Written::mirror))]
-pub fn mirrored(octet: u8) -> u8
+pub fn mirror(octet: u8) -> u8
     ensures { result ≡ mirror octet }
 {
     128 * (octet % 2)

@@ -1,6 +1,7 @@
 //! An element and its children, lent (X.690:2021, 8.1.1).
 
 ghost use Rattle.std.specs.Prelude.{◌≡◌, ◌≢◌, ◌<◌, ◌≤◌, [], IfOk, IfErr, Ok, Err};
+ghost use Rattle.z_types.specs.Bounds.{most_levels};
 ghost use Rattle.z_ber.specs.Due.{IsRefused};
 ghost use Rattle.z_ber.specs.Lent.{children_of, IsLentFrom, IsFirst, IsNext};
 ghost use Rattle.z_ber.specs.LentTree.{LeavesLess, LendsFirst, LendsNext, with_all_children};
@@ -11,6 +12,7 @@ use crate::frame::FRAME_MAX;
 use crate::place::element_size;
 use crate::{BerFault, Tag};
 use std::marker::Model;
+use z_types::MOST_LEVELS;
 
 /// An element, with the children that have not been lent yet. The outermost stands at level 1, and
 /// none at level 65.
@@ -24,13 +26,14 @@ pub struct Element<'a> {
 
 impl<'a> Model for Element<'a> {
     ghost use Rattle.std.specs.Prelude.{◌<◌};
+    ghost use Rattle.z_types.specs.Bounds.{most_levels};
     ghost use Rattle.z_ber.specs.Lent.{Lent};
 
     ghost Value = { Lent };
 
     ghost view = { λ e. record { tag = e.tag; body = e.body.now; left = e.left.now; levels = e.levels } };
 
-    ghost invariant = { λ e. e.levels < 64 };
+    ghost invariant = { λ e. e.levels < most_levels };
 }
 
 /// The octets of a constructed element's children; a primitive one has none.
@@ -45,7 +48,7 @@ fn children(tag: Tag, body: &[u8]) -> &[u8]
 #[inline(always)]
 fn lend(levels: u32, bytes: &[u8]) -> Result<(Element<'_>, &[u8]), BerFault>
     requires some { 0 < levels }
-    requires few { levels ≤ 64 }
+    requires few { levels ≤ most_levels }
     ensures lent { IfOk result (λ x. IsLentFrom levels bytes.now x.1.now x.0) }
     ensures refused { IfErr result (IsRefused levels bytes.now) }
 {
@@ -71,7 +74,7 @@ impl<'a> Element<'a> {
         ensures first { IsFirst bytes.now result }
         ensures tree { LendsFirst bytes.now result }
     {
-        match lend(64, bytes) {
+        match lend(MOST_LEVELS, bytes) {
             Ok((element, _)) => Ok(element),
             Err(fault) => Err(fault),
         }
@@ -87,7 +90,7 @@ impl<'a> Element<'a> {
         if octets.len() as u64 > FRAME_MAX {
             return Err(0);
         }
-        let size = match element_size(64, octets) {
+        let size = match element_size(MOST_LEVELS, octets) {
             Ok(size) => size,
             Err(at) => return Err(at),
         };

@@ -1,6 +1,7 @@
 //! How far elements of indefinite length go (X.690:2021, 8.1.3.6, 8.1.5).
 
 ghost use Rattle.std.specs.Prelude.{◌≡◌, ◌+◌, ◌-◌, ◌<◌, ◌≤◌, length, take, suc, IfOk, Ok, Err};
+ghost use Rattle.z_types.specs.Bounds.{most_levels};
 ghost use Rattle.z_ber.specs.Reading.{Gives, child_at, step_at, close_at, inside_at, IsAdvance, extent_at};
 
 use crate::read::read_header;
@@ -46,8 +47,8 @@ pub fn step(room: u32, bytes: &[u8]) -> Result<(Step, &[u8]), BerFault>
 /// One step on, where elements are open.
 fn advance(opened: u32, room: u32, bytes: &[u8]) -> Result<(u32, u32, &[u8]), BerFault>
     requires opened { 0 < opened }
-    requires few { opened + room ≤ 64 }
-    ensures few { IfOk result (λ x. x.0 + x.1 ≤ 64) }
+    requires few { opened + room ≤ most_levels }
+    ensures few { IfOk result (λ x. x.0 + x.1 ≤ most_levels) }
     ensures shorter { IfOk result (λ x. length x.2.now < length bytes.now) }
     ensures step { IsAdvance opened room bytes.now result }
 {
@@ -61,7 +62,7 @@ fn advance(opened: u32, room: u32, bytes: &[u8]) -> Result<(u32, u32, &[u8]), Be
 
 /// What follows the end of the elements that are open, where `room` levels are left in the innermost.
 fn close(mut opened: u32, mut room: u32, bytes: &[u8]) -> Result<&[u8], BerFault>
-    requires { opened + room ≤ 64 }
+    requires { opened + room ≤ most_levels }
     ensures { Gives (λ x. x.now) result (close_at (suc (length bytes.now)) opened room bytes.now) }
 {
     let mut rest = bytes;
@@ -80,7 +81,7 @@ fn close(mut opened: u32, mut room: u32, bytes: &[u8]) -> Result<&[u8], BerFault
 
 /// Tag, contents octets and what follows an element of indefinite length, behind its header.
 fn inside(tag: Tag, room: u32, body: &[u8]) -> Result<(Tag, &[u8], &[u8]), BerFault>
-    requires { room < 64 }
+    requires { room < most_levels }
     ensures { Gives (λ x. (x.0, x.1.now, x.2.now)) result
         (inside_at tag body.now (close_at (suc (length body.now)) 1 room body.now)) }
 {
@@ -106,7 +107,7 @@ fn inner(body: &[u8], rest: usize) -> &[u8]
 #[tactic(auto, unfolding(crate::specs::Reading::extent_at))]
 #[inline(always)]
 pub fn read_extent(room: u32, bytes: &[u8]) -> Result<(Tag, &[u8], &[u8]), BerFault>
-    requires { room < 64 }
+    requires { room < most_levels }
     ensures { Gives (λ x. (x.0, x.1.now, x.2.now)) result (extent_at room bytes.now) }
 {
     match read_header(bytes) {

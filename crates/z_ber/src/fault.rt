@@ -26,11 +26,11 @@ pub enum BerFault {
 }
 
 impl BerFault {
-    ghost use Rattle.z_ber.specs.Fault.{number_of};
+    ghost use Rattle.z_ber.specs.Fault.{fault_number};
 
     /// The fault's place in the order of the faults, from 1.
     pub fn number(&self) -> u32
-        ensures { result ≡ number_of self.now }
+        ensures { result ≡ fault_number self.now }
     {
         match self {
             BerFault::Short => 1,

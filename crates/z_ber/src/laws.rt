@@ -3,6 +3,8 @@
 
 ghost use Rattle.z_types.specs.OneValue.{HasOneValue};
 ghost use Rattle.z_types.specs.ReadAs.{IsAny};
+ghost use Rattle.z_ber.specs.Due.{StandsOn};
+ghost use Rattle.z_ber.specs.Frames.{IsFrame, HasOneSplit};
 ghost use Rattle.z_ber.specs.Laws.{ElementsHaveOneTree, ElementsHaveTheirRoot, FramesHaveOneExtent, IsReadBack, StreamsHaveOneSplit, WrittenChildrenAreLent, WrittenElementsAreApart, WrittenElementsAreFrames, WrittenElementsAreLent};
 ghost use Rattle.z_ber.specs.Place.{ElementsHaveNoPlace, ElementsHaveOnePlace, UnitHasNoPlace, UnitHasOnePlace};
 ghost use Rattle.z_ber.specs.Values.{IsBits, IsInteger, IsOid};
@@ -25,6 +27,16 @@ pub fn one_value()
 /// A stream is one list of frames of definite length, with one rest, however it is cut.
 pub fn one_split()
     ensures { StreamsHaveOneSplit }
+{}
+
+/// A scan that stands in octets stands in any longer ones too.
+pub fn stands_on()
+    ensures { StandsOn }
+{}
+
+/// A stream is one list of frames, with one rest, however it is cut.
+pub fn one_split_of_frames()
+    ensures { HasOneSplit IsFrame }
 {}
 
 /// Octets have at most one tree, and no element is a proper prefix of another.

@@ -2,11 +2,13 @@
 
 ghost use Rattle.std.specs.Prelude.{◌≡◌, ◌-◌, ◌<◌, ◌≤◌, length, true, false, Some, IfOk, IfErr};
 ghost use Rattle.std.specs.Bool.{MatchBool};
+ghost use Rattle.z_types.specs.Bounds.{most_levels};
 ghost use Rattle.z_ber.specs.Element.{HaveEnded};
 ghost use Rattle.z_ber.specs.Place.{IsElementOf, IsElementsAnswer, IsPlace, IsPlaceAmong};
 ghost use Rattle.z_ber.specs.Walking.{AreClosedAt, AreSomeElements, MayBegin, IsHeaderFound};
 
 use crate::{Header, header};
+use z_types::MOST_LEVELS;
 
 /// The header that stands where an element is due, if the element can begin there: there is a level
 /// for it, and its contents do not pass the end of octets.
@@ -44,7 +46,7 @@ fn has_end(octets: &[u8]) -> bool
 #[cycle(walk)]
 #[inline(always)]
 fn size_behind(levels: u32, head: Header, octets: &[u8]) -> Result<usize, usize>
-    requires few { levels ≤ 64 }
+    requires few { levels ≤ most_levels }
     requires begins { MayBegin levels octets.now head }
     ensures element { IfOk result (IsElementOf levels octets.now) }
     ensures some { IfOk result (λ size. 0 < size) }
@@ -86,7 +88,7 @@ fn has_all(head: Header, octets: &[u8]) -> bool
 /// one of them.
 #[cycle(walk)]
 fn are_elements(levels: u32, octets: &[u8]) -> Result<(), usize>
-    requires { levels ≤ 64 }
+    requires { levels ≤ most_levels }
     ensures elements { IfOk result (λ _. AreSomeElements levels octets.now) }
     ensures place { IfErr result (IsPlaceAmong false levels octets.now) }
     ensures inside { IfErr result (λ at. at ≤ length octets.now) }
@@ -114,7 +116,7 @@ fn are_elements(levels: u32, octets: &[u8]) -> Result<(), usize>
 /// they are none. Elements of indefinite length in them are counted and not called for.
 #[cycle(walk)]
 fn closed_size(levels: u32, octets: &[u8]) -> Result<usize, usize>
-    requires { levels ≤ 64 }
+    requires { levels ≤ most_levels }
     ensures closed { IfOk result (AreClosedAt levels octets.now) }
     ensures place { IfErr result (IsPlaceAmong true levels octets.now) }
     ensures inside { IfErr result (λ at. at ≤ length octets.now) }
@@ -149,7 +151,7 @@ fn closed_size(levels: u32, octets: &[u8]) -> Result<usize, usize>
 /// How many octets the element takes that octets begin with; or the place where they begin with
 /// none.
 pub(crate) fn element_size(levels: u32, octets: &[u8]) -> Result<usize, usize>
-    requires { levels ≤ 64 }
+    requires { levels ≤ most_levels }
     ensures element { IfOk result (IsElementOf levels octets.now) }
     ensures fits { IfOk result (λ size. size ≤ length octets.now) }
     ensures place { IfErr result (IsPlace levels octets.now) }
@@ -166,7 +168,7 @@ pub(crate) fn element_size(levels: u32, octets: &[u8]) -> Result<usize, usize>
 pub fn elements(octets: &[u8]) -> Result<(), usize>
     ensures { IsElementsAnswer octets.now result }
 {
-    match are_elements(64, octets) {
+    match are_elements(MOST_LEVELS, octets) {
         Ok(()) => Ok(()),
         Err(at) => Err(at),
     }

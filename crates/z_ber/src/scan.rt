@@ -2,8 +2,7 @@
 //! (X.690:2021, 8.1.3, 8.1.5).
 
 ghost use Rattle.std.specs.Prelude.{◌≡◌, ◌<◌, ◌≤◌, ℕ, List, Err};
-ghost use Rattle.z_ber.specs.Frames.{IsFrame, HasOneSplit};
-ghost use Rattle.z_ber.specs.Due.{Stands, StandsOn};
+ghost use Rattle.z_ber.specs.Due.{Stands};
 ghost use Rattle.z_ber.specs.FrameAnswer.{IsWholeAnswer, IsTooLarge};
 ghost use Rattle.z_ber.specs.Scanning.{ended, moved, stop, IsProgress, IsScanned};
 
@@ -33,7 +32,7 @@ pub enum Progress {
 }
 
 /// A scan goes on behind an element, or into one, if the frame has room for the ends of what is open.
-fn moved(passed: usize, opened: u32) -> Result<Progress, BerFault>
+fn move_on(passed: usize, opened: u32) -> Result<Progress, BerFault>
     ensures { result ≡ moved passed opened }
 {
     if is_small(passed as u64, 2 * u64::from(opened)) {
@@ -44,7 +43,7 @@ fn moved(passed: usize, opened: u32) -> Result<Progress, BerFault>
 }
 
 /// An element ends, and with the outermost the frame.
-fn ended(passed: usize, opened: u32) -> Progress
+fn end_element(passed: usize, opened: u32) -> Progress
     requires { 0 < opened }
     ensures { result ≡ ended passed opened }
 {
@@ -82,9 +81,9 @@ fn look(scan: Scan, bytes: &[u8]) -> Result<Progress, BerFault>
 {
     let rest = &bytes[scan.passed..];
     match step(MOST_LEVELS - scan.opened, rest) {
-        Ok((Step::End, after)) => Ok(ended(bytes.len() - after.len(), scan.opened)),
-        Ok((Step::Whole, after)) => moved(bytes.len() - after.len(), scan.opened),
-        Ok((Step::Open, after)) => moved(bytes.len() - after.len(), scan.opened + 1),
+        Ok((Step::End, after)) => Ok(end_element(bytes.len() - after.len(), scan.opened)),
+        Ok((Step::Whole, after)) => move_on(bytes.len() - after.len(), scan.opened),
+        Ok((Step::Open, after)) => move_on(bytes.len() - after.len(), scan.opened + 1),
         Err(fault) => Err(stop(bytes.len(), scan.opened, rest, fault)),
     }
 }
@@ -141,16 +140,6 @@ impl Scan {
         answer
     }
 }
-
-/// A scan that stands in octets stands in any longer ones too.
-pub fn stands_on()
-    ensures { StandsOn }
-{}
-
-/// A stream is one list of frames, with one rest, however it is cut.
-pub fn one_split_of_frames()
-    ensures { HasOneSplit IsFrame }
-{}
 
 /// The size of the frame that octets begin with: an element of definite length, whatever its
 /// contents are, or one of indefinite length with the frames in it.

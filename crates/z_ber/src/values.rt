@@ -3,11 +3,11 @@
 ghost use Rattle.std.specs.Prelude.{◌≡◌, ◌+◌, ◌-◌, ◌*◌, ◌^◌, ◌<◌, ◌≤◌, length};
 ghost use Rattle.std.specs.Int.Digits.{number_from_digits_after};
 ghost use Rattle.z_types.specs.ReadAs.{IsAny, IsReadAs};
-ghost use Rattle.z_ber.specs.Reading.{padded, is_fewest, positive_at, negative_at, signed_at, int_at, mirrored_number, bits_behind, bits_at};
+ghost use Rattle.z_ber.specs.Reading.{padded, is_fewest, positive_at, negative_at, signed_at, int_at, bits_behind, bits_at};
 ghost use Rattle.z_ber.specs.Values.{IsBits, IsInteger};
-ghost use Rattle.z_ber.specs.Written.{turned, bool_octets, int_octets, bits_octets};
+ghost use Rattle.z_ber.specs.Written.{turned, bool_octets, int_octets, bits_octets, mirrored_number};
 
-use crate::digits::{count_digits, mirrored};
+use crate::digits::{count_digits, mirror};
 use crate::read::padded_number;
 use crate::spell::unused_bits;
 
@@ -74,7 +74,7 @@ fn negative(number: u64) -> Option<i64>
 }
 
 /// Two's complement of up to 8 octets (8.3.3).
-fn signed(contents: &[u8]) -> Option<i64>
+fn read_signed(contents: &[u8]) -> Option<i64>
     requires { length contents.now ≤ 8 }
     ensures { result ≡ signed_at contents.now }
 {
@@ -90,7 +90,7 @@ fn read_int(contents: &[u8]) -> Option<i64>
     ensures { result ≡ int_at contents.now }
 {
     if is_fewest(contents) && contents.len() <= 8 {
-        signed(contents)
+        read_signed(contents)
     } else {
         None
     }
@@ -114,7 +114,7 @@ fn mirrored_number(octets: &[u8]) -> u64
 {
     match octets {
         [] => 0,
-        [octet, rest @ ..] => mirrored_number(rest) * 256 + u64::from(mirrored(*octet)),
+        [octet, rest @ ..] => mirrored_number(rest) * 256 + u64::from(mirror(*octet)),
     }
 }
 

@@ -1,6 +1,6 @@
 -- The diagnostics of SRU (SRU 1.2, the list of diagnostics, info:srw/diagnostic/1), and those that conditions of the bib-1 set are told as (ANSI/NISO Z39.50-2003, Appendix 4 ERR)
 use Rattle.std.specs.Prelude.{ℕ, List, [], ◌∷◌, codes}
-use Rattle.z_types.specs.Bib1.{number_of}
+use Rattle.z_types.specs.Bib1.{condition_number}
 use Rattle.z_types.specs.declared.conditions.Condition.TheVariants as condition
 use Rattle.z_bib1.specs.Table.{beside_or}
 
@@ -39,14 +39,14 @@ sru_text number = beside_or [] sru_texts number
 -- the conditions that SRU tells in a diagnostic of their own
 abbrev pub sru_numbers : List (ℕ × ℕ)
 sru_numbers =
-    (number_of condition.TemporarySystemError, 2)
-    ∷ (number_of condition.PresentRequestOutOfRange, 61)
-    ∷ (number_of condition.ElementSetNameNotValid, 66)
-    ∷ (number_of condition.MalformedQuery, 10)
-    ∷ (number_of condition.DatabaseUnavailable, 2)
-    ∷ (number_of condition.OperatorUnsupported, 37)
-    ∷ (number_of condition.UnsupportedUseAttribute, 16)
-    ∷ (number_of condition.RecordSyntaxNotSupported, 67)
+    (condition_number condition.TemporarySystemError, 2)
+    ∷ (condition_number condition.PresentRequestOutOfRange, 61)
+    ∷ (condition_number condition.ElementSetNameNotValid, 66)
+    ∷ (condition_number condition.MalformedQuery, 10)
+    ∷ (condition_number condition.DatabaseUnavailable, 2)
+    ∷ (condition_number condition.OperatorUnsupported, 37)
+    ∷ (condition_number condition.UnsupportedUseAttribute, 16)
+    ∷ (condition_number condition.RecordSyntaxNotSupported, 67)
     ∷ []
 
 -- the diagnostic of a condition: every other is a general system error

@@ -1,7 +1,7 @@
 //! Conditions of bib-1 as diagnostics of SRU.
 
 ghost use Rattle.std.specs.Prelude.{◌≡◌, ◌≢◌, nat_eq};
-ghost use Rattle.z_types.specs.Bib1.{bib1_diagnostics, number_of};
+ghost use Rattle.z_types.specs.Bib1.{bib1_diagnostics, condition_number};
 ghost use Rattle.z_bib1.specs.SruDiagnostics.{sru_of, sru_text};
 
 use crate::sets::is_of_bib1;
@@ -36,7 +36,7 @@ pub fn sru_of(condition: u32) -> u32
 
 /// Whether the number of a condition is that of a known one.
 fn is(condition: u32, known: Condition) -> bool
-    ensures { result ≡ nat_eq condition (number_of known) }
+    ensures { result ≡ nat_eq condition (condition_number known) }
 {
     condition == known.number()
 }

@@ -1,7 +1,8 @@
 -- How many octets a query takes when it is written: no more than it costs (ANSI/NISO Z39.50-2003, Query and RPNQuery)
 use Rattle.std.proofs.Common.{arith, ℕ, ◌+◌, ◌*◌, ◌^◌, ◌<◌, ◌≤◌, List, ◌++◌, length}
 use Rattle.std.specs.List.{AllByRecursion}
-use Rattle.z_types.specs.QueryMeasures.{node_cost, attribute_cost, term_cost, leaf_cost, tree_cost, most_cost}
+use Rattle.z_types.specs.QueryMeasures.{node_cost, attribute_cost, term_cost, leaf_cost, tree_cost}
+use Rattle.z_types.specs.Bounds.{most_query_cost}
 use Rattle.z_types.specs.Tree.{Tree, leaf, operand, and, or, and_not}
 use Rattle.z_types.specs.declared.query.Attr.{Attr}
 use Rattle.z_types.specs.declared.query.RpnQuery.{RpnQuery}
@@ -68,8 +69,8 @@ tree_within_cost (and_not l r) no_set readable small =
     (tree_within_cost l no_set.0 readable.0 (omega (arith, small))) (tree_within_cost r no_set.1 readable.1 (omega (arith, small)))
 
 -- a query takes its structure's octets, an identifier's and two headers'
-pub query_within : (query : RpnQuery) → HasNoSet query.root → IsReadableQuery query → tree_cost query.root ≤ most_cost → IsWithin 900173 (query_octets query)
+pub query_within : (query : RpnQuery) → HasNoSet query.root → IsReadableQuery query → tree_cost query.root ≤ most_query_cost → IsWithin 900173 (query_octets query)
 unfolding query_octets
 query_within query no_set readable cheap =
-    let root = wider most_cost cheap (tree_within_cost query.root no_set readable.1 (omega (arith, cheap))) in
+    let root = wider most_query_cost cheap (tree_within_cost query.root no_set readable.1 (omega (arith, cheap))) in
     tree_within tag.type_1_query (omega arith) (omega arith) (joined (object_identifier_within query.attr_set readable.0) root)

@@ -13,7 +13,7 @@ use Rattle.z_ber.specs.Values.{IsInteger, IsOid}
 use Rattle.z_ber.specs.Written.{element, tag_octets, length_octets, septets, bits_octets, bool_octets, mirror, int_octets, natural_octets, oid_octets}
 use Rattle.unit_forms.specs.Fields.{primitive, constructed, object_identifier, octets_field, integer_field, number_field, boolean_field, bits_field, identifier_field, tree_field, optional}
 
--- octets are at most so many
+-- octets are at most `most`
 pub record IsWithin (most : ℕ) (octets : List ℕ) : Type 0 where
   pub few : length octets ≤ most
 

@@ -2,8 +2,7 @@
 use Rattle.std.proofs.Common.{arith, ◌≡◌, ◌^◌, ◌<◌, ℕ, pos, List, [], ◌∷◌, Option, None, Some, Result, Ok, Err, IfOk, true, sym, subst}
 use Rattle.std.specs.Prelude.{IfSome}
 use Rattle.std.specs.List.{AllByRecursion}
-use Rattle.z_types.specs.Bounds.{most_unit_octets}
-use Rattle.z_types.specs.QueryMeasures.{most_cost}
+use Rattle.z_types.specs.Bounds.{most_unit_octets, most_query_cost}
 use Rattle.z_types.specs.Tree.{Tree, leaf, operand, and, or, and_not}
 use Rattle.z_types.specs.declared.ask.Ask.{Ask}
 use Rattle.z_types.specs.declared.ask.Ask.TheVariants.{Search, Present, Scan}
@@ -168,7 +167,7 @@ scan_ask_within : (dbs : List (List ℕ)) (ask : ScanAsk) → MayScan dbs ask �
 unfolding scan_ask_fields
 scan_ask_within dbs ask may readable =
     let set = optional_within IsOid object_identifier ask.attr_set object_identifier_within readable.attr_set in
-    let start = wider most_cost (omega (arith, may.cheap)) (plus_within ask.attrs ask.term readable.attrs readable.term (omega (arith, may.cheap))) in
+    let start = wider most_query_cost (omega (arith, may.cheap)) (plus_within ask.attrs ask.term readable.attrs readable.term (omega (arith, may.cheap))) in
     let index = tree_within tag.term_list_and_start_point (omega arith) (omega arith) start in
     let step = optional_within IsNumber (number_field tag.step_size) ask.step (λ n few. number_within tag.step_size n (omega arith) few) readable.step in
     let number = number_within tag.number_of_terms_requested ask.number (omega arith) readable.number in

@@ -13,7 +13,7 @@ use z_types::World;
 /// What has arrived.
 #[derive(Clone, Copy, PartialEq, Eq, Debug)]
 pub enum Arrival {
-    /// A unit of so many octets.
+    /// A unit: its number of octets.
     Unit(usize),
     /// No whole unit, and nothing at the last look.
     NotYet,

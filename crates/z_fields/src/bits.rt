@@ -1,13 +1,12 @@
 //! Contents of a BIT STRING, as they are read (X.690:2021, 8.6).
 
 ghost use Rattle.std.specs.Prelude.{◌≡◌, ◌^◌, ◌<◌, ◌≤◌, length, take};
-ghost use Rattle.z_ber.specs.Written.{mirror};
-ghost use Rattle.z_ber.specs.Reading.{mirrored_number};
+ghost use Rattle.z_ber.specs.Written.{mirror, mirrored_number};
 ghost use Rattle.unit_forms.specs.Reading.Contents.{bits_in, bits_that_count};
 
 /// An octet with its bits in turned order.
 #[tactic(auto, unfolding(z_ber::specs::Written::mirror))]
-fn mirrored(octet: u8) -> u8
+fn mirror(octet: u8) -> u8
     ensures { result ≡ mirror octet }
 {
     128 * (octet % 2)
@@ -28,7 +27,7 @@ fn mirrored_number(octets: &[u8]) -> u64
 {
     match octets {
         [] => 0,
-        [octet, rest @ ..] => mirrored_number(rest) * 256 + u64::from(mirrored(*octet)),
+        [octet, rest @ ..] => mirrored_number(rest) * 256 + u64::from(mirror(*octet)),
     }
 }
 

@@ -4,10 +4,7 @@ ghost use Rattle.std.specs.Prelude.{◌≡◌, ◌+◌, ◌^◌, ◌<◌, ◌≤
 ghost use Rattle.unit_forms.specs.Reading.Contents.{arcs_of, greatest_arc, arcs_after, oid_in};
 
 use std::alloc::Global;
-use z_types::{Memory, Oid};
-
-/// The most numbers of an object identifier.
-const MOST_ARCS: usize = 32;
+use z_types::{MOST_ARCS, Memory, Oid};
 
 /// The greatest number that may stand in a place: the first two numbers stand as one.
 fn greatest_arc(first: bool) -> u64

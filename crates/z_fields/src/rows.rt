@@ -1,7 +1,8 @@
 //! Kinds of fields (X.690:2021, 8.2 to 8.9, 8.19, 8.23), and rows of a table of fields.
 
 ghost use Rattle.std.specs.Prelude.{◌≡◌, [], ◌∷◌, IfOk};
-ghost use Rattle.unit_forms.specs.Reading.Rows.{context as context_tag, universal as universal_tag, octets_of as octets_in_field, bits_of as bits_in_field, truth_of as truth_in_field, integer_of as integer_in_field, number_of as number_in_field, oid_of as oid_in_field, required, required_of, optional, optional_of};
+ghost use Rattle.unit_forms.specs.Tags as numbers;
+ghost use Rattle.unit_forms.specs.Reading.Rows.{context as context_tag, universal as universal_tag, octets_of as octets_in_field, bits_of as bits_in_field, truth_of as truth_in_field, integer_of as integer_in_field, number_of as number_in_field, oid_of as oid_in_field, required, optional, optional_of, required_universal};
 
 use crate::bits::bits_in;
 use crate::elements::Field;
@@ -9,7 +10,7 @@ use crate::fields::Fields;
 use crate::integers::{integer_in, number_in, truth_in};
 use crate::oids::oid_in;
 use std::alloc::Global;
-use unit_forms::Refusal;
+use unit_forms::{Refusal, tags};
 use z_ber::Tag;
 use z_types::{Memory, Oid, Text};
 
@@ -178,12 +179,12 @@ pub fn optional_oid(
 /// The OBJECT IDENTIFIER with the universal tag, which has to be there.
 #[inline(always)]
 pub fn required_oid(alloc: Global, fields: &Fields<'_>) -> Result<Result<Oid, Refusal>, Memory>
-    ensures { IfOk result (λ read. read
-        ≡ required_of 6 (universal_tag 6 ∷ []) oid_in_field fields.now) }
+    ensures { IfOk result
+        (λ read. read ≡ required_universal numbers.object_identifier oid_in_field fields.now) }
 {
-    match fields.first_of(&[universal(6)]) {
+    match fields.first_of(&[universal(tags::OBJECT_IDENTIFIER)]) {
         Some(field) => oid_of(alloc, &field),
-        None => Ok(Err(Refusal::Missing(6))),
+        None => Ok(Err(Refusal::Missing(tags::OBJECT_IDENTIFIER))),
     }
 }
 

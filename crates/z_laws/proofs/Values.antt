@@ -9,8 +9,8 @@ use Rattle.std.proofs.lemmas.List.{length-map, length-reverse, reverse-reverse, 
 use Rattle.std.proofs.Math.Nat.{pow-le-pow_right, mod-eq_of_lt}
 use Rattle.z_types.specs.equality.Tests.{both_true}
 use Rattle.z_types.specs.Oid.{is_oid, has_root}
-use Rattle.z_ber.specs.Written.{septets, natural_octets, int_octets, bool_octets, bits_octets, mirror, unused_bits, oid_octets}
-use Rattle.z_ber.specs.Reading.{mirrored_number, is_fewest, int_at}
+use Rattle.z_ber.specs.Written.{septets, natural_octets, int_octets, bool_octets, bits_octets, mirror, unused_bits, oid_octets, mirrored_number}
+use Rattle.z_ber.specs.Reading.{is_fewest, int_at}
 use Rattle.z_ber.proofs.IntReading.{int_at-again}
 use Rattle.z_ber.proofs.BitsReading.{mirrored_number-digits}
 use Rattle.z_ber.proofs.ValueLaws.{number-natural_octets, natural_octets-sign, natural_octets-bytes, turned_twice, mirrors_twice, all-reverse, rooted}

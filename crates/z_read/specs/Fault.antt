@@ -7,13 +7,13 @@ use Rattle.z_read.specs.declared.fault.ReadFault.{ReadFault}
 use Rattle.z_read.specs.declared.fault.ReadFault.TheVariants.{Ber, UnknownUnit, Missing, BadValue, LeftOut, Memory}
 
 -- the fault's place in their order
-abbrev pub number_of : ReadFault → ℕ
-number_of (Ber at) = 1
-number_of (UnknownUnit n) = 2
-number_of (Missing n) = 3
-number_of (BadValue n) = 4
-number_of (LeftOut n) = 5
-number_of Memory = 6
+abbrev pub fault_number : ReadFault → ℕ
+fault_number (Ber at) = 1
+fault_number (UnknownUnit n) = 2
+fault_number (Missing n) = 3
+fault_number (BadValue n) = 4
+fault_number (LeftOut n) = 5
+fault_number Memory = 6
 
 -- the fault that a refusal is
 abbrev pub fault_of : Refusal → ReadFault

@@ -128,7 +128,7 @@ request_tags number =
     if number == numbers.init_request then contexts init_request_fields
     else (if number == numbers.search_request then contexts search_request_fields
     else (if number == numbers.present_request then contexts present_request_fields
-    else (if number == numbers.scan_request then universal 6 ∷ contexts scan_request_fields
+    else (if number == numbers.scan_request then universal numbers.object_identifier ∷ contexts scan_request_fields
     else contexts close_fields)))
 
 -- the tags of the fields of a reply, by the number of its own

@@ -3,6 +3,7 @@ use Rattle.std.specs.Prelude.{◌≡◌, ℕ, List, [], ◌∷◌, length, Bool,
 use Rattle.z_ber.specs.declared.tag.Tag.{Tag}
 use Rattle.z_ber.specs.Element.{Forest, none, leaf, branch}
 use Rattle.z_ber.specs.Place.{IsUnit}
+use Rattle.unit_forms.specs.Tags as numbers
 use Rattle.z_read.specs.declared.fault.ReadFault.{ReadFault}
 
 -- what an element holds: octets that are kept as they are, all lengths among them; other octets; an INTEGER; a BOOLEAN
@@ -53,13 +54,14 @@ abbrev pub holding : List ℕ → List ℕ → ℕ → Kind
 holding integers truths number =
     if is_among integers number then integer else (if is_among truths number then truth else octets)
 
--- what elements within a field hold: INTEGERs are an INTEGER itself and occurrences [2], attributes [120] and [121] and the numeric term [215]
+-- what elements within a field hold: INTEGERs are an INTEGER itself, whose number is that of occurrences too, the type and the value of an attribute and the numeric term
 abbrev pub inner_kind : ℕ → Kind
-inner_kind = holding (2 ∷ 120 ∷ 121 ∷ 215 ∷ []) []
+inner_kind =
+    holding (numbers.integer ∷ numbers.attribute_type ∷ numbers.attribute_value_numeric ∷ numbers.numeric_term ∷ []) []
 
--- an EXTERNAL (8) holds octets that are kept as they are
+-- an EXTERNAL holds octets that are kept as they are
 abbrev pub kind_in : ℕ → ℕ → Kind
-kind_in outer number = if outer == 8 then whole else inner_kind number
+kind_in outer number = if outer == numbers.external then whole else inner_kind number
 
 -- elements in one form
 abbrev pub in_one_form : (ℕ → Kind) → Forest → Forest
@@ -73,23 +75,37 @@ in_one_form kind (branch tag contents inner others) =
     (in_one_form (kind_in tag.number) inner)
     (in_one_form kind others)
 
--- what the fields of a request hold, by the number of its tag: initRequest, searchRequest, presentRequest, scanRequest, close; the number 6 of a scanRequest is also that of an OBJECT IDENTIFIER, and such elements are left as they are
+-- preferredMessageSize and exceptionalRecordSize of an Init and its reply
+abbrev pub sizes : List ℕ
+sizes = numbers.preferred_message_size ∷ numbers.exceptional_record_size ∷ []
+
+-- what the fields of a request hold, by the number of its tag; the number of numberOfTermsRequested is also that of an OBJECT IDENTIFIER, and such elements of a scanRequest are left as they are
 abbrev pub request_kind : ℕ → ℕ → Kind
 request_kind unit =
-    if unit == 20 then holding (5 ∷ 6 ∷ []) []
-    else (if unit == 22 then holding (13 ∷ 14 ∷ 15 ∷ []) (16 ∷ [])
-    else (if unit == 24 then holding (29 ∷ 30 ∷ []) []
-    else (if unit == 35 then holding (5 ∷ 7 ∷ []) []
-    else holding (211 ∷ []) [])))
+    if unit == numbers.init_request then holding sizes []
+    else if unit == numbers.search_request then
+    holding
+    (numbers.small_set_upper_bound ∷ numbers.large_set_lower_bound ∷ numbers.medium_set_present_number ∷ [])
+    (numbers.replace_indicator ∷ [])
+    else if unit == numbers.present_request then
+    holding (numbers.number_of_records_requested ∷ numbers.result_set_start_point ∷ []) []
+    else if unit == numbers.scan_request then
+    holding (numbers.step_size ∷ numbers.preferred_position_in_response ∷ []) []
+    else holding (numbers.close_reason ∷ []) []
 
--- what the fields of a reply hold: initResponse, searchResponse, presentResponse, scanResponse, close
+-- how many records a reply has, where the next one stands, and whether all came
+abbrev pub counts : List ℕ
+counts = numbers.number_of_records_returned ∷ numbers.next_result_set_position ∷ numbers.present_status ∷ []
+
+-- what the fields of a reply hold, by the number of its tag
 abbrev pub reply_kind : ℕ → ℕ → Kind
 reply_kind unit =
-    if unit == 21 then holding (5 ∷ 6 ∷ []) (12 ∷ [])
-    else (if unit == 23 then holding (23 ∷ 24 ∷ 25 ∷ 27 ∷ []) (22 ∷ [])
-    else (if unit == 25 then holding (24 ∷ 25 ∷ 27 ∷ []) []
-    else (if unit == 36 then holding (4 ∷ 5 ∷ 6 ∷ []) []
-    else holding (211 ∷ []) [])))
+    if unit == numbers.init_response then holding sizes (numbers.init_result ∷ [])
+    else if unit == numbers.search_response then holding (numbers.result_count ∷ counts) (numbers.search_status ∷ [])
+    else if unit == numbers.present_response then holding counts []
+    else if unit == numbers.scan_response then
+    holding (numbers.scan_status ∷ numbers.number_of_entries_returned ∷ numbers.position_of_term ∷ []) []
+    else holding (numbers.close_reason ∷ []) []
 
 -- two units with one tag, of which the elements are the same in one form
 pub record HaveOneForm (kinds : ℕ → ℕ → Kind) (a b : List ℕ) : Type 0 where

@@ -67,7 +67,7 @@ fn attr_of(alloc: Global, field: &Field<'_>) -> Result<Result<Asked<Attr>, Refus
     ensures { IfOk result (λ read. read ≡ attr_of field.now) }
 {
     let tag = field.tag();
-    if has_tag(tag, universal(16)) && tag.constructed {
+    if has_tag(tag, universal(tags::SEQUENCE)) && tag.constructed {
         attr_in(alloc, &Fields::of(alloc, field))
     } else {
         Ok(Err(Refusal::BadValue(tag.number)))

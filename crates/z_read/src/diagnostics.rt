@@ -2,33 +2,38 @@
 
 ghost use Rattle.std.specs.Prelude.{◌≡◌, [], ◌∷◌, IfOk};
 ghost use Rattle.std.specs.Fmt.{decimal};
-ghost use Rattle.unit_forms.specs.Reading.Rows.{octets_of as octets_in_field, number_of as number_in_field, universal as universal_tag, required_of};
+ghost use Rattle.unit_forms.specs.Tags as numbers;
+ghost use Rattle.unit_forms.specs.Reading.Rows.{octets_of as octets_in_field, number_of as number_in_field, universal as universal_tag, required_of, required_universal};
 ghost use Rattle.unit_forms.specs.Reading.Diagnostics.{diag_in, diag_of, other_query_type, other_form, proximity, specific_names, complex_composition, additional_ranges};
 
 use crate::each::Part;
 use std::alloc::Global;
-use unit_forms::Refusal;
+use unit_forms::{Refusal, tags};
 use z_fields::{Field, Fields, both, number_of, octets_of, required_oid, universal};
 use z_types::{Condition, Diag, Memory, Text};
 
 /// The condition of a diagnostic.
 fn condition_in(fields: &Fields<'_>) -> Result<u32, Refusal>
-    ensures { result ≡ required_of 2 (universal_tag 2 ∷ []) number_in_field fields.now }
+    ensures { result ≡ required_universal numbers.integer number_in_field fields.now }
 {
-    match fields.first_of(&[universal(2)]) {
+    match fields.first_of(&[universal(tags::INTEGER)]) {
         Some(field) => number_of(&field),
-        None => Err(Refusal::Missing(2)),
+        None => Err(Refusal::Missing(tags::INTEGER)),
     }
 }
 
 /// The additional information, a VisibleString or a GeneralString.
 fn addinfo_in(alloc: Global, fields: &Fields<'_>) -> Result<Result<Text, Refusal>, Memory>
-    ensures { IfOk result
-        (λ read. read ≡ required_of 27 (universal_tag 26 ∷ universal_tag 27 ∷ []) octets_in_field fields.now) }
+    ensures { IfOk result (λ read. read ≡ required_of numbers.general_string
+        (universal_tag numbers.visible_string ∷ universal_tag numbers.general_string ∷ [])
+        octets_in_field fields.now) }
 {
-    match fields.first_of(&[universal(26), universal(27)]) {
+    match fields.first_of(&[
+        universal(tags::VISIBLE_STRING),
+        universal(tags::GENERAL_STRING),
+    ]) {
         Some(field) => octets_of(alloc, &field),
-        None => Ok(Err(Refusal::Missing(27))),
+        None => Ok(Err(Refusal::Missing(tags::GENERAL_STRING))),
     }
 }
 

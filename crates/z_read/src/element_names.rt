@@ -25,7 +25,7 @@ fn name_of(alloc: Global, field: &Field<'_>) -> Result<Result<Asked<Text>, Refus
 
 /// Element set names, around one of the two.
 #[tactic(auto, unfolding(unit_forms::specs::Reading::ElementNames::names_in))]
-pub fn names_of(alloc: Global, field: &Field<'_>) -> Result<Result<Asked<Text>, Refusal>, Memory>
+fn names_of(alloc: Global, field: &Field<'_>) -> Result<Result<Asked<Text>, Refusal>, Memory>
     ensures { IfOk result (λ read. read ≡ names_of field.now) }
 {
     let tag = field.tag();

@@ -35,11 +35,11 @@ impl From<Memory> for ReadFault {
 }
 
 impl ReadFault {
-    ghost use Rattle.z_read.specs.Fault.{number_of};
+    ghost use Rattle.z_read.specs.Fault.{fault_number};
 
     /// The fault's place in the order in which faults are told, from 1; want of memory has 6.
     pub fn number(&self) -> u32
-        ensures { result ≡ number_of self.now }
+        ensures { result ≡ fault_number self.now }
     {
         match self {
             ReadFault::Ber(_) => 1,

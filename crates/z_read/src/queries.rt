@@ -94,7 +94,7 @@ fn operator_in(
 }
 
 /// Two structures that an operator joins.
-fn joined(alloc: Global, left: Rpn, right: Rpn, operator: Operator) -> Result<Rpn, Memory>
+fn join(alloc: Global, left: Rpn, right: Rpn, operator: Operator) -> Result<Rpn, Memory>
     ensures { IfOk result (λ query. query ≡ joined (left, (right, operator))) }
 {
     match operator {
@@ -116,7 +116,7 @@ fn join_asked(
     match left {
         Asked::Good(left) => match right {
             Asked::Good(right) => match operator {
-                Asked::Good(operator) => Ok(Asked::Good(joined(alloc, left, right, operator)?)),
+                Asked::Good(operator) => Ok(Asked::Good(join(alloc, left, right, operator)?)),
                 Asked::Bad(diag) => Ok(Asked::Bad(diag)),
             },
             Asked::Bad(diag) => Ok(Asked::Bad(diag)),
@@ -184,13 +184,13 @@ fn set_of(alloc: Global, found: Option<Field<'_>>) -> Result<Result<Oid, Refusal
 {
     match found {
         Some(field) => {
-            if has_tag(field.tag(), universal(6)) {
+            if has_tag(field.tag(), universal(tags::OBJECT_IDENTIFIER)) {
                 oid_of(alloc, &field)
             } else {
-                Ok(Err(Refusal::Missing(6)))
+                Ok(Err(Refusal::Missing(tags::OBJECT_IDENTIFIER)))
             }
         }
-        None => Ok(Err(Refusal::Missing(6))),
+        None => Ok(Err(Refusal::Missing(tags::OBJECT_IDENTIFIER))),
     }
 }
 

@@ -1,9 +1,9 @@
 //! Records, and what a response has in their place (ANSI/NISO Z39.50-2003, Records, NamePlusRecord;
 //! X.690:2021, 8.18).
 
-ghost use Rattle.std.specs.Prelude.{◌≡◌, ◌≢◌, ℕ, List, [], ◌∷◌, Some, None, IfOk, if◌then◌else◌};
+ghost use Rattle.std.specs.Prelude.{◌≡◌, ◌≢◌, ℕ, List, Some, None, IfOk, if◌then◌else◌};
 ghost use Rattle.unit_forms.specs.Tags as numbers;
-ghost use Rattle.unit_forms.specs.Reading.Rows.{required, required_of, within, universal as universal_tag};
+ghost use Rattle.unit_forms.specs.Reading.Rows.{required, required_of, within, required_universal};
 ghost use Rattle.unit_forms.specs.Reading.Diagnostics.{diag_of};
 ghost use Rattle.unit_forms.specs.Reading.Records.{is_single, encoding_choice, encoding_of, external_in, item_of, item_in, named_in, records_in, diags_in, body_of, body_in};
 
@@ -124,30 +124,30 @@ fn external_of(alloc: Global, field: &Field<'_>) -> Result<Result<Item, Refusal>
 /// The record in a field, an EXTERNAL.
 fn retrieved_of(alloc: Global, field: &Field<'_>) -> Result<Result<Item, Refusal>, Memory>
     ensures { IfOk result
-        (λ read. read ≡ within (required_of 8 (universal_tag 8 ∷ []) (within external_in)) field.now) }
+        (λ read. read ≡ within (required_universal numbers.external (within external_in)) field.now) }
 {
     let tag = field.tag();
     if !tag.constructed {
         return Ok(Err(Refusal::BadValue(tag.number)));
     }
-    match field.elements().first_of(&[universal(8)]) {
+    match field.elements().first_of(&[universal(tags::EXTERNAL)]) {
         Some(external) => external_of(alloc, &external),
-        None => Ok(Err(Refusal::Missing(8))),
+        None => Ok(Err(Refusal::Missing(tags::EXTERNAL))),
     }
 }
 
 /// The diagnostic in a field.
 fn surrogate_of(alloc: Global, field: &Field<'_>) -> Result<Result<Diag, Refusal>, Memory>
     ensures { IfOk result
-        (λ read. read ≡ within (required_of 16 (universal_tag 16 ∷ []) diag_of) field.now) }
+        (λ read. read ≡ within (required_universal numbers.sequence diag_of) field.now) }
 {
     let tag = field.tag();
     if !tag.constructed {
         return Ok(Err(Refusal::BadValue(tag.number)));
     }
-    match field.elements().first_of(&[universal(16)]) {
+    match field.elements().first_of(&[universal(tags::SEQUENCE)]) {
         Some(sequence) => diag_of(alloc, &sequence),
-        None => Ok(Err(Refusal::Missing(16))),
+        None => Ok(Err(Refusal::Missing(tags::SEQUENCE))),
     }
 }
 
@@ -221,7 +221,7 @@ pub fn diags_of(alloc: Global, field: &Field<'_>) -> Result<Result<List<Diag>, R
 {
     let tag = field.tag();
     if tag.constructed {
-        read_each(alloc, field.elements(), universal(16))
+        read_each(alloc, field.elements(), universal(tags::SEQUENCE))
     } else {
         Ok(Err(Refusal::BadValue(tag.number)))
     }
@@ -237,7 +237,7 @@ fn records_of(
 {
     let tag = field.tag();
     if tag.constructed {
-        read_each(alloc, field.elements(), universal(16))
+        read_each(alloc, field.elements(), universal(tags::SEQUENCE))
     } else {
         Ok(Err(Refusal::BadValue(tag.number)))
     }

@@ -46,9 +46,10 @@ fn required_start(
 
 /// The attribute set, where one is told.
 fn optional_set(alloc: Global, fields: &Fields<'_>) -> Result<Result<Option<Oid>, Refusal>, Memory>
-    ensures { IfOk result (λ read. read ≡ optional_of (universal_tag 6 ∷ []) oid_of fields.now) }
+    ensures { IfOk result (λ read. read
+        ≡ optional_of (universal_tag numbers.object_identifier ∷ []) oid_of fields.now) }
 {
-    optional_oid(alloc, fields, universal(6))
+    optional_oid(alloc, fields, universal(tags::OBJECT_IDENTIFIER))
 }
 
 /// The rows of what is asked for.

@@ -3,12 +3,12 @@ use Rattle.std.proofs.Common.{◌≡◌, ℕ, ◌<◌, ◌^◌, ◌-◌, List, [
 use Rattle.std.proofs.lemmas.Bool.Decides.{nat_tests}
 use Rattle.z_types.specs.declared.known_set.KnownSet.{KnownSet}
 use Rattle.z_types.specs.declared.query.RpnQuery.{RpnQuery}
-use Rattle.z_types.specs.Bounds.{most_query_depth}
+use Rattle.z_types.specs.Bounds.{most_query_depth, most_query_nodes, most_query_cost, within32, within64}
 use Rattle.z_types.specs.Tree.{Tree, tree_size, leaf, operand, and, or, and_not}
-use Rattle.z_types.specs.QueryMeasures.{tree_depth, tree_cost, most_nodes, most_cost, within32, within64}
+use Rattle.z_types.specs.QueryMeasures.{tree_depth, tree_cost, measures_of, joined}
 use Rattle.z_sets.specs.Sets.{StoredSet, stored, set_named, is_same}
 use Rattle.z_sets.specs.Expansion.{IsExpansion, expanded, then_bounded, bounded, under, substituted, in_place_of, inside}
-use Rattle.z_sets.specs.Measured.{IsOrMemory, measures_of, measures_in, joined, names_a_set, tested, then_tested, tested_expansion}
+use Rattle.z_sets.specs.Measured.{IsOrMemory, measures_in, names_a_set, tested, then_tested, tested_expansion}
 use Rattle.z_sets.specs.declared.fault.ExpandFault.{ExpandFault}
 use Rattle.z_sets.specs.declared.fault.ExpandFault.TheVariants.{UnknownSet, OtherLegs, TooLarge, TooDeep, TooCostly, Memory}
 use Rattle.z_sets.proofs.MeasureLemmas.{measures_of-inside, measures_of-and, measures_of-or, measures_of-and_not}
@@ -66,22 +66,22 @@ no_fault false false true x y z p r q h = cc
 no_fault false false false x y z p r q h = refl
 
 -- a structure as tested by its measures
-tested_bounds : (root : Tree) → tested (measures_of root) ≡ cond (nat_lt most_nodes (tree_size root)) (Err (TooLarge (within64 (tree_size root)))) (cond (nat_lt most_query_depth (tree_depth root)) (Err (TooDeep (within32 (tree_depth root)))) (cond (nat_lt most_cost (tree_cost root)) (Err (TooCostly (within64 (tree_cost root)))) (Ok tt)))
+tested_bounds : (root : Tree) → tested (measures_of root) ≡ cond (nat_lt most_query_nodes (tree_size root)) (Err (TooLarge (within64 (tree_size root)))) (cond (nat_lt most_query_depth (tree_depth root)) (Err (TooDeep (within32 (tree_depth root)))) (cond (nat_lt most_query_cost (tree_cost root)) (Err (TooCostly (within64 (tree_cost root)))) (Ok tt)))
 tested_bounds root =
-    let a = below_64 most_nodes (tree_size root) (omega arith) in
+    let a = below_64 most_query_nodes (tree_size root) (omega arith) in
     let b = below_32 most_query_depth (tree_depth root) (omega arith) in
-    let d = below_64 most_cost (tree_cost root) (omega arith) in rw (a, b, d) refl
+    let d = below_64 most_query_cost (tree_cost root) (omega arith) in rw (a, b, d) refl
 
 -- the fault of a test is the expansion's
 bounded_fault : (arcs : List ℕ) (tree : Result Tree ExpandFault) (fault : ExpandFault) → then_tested (measures_in tree) ≡ Err fault → then_bounded arcs tree ≡ Err fault
 bounded_fault arcs (Err f) fault h = cc
 bounded_fault arcs (Ok root) fault h =
-    first_fault (nat_lt most_nodes (tree_size root)) (nat_lt most_query_depth (tree_depth root)) (nat_lt most_cost (tree_cost root)) _ _ _ fault tt (record { attr_set = arcs; root = root }) (sym (tested_bounds root) ∙ h)
+    first_fault (nat_lt most_query_nodes (tree_size root)) (nat_lt most_query_depth (tree_depth root)) (nat_lt most_query_cost (tree_cost root)) _ _ _ fault tt (record { attr_set = arcs; root = root }) (sym (tested_bounds root) ∙ h)
 
 -- what passes the test is the expansion
 bounded_passes : (arcs : List ℕ) (root : Tree) (done : Unit {0}) → tested (measures_of root) ≡ Ok done → bounded arcs root ≡ Ok (record { attr_set = arcs; root = root })
 bounded_passes arcs root done h =
-    no_fault (nat_lt most_nodes (tree_size root)) (nat_lt most_query_depth (tree_depth root)) (nat_lt most_cost (tree_cost root)) _ _ _ tt done (record { attr_set = arcs; root = root }) (sym (tested_bounds root) ∙ h)
+    no_fault (nat_lt most_query_nodes (tree_size root)) (nat_lt most_query_depth (tree_depth root)) (nat_lt most_query_cost (tree_cost root)) _ _ _ tt done (record { attr_set = arcs; root = root }) (sym (tested_bounds root) ∙ h)
 
 -- ---- the whole
 

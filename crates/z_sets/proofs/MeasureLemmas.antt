@@ -6,13 +6,13 @@ use Rattle.std.specs.List.{position}
 use Rattle.z_types.specs.declared.known_set.KnownSet.{KnownSet}
 use Rattle.z_types.specs.declared.query.RpnQuery.{RpnQuery}
 use Rattle.z_types.specs.Tree.{Tree, tree_size, leaf, operand, and, or, and_not}
-use Rattle.z_types.specs.QueryMeasures.{tree_depth, tree_cost}
+use Rattle.z_types.specs.QueryMeasures.{tree_depth, tree_cost, measures_of, joined}
 use Rattle.z_sets.specs.Sets.{stored, is_same}
 use Rattle.z_sets.specs.Expansion.{all_in_set, inside, under, in_place_of}
-use Rattle.z_sets.specs.Measured.{measures_of, measures_in, measures_of_sets, joined, expansion_measures}
+use Rattle.z_sets.specs.Measured.{measures_in, measures_of_sets, expansion_measures}
 use Rattle.z_sets.specs.declared.fault.ExpandFault.{ExpandFault}
 use Rattle.z_sets.specs.declared.fault.ExpandFault.TheVariants.{OtherLegs}
-use Rattle.z_sets.specs.declared.measures.Measures.{Measures}
+use Rattle.z_types.specs.declared.measures.Measures.{Measures}
 use Rattle.z_sets.specs.Operands.{set_for}
 use Rattle.z_sets.proofs.SetLemmas.{set_named-map-stored, found_at_place, found_at_no_place}
 

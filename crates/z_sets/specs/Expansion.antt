@@ -1,11 +1,11 @@
 -- A query with the client's result sets put in place of its operands (ANSI/NISO Z39.50-2003, RPNStructure and ResultSetId; that a set becomes its query, and the bounds, are this project's own)
 use Rattle.std.specs.Prelude.{◌≡◌, ℕ, List, map, Option, None, Some, unwrap_or, Result, Ok, Err, if◌then◌else◌, nat_lt}
-use Rattle.z_types.specs.Bounds.{most_query_depth}
+use Rattle.z_types.specs.Bounds.{most_query_depth, most_query_nodes, most_query_cost, within32, within64}
 use Rattle.z_types.specs.declared.known_set.KnownSet.{KnownSet}
 use Rattle.z_types.specs.declared.query.Attr.{Attr}
 use Rattle.z_types.specs.declared.query.RpnQuery.{RpnQuery}
 use Rattle.z_types.specs.Tree.{Tree, tree_size, leaf, operand, and, or, and_not}
-use Rattle.z_types.specs.QueryMeasures.{tree_depth, tree_cost, most_nodes, most_cost, within32, within64}
+use Rattle.z_types.specs.QueryMeasures.{tree_depth, tree_cost}
 use Rattle.z_sets.specs.Sets.{StoredSet, stored, set_named, is_same}
 use Rattle.z_sets.specs.declared.fault.ExpandFault.{ExpandFault}
 use Rattle.z_sets.specs.declared.fault.ExpandFault.TheVariants.{UnknownSet, OtherLegs, TooLarge, TooDeep, TooCostly, Memory}
@@ -53,9 +53,9 @@ substituted_among arcs legs sets tree = substituted arcs legs (map stored sets) 
 -- a structure within the bounds, as a query of this attribute set; a number past its type's end is told as that end
 abbrev pub bounded : List ℕ → Tree → Result RpnQuery ExpandFault
 bounded arcs root =
-    if nat_lt most_nodes (tree_size root) then Err (TooLarge (within64 (tree_size root)))
+    if nat_lt most_query_nodes (tree_size root) then Err (TooLarge (within64 (tree_size root)))
     else if nat_lt most_query_depth (tree_depth root) then Err (TooDeep (within32 (tree_depth root)))
-    else if nat_lt most_cost (tree_cost root) then Err (TooCostly (within64 (tree_cost root)))
+    else if nat_lt most_query_cost (tree_cost root) then Err (TooCostly (within64 (tree_cost root)))
     else Ok (record { attr_set = arcs; root = root })
 
 -- bounds are tested only where every operand set was found

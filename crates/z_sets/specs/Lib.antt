@@ -1,5 +1,5 @@
 pub mod Sets
-pub mod Faults
+pub mod Fault
 pub mod Expansion
 pub mod Measured
 pub mod Operands

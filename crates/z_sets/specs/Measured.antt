@@ -1,37 +1,21 @@
 -- The measures of a query's expansion, which are known before it is built (this project's own)
-use Rattle.std.specs.Prelude.{◌≡◌, ℕ, ◌+◌, max, List, [], map, Option, option_map, Result, Ok, Err, Bool, true, false, ◌||◌, if◌then◌else◌, nat_lt}
-use Rattle.z_types.specs.Bounds.{most_query_depth}
-use Rattle.z_types.specs.Tree.{Tree, tree_size, leaf, operand, and, or, and_not}
-use Rattle.z_types.specs.QueryMeasures.{tree_depth, tree_cost, most_nodes, most_cost, node_cost, within32, within64}
+use Rattle.std.specs.Prelude.{◌≡◌, ℕ, List, [], map, Option, option_map, Result, Ok, Err, Bool, true, false, ◌||◌, if◌then◌else◌, nat_lt}
+use Rattle.z_types.specs.Bounds.{most_query_depth, most_query_nodes, most_query_cost}
+use Rattle.z_types.specs.Tree.{Tree, leaf, operand, and, or, and_not}
+use Rattle.z_types.specs.QueryMeasures.{measures_of}
+use Rattle.z_types.specs.declared.measures.Measures.{Measures}
 use Rattle.z_types.specs.declared.known_set.KnownSet.{KnownSet}
 use Rattle.z_sets.specs.Sets.{stored, known_set_named}
 use Rattle.z_sets.specs.Expansion.{substituted}
 use Rattle.z_sets.specs.declared.fault.ExpandFault.{ExpandFault}
 use Rattle.z_sets.specs.declared.fault.ExpandFault.TheVariants.{TooLarge, TooDeep, TooCostly, Memory}
-use Rattle.z_sets.specs.declared.measures.Measures.{Measures}
 
 -- a result, or want of memory, which has no cause
 abbrev pub IsOrMemory : {A : Type 0} → Result A ExpandFault → Result A ExpandFault → Type 0
 IsOrMemory wanted (Err Memory) = Unit {0}
 IsOrMemory wanted answer = answer ≡ wanted
 
--- the nodes, levels and cost of a structure, each at most its type's end
-abbrev pub measures_of : Tree → Measures
-measures_of tree = record {
-  nodes = within64 (tree_size tree);
-  levels = within32 (tree_depth tree);
-  cost = within64 (tree_cost tree);
-}
-
--- the measures of an operator on two structures of these
-abbrev pub joined : Measures → Measures → Measures
-joined l r = record {
-  nodes = within64 (within64 (l.nodes + r.nodes) + 1);
-  levels = within32 (max l.levels r.levels + 1);
-  cost = within64 (within64 (l.cost + r.cost) + node_cost);
-}
-
--- those of the queries that sets stand for
+-- the measures of the queries that sets stand for
 abbrev pub measures_of_sets : List KnownSet → List Measures
 measures_of_sets = map (λ set. measures_of set.query.root)
 
@@ -60,9 +44,9 @@ names_a_set (and_not l r) = names_a_set l || names_a_set r
 -- measures within the bounds of a query, or the first that is above
 abbrev pub tested : Measures → Result (Unit {0}) ExpandFault
 tested m =
-    if nat_lt most_nodes m.nodes then Err (TooLarge m.nodes)
+    if nat_lt most_query_nodes m.nodes then Err (TooLarge m.nodes)
     else if nat_lt most_query_depth m.levels then Err (TooDeep m.levels)
-    else if nat_lt most_cost m.cost then Err (TooCostly m.cost)
+    else if nat_lt most_query_cost m.cost then Err (TooCostly m.cost)
     else Ok tt
 
 -- an expansion is tested: its operands first, then its measures

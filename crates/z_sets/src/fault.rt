@@ -24,7 +24,7 @@ pub enum ExpandFault {
 }
 
 impl ExpandFault {
-    ghost use Rattle.z_sets.specs.Faults.{fault_number};
+    ghost use Rattle.z_sets.specs.Fault.{fault_number};
 
     /// The number of the refusal, 1 to 5 in the order of the tests, and 0 for want of memory.
     pub fn number(&self) -> u32

@@ -2,36 +2,16 @@
 //! would pass its type's end is given as that end.
 
 ghost use Rattle.std.specs.Prelude.{◌≡◌, IfOk, slice_get};
-ghost use Rattle.z_types.specs.Tree.{leaf, operand};
-ghost use Rattle.z_sets.specs.Measured.{IsOrMemory, measures_of, measures_of_sets, measures_named, expansion_measures, joined, names_a_set, tested};
+ghost use Rattle.z_types.specs.Tree.{operand};
+ghost use Rattle.z_sets.specs.Measured.{IsOrMemory, measures_of_sets, measures_named, expansion_measures, names_a_set, tested};
 
 use crate::ExpandFault;
 use crate::sets::{place_of, set_for};
 use std::alloc::Global;
-use z_types::{Attr, KnownSet, List, MOST_QUERY_DEPTH, Memory, Node, Rpn, Term, Text, copy};
-
-/// What a node costs.
-const NODE_COST: u64 = 64;
-
-/// What an attribute costs.
-const ATTRIBUTE_COST: u64 = 192;
-
-/// What a number costs as a term.
-const NUMBER_COST: u64 = 8;
-
-/// The most nodes of a query.
-const MOST_NODES: u64 = 4096;
-
-/// The most that a query may cost.
-const MOST_COST: u64 = 900_000;
-
-/// The nodes, levels and cost of a structure.
-#[derive(Clone, Copy)]
-pub(crate) struct Measures {
-    pub(crate) nodes: u64,
-    pub(crate) levels: u32,
-    pub(crate) cost: u64,
-}
+use z_types::{
+    KnownSet, List, MOST_QUERY_COST, MOST_QUERY_DEPTH, MOST_QUERY_NODES, Measures, Memory, Node,
+    Rpn, Text,
+};
 
 /// Whether some operand is a result set. It calls itself as deep as the structure is.
 pub(crate) fn names_a_set(query: &Rpn) -> bool
@@ -52,58 +32,9 @@ pub(crate) fn measure_sets(alloc: Global, sets: &[KnownSet]) -> Result<List<Meas
 {
     let mut measures = List::new(alloc);
     for set in sets {
-        measures.push(measure(&set.query.root))?;
+        measures.push(Measures::of(&set.query.root))?;
     }
     Ok(measures)
-}
-
-/// The measures of a structure as it stands. It calls itself as deep as the structure is.
-fn measure(query: &Rpn) -> Measures
-    ensures { result ≡ measures_of query.now }
-{
-    match &query.node {
-        Node::Leaf(attrs, term) => measure_leaf(attrs, term),
-        Node::Set(_) => Measures {
-            nodes: 1,
-            levels: 1,
-            cost: NODE_COST,
-        },
-        Node::And(left, right) => join(measure(left), measure(right)),
-        Node::Or(left, right) => join(measure(left), measure(right)),
-        Node::AndNot(left, right) => join(measure(left), measure(right)),
-    }
-}
-
-/// The measures of an operand of attributes and a term.
-fn measure_leaf(attrs: &List<Attr>, term: &Term) -> Measures
-    ensures { result ≡ measures_of (leaf attrs.now term.now) }
-{
-    let of_term = match term {
-        Term::General(text) | Term::Words(text) => text.len() as u64,
-        Term::Number(_) => NUMBER_COST,
-    };
-    let of_attributes = (attrs.len() as u64).saturating_mul(ATTRIBUTE_COST);
-    Measures {
-        nodes: 1,
-        levels: 1,
-        cost: NODE_COST
-            .saturating_add(of_attributes)
-            .saturating_add(of_term),
-    }
-}
-
-/// The measures of an operator on two structures.
-fn join(left: Measures, right: Measures) -> Measures
-    ensures { result ≡ joined left right }
-{
-    Measures {
-        nodes: left.nodes.saturating_add(right.nodes).saturating_add(1),
-        levels: left.levels.max(right.levels).saturating_add(1),
-        cost: left
-            .cost
-            .saturating_add(right.cost)
-            .saturating_add(NODE_COST),
-    }
 }
 
 /// The measures of a structure with stored queries in place of its operand sets, or the fault of the
@@ -119,12 +50,12 @@ pub(crate) fn measure_expansion(
     ensures { IsOrMemory (expansion_measures legs.now sets.now query.now) result }
 {
     match &query.node {
-        Node::Leaf(attrs, term) => Ok(measure_leaf(attrs, term)),
+        Node::Leaf(attrs, term) => Ok(Measures::of_leaf(attrs, term)),
         Node::Set(name) => measure_operand(name, legs, sets, sizes),
         Node::And(left, right) | Node::Or(left, right) | Node::AndNot(left, right) => {
             let left = measure_expansion(left, legs, sets, sizes)?;
             let right = measure_expansion(right, legs, sets, sizes)?;
-            Ok(join(left, right))
+            Ok(left.join(right))
         }
     }
 }
@@ -166,11 +97,11 @@ fn item_at(sizes: &[Measures], place: usize) -> Option<Measures>
 pub(crate) fn test_bounds(measures: Measures) -> Result<(), ExpandFault>
     ensures { result ≡ tested measures }
 {
-    if measures.nodes > MOST_NODES {
+    if measures.nodes > MOST_QUERY_NODES {
         Err(ExpandFault::TooLarge(measures.nodes))
     } else if measures.levels > MOST_QUERY_DEPTH {
         Err(ExpandFault::TooDeep(measures.levels))
-    } else if measures.cost > MOST_COST {
+    } else if measures.cost > MOST_QUERY_COST {
         Err(ExpandFault::TooCostly(measures.cost))
     } else {
         Ok(())

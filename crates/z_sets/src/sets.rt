@@ -20,7 +20,7 @@ pub fn find_set<'a>(sets: &'a List<KnownSet>, name: &[u8]) -> Option<&'a KnownSe
 }
 
 /// The first of the sets that has this name.
-pub(crate) fn set_in<'a>(sets: &'a [KnownSet], name: &[u8]) -> Option<&'a KnownSet>
+fn set_in<'a>(sets: &'a [KnownSet], name: &[u8]) -> Option<&'a KnownSet>
     ensures first { option_copied result ≡ known_set_named name.now sets.now }
 {
     sets.iter().find(|set| set.name.as_slice() == name)

@@ -1,5 +1,6 @@
 -- How deep and how costly a query is (this project's own); how many nodes it has is `tree_size`
-use Rattle.std.specs.Prelude.{◌≡◌, ℕ, ◌+◌, ◌-◌, ◌*◌, ◌^◌, List, length, max, min}
+use Rattle.std.specs.Prelude.{ℕ, ◌+◌, ◌*◌, List, length, max}
+use Rattle.z_types.specs.Bounds.{within32, within64}
 use Rattle.z_types.specs.declared.measures.Measures.{Measures}
 use Rattle.z_types.specs.declared.query.Attr.{Attr}
 use Rattle.z_types.specs.declared.query.Term.{Term}
@@ -44,34 +45,15 @@ tree_cost (and l r) = tree_cost l + tree_cost r + node_cost
 tree_cost (or l r) = tree_cost l + tree_cost r + node_cost
 tree_cost (and_not l r) = tree_cost l + tree_cost r + node_cost
 
--- the most nodes of a query
-abbrev pub most_nodes : ℕ
-most_nodes = 4096
+-- the nodes, levels and cost of a structure, each at most its type's end
+abbrev pub measures_of : Tree → Measures
+measures_of tree = record {
+  nodes = within64 (tree_size tree);
+  levels = within32 (tree_depth tree);
+  cost = within64 (tree_cost tree);
+}
 
--- the most that a query may cost
-abbrev pub most_cost : ℕ
-most_cost = 900000
-
--- ---- measures as the code has them: at most their types' ends
-
--- a number, or the end of a type that it passes
-abbrev pub within64 : ℕ → ℕ
-within64 n = min n (2 ^ 64 - 1)
-
-abbrev pub within32 : ℕ → ℕ
-within32 n = min n (2 ^ 32 - 1)
-
--- the nodes, levels and cost of a structure
-pub record IsMeasured (tree : Tree) (m : Measures) : Type 0 where
-  pub nodes : m.nodes ≡ within64 (tree_size tree)
-  pub levels : m.levels ≡ within32 (tree_depth tree)
-  pub cost : m.cost ≡ within64 (tree_cost tree)
-
--- the measures of an operand
-abbrev pub IsLeafMeasured : List Attr → Term → Measures → Type 0
-IsLeafMeasured attrs term m = IsMeasured (leaf attrs term) m
-
--- the measures of an operator on two structures
+-- the measures of an operator on two structures of these
 abbrev pub joined : Measures → Measures → Measures
 joined l r = record {
   nodes = within64 (within64 (l.nodes + r.nodes) + 1);

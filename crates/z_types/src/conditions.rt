@@ -1,7 +1,7 @@
 //! Conditions of the bib-1 diagnostic set (ANSI/NISO Z39.50-2003, Appendix 4 ERR).
 
 ghost use Rattle.std.specs.Prelude.{◌≡◌};
-ghost use Rattle.z_types.specs.Bib1.{number_of};
+ghost use Rattle.z_types.specs.Bib1.{condition_number};
 
 /// A condition that the gateway or a test target gives, or that the gateway knows from a target.
 #[derive(Clone, Copy, PartialEq, Eq, Debug)]
@@ -51,7 +51,7 @@ pub enum Condition {
 impl Condition {
     /// Its number in the set.
     pub fn number(self) -> u32
-        ensures { result ≡ number_of self }
+        ensures { result ≡ condition_number self }
     {
         match self {
             Condition::TemporarySystemError => 2,

@@ -31,7 +31,10 @@ mod world;
 
 pub use address::Address;
 pub use ask::Ask;
-pub use bounds::{MOST_LEVELS, MOST_NUMBER, MOST_QUERY_DEPTH, MOST_UNIT_OCTETS};
+pub use bounds::{
+    MOST_ARCS, MOST_DATABASES, MOST_LEGS, MOST_LEVELS, MOST_NAME_OCTETS, MOST_NUMBER,
+    MOST_QUERY_COST, MOST_QUERY_DEPTH, MOST_QUERY_NODES, MOST_UNIT_OCTETS,
+};
 pub use conditions::Condition;
 pub use diagnostic::Diag;
 pub use exact::{Exact, copy, same};
@@ -40,7 +43,7 @@ pub use known_set::KnownSet;
 pub use limits::Limits;
 pub use list::List;
 pub use marks::{End, Mark};
-pub use measures::{cost, depth, size};
+pub use measures::{Measures, cost, depth, size};
 pub use memory::Memory;
 pub use oid::{Oid, is_oid};
 pub use outcome::{Fetched, Outcome};

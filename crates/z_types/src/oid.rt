@@ -7,12 +7,12 @@ ghost use lib.Pointwise.{pointwise};
 ghost use Rattle.z_types.specs.equality.Tests.{text_exact};
 ghost use Rattle.z_types.specs.Oid.{is_oid, has_root};
 
-use crate::{Exact, Memory};
+use crate::{Exact, MOST_ARCS, Memory};
 use std::alloc::{AllocError, Global};
 use std::marker::Model;
 
 /// An object identifier: 2 to 32 numbers below 2^32, the first at most 2, and the second below 40
-/// where the first is 0 or 1 (X.660, 7.6). The bound of 32 numbers is this project's own.
+/// where the first is 0 or 1 (X.660, 7.6). The bound of 32 numbers, `MOST_ARCS`, is this project's own.
 #[derive(Debug, Drop)]
 pub struct Oid {
     arcs: Vec<u32>,
@@ -65,7 +65,7 @@ impl Oid {
 pub fn is_oid(arcs: &[u32]) -> bool
     ensures { result ≡ is_oid arcs.now }
 {
-    has_root(arcs) && arcs.len() <= 32
+    has_root(arcs) && arcs.len() <= MOST_ARCS
 }
 
 /// Whether the first two numbers name a place under one of the three roots (X.660, 7.6).

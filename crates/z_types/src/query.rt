@@ -104,7 +104,7 @@ impl Rpn {
     pub fn and(alloc: Global, left: Rpn, right: Rpn) -> Result<Rpn, Memory>
         ensures { IfOk result (λ query. query ≡ and left right) }
     {
-        let (left, right) = boxed(alloc, left, right)?;
+        let (left, right) = in_boxes(alloc, left, right)?;
         Ok(Rpn {
             node: Node::And(left, right),
         })
@@ -114,7 +114,7 @@ impl Rpn {
     pub fn or(alloc: Global, left: Rpn, right: Rpn) -> Result<Rpn, Memory>
         ensures { IfOk result (λ query. query ≡ or left right) }
     {
-        let (left, right) = boxed(alloc, left, right)?;
+        let (left, right) = in_boxes(alloc, left, right)?;
         Ok(Rpn {
             node: Node::Or(left, right),
         })
@@ -124,7 +124,7 @@ impl Rpn {
     pub fn and_not(alloc: Global, left: Rpn, right: Rpn) -> Result<Rpn, Memory>
         ensures { IfOk result (λ query. query ≡ and_not left right) }
     {
-        let (left, right) = boxed(alloc, left, right)?;
+        let (left, right) = in_boxes(alloc, left, right)?;
         Ok(Rpn {
             node: Node::AndNot(left, right),
         })
@@ -132,7 +132,7 @@ impl Rpn {
 }
 
 /// Two structures behind pointers.
-fn boxed(alloc: Global, left: Rpn, right: Rpn) -> Result<(Box<Rpn>, Box<Rpn>), AllocError>
+fn in_boxes(alloc: Global, left: Rpn, right: Rpn) -> Result<(Box<Rpn>, Box<Rpn>), AllocError>
     ensures left { IfOk result (λ both. both.0.value ≡ left) }
     ensures right { IfOk result (λ both. both.1.value ≡ right) }
 {
@@ -183,21 +183,21 @@ impl Clone for Rpn {
             }),
             Node::And(left, right) => {
                 let alloc = *Box::allocator(left);
-                let (left, right) = boxed(alloc, (**left).clone()?, (**right).clone()?)?;
+                let (left, right) = in_boxes(alloc, (**left).clone()?, (**right).clone()?)?;
                 Ok(Rpn {
                     node: Node::And(left, right),
                 })
             }
             Node::Or(left, right) => {
                 let alloc = *Box::allocator(left);
-                let (left, right) = boxed(alloc, (**left).clone()?, (**right).clone()?)?;
+                let (left, right) = in_boxes(alloc, (**left).clone()?, (**right).clone()?)?;
                 Ok(Rpn {
                     node: Node::Or(left, right),
                 })
             }
             Node::AndNot(left, right) => {
                 let alloc = *Box::allocator(left);
-                let (left, right) = boxed(alloc, (**left).clone()?, (**right).clone()?)?;
+                let (left, right) = in_boxes(alloc, (**left).clone()?, (**right).clone()?)?;
                 Ok(Rpn {
                     node: Node::AndNot(left, right),
                 })

@@ -15,35 +15,35 @@ use z_types::{Memory, Oid, Text};
 pub(crate) const SEQUENCE: Tag = Tag {
     class: 0,
     constructed: true,
-    number: 16,
+    number: tags::SEQUENCE,
 };
 
 /// EXTERNAL (X.690:2021, 8.18).
 pub(crate) const EXTERNAL: Tag = Tag {
     class: 0,
     constructed: true,
-    number: 8,
+    number: tags::EXTERNAL,
 };
 
 /// OBJECT IDENTIFIER (X.690:2021, 8.19).
 const OBJECT_IDENTIFIER: Tag = Tag {
     class: 0,
     constructed: false,
-    number: 6,
+    number: tags::OBJECT_IDENTIFIER,
 };
 
 /// INTEGER (X.690:2021, 8.3).
 const INTEGER: Tag = Tag {
     class: 0,
     constructed: false,
-    number: 2,
+    number: tags::INTEGER,
 };
 
 /// GeneralString (X.690:2021, 8.23).
 const GENERAL_STRING: Tag = Tag {
     class: 0,
     constructed: false,
-    number: 27,
+    number: tags::GENERAL_STRING,
 };
 
 /// Puts the identifier and length octets of an element whose contents, of this length, follow.
@@ -144,7 +144,7 @@ pub(crate) fn bits_len(number: u32, value: u32) -> Result<usize, Memory>
 }
 
 /// A field of an object identifier.
-pub(crate) fn put_identifier(out: &mut Text, number: u32, value: &Oid) -> Result<(), Memory>
+fn put_identifier(out: &mut Text, number: u32, value: &Oid) -> Result<(), Memory>
     requires { number < 2 ^ 31 }
     ensures ok { OnOk result (out.new ≡ out.old ++ identifier_field number value.now) }
     ensures err { OnErr result (StillBegins out.old out.new) }
@@ -153,7 +153,7 @@ pub(crate) fn put_identifier(out: &mut Text, number: u32, value: &Oid) -> Result
 }
 
 /// Its length.
-pub(crate) fn identifier_len(number: u32, value: &Oid) -> Result<usize, Memory>
+fn identifier_len(number: u32, value: &Oid) -> Result<usize, Memory>
     requires { number < 2 ^ 31 }
     ensures { IfOk result (λ len. len ≡ length (identifier_field number value.now)) }
 {

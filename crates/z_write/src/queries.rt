@@ -42,7 +42,7 @@ pub(crate) fn term_len(term: &Term) -> Result<usize, Memory>
 
 /// The fields of an AttributeElement.
 #[tactic(auto, using(crate::proofs::KeptFront::kept_on), unfolding(unit_forms::specs::Query::attr_fields))]
-pub(crate) fn put_attr_fields(out: &mut Text, attr: &Attr) -> Result<(), Memory>
+fn put_attr_fields(out: &mut Text, attr: &Attr) -> Result<(), Memory>
     ensures ok { OnOk result (out.new ≡ out.old ++ attr_fields attr.now) }
     ensures err { OnErr result (StillBegins out.old out.new) }
 {
@@ -53,7 +53,7 @@ pub(crate) fn put_attr_fields(out: &mut Text, attr: &Attr) -> Result<(), Memory>
 
 /// Its length.
 #[tactic(auto, unfolding(unit_forms::specs::Query::attr_fields))]
-pub(crate) fn attr_fields_len(attr: &Attr) -> Result<usize, Memory>
+fn attr_fields_len(attr: &Attr) -> Result<usize, Memory>
     ensures { IfOk result (λ len. len ≡ length (attr_fields attr.now)) }
 {
     sum_of(&[
@@ -65,7 +65,7 @@ pub(crate) fn attr_fields_len(attr: &Attr) -> Result<usize, Memory>
 
 /// An AttributeElement.
 #[tactic(auto, using(crate::proofs::KeptFront::kept_on))]
-pub(crate) fn put_attr(out: &mut Text, attr: &Attr) -> Result<(), Memory>
+fn put_attr(out: &mut Text, attr: &Attr) -> Result<(), Memory>
     ensures ok { OnOk result (out.new ≡ out.old ++ attr_octets attr.now) }
     ensures err { OnErr result (StillBegins out.old out.new) }
 {
@@ -74,14 +74,14 @@ pub(crate) fn put_attr(out: &mut Text, attr: &Attr) -> Result<(), Memory>
 }
 
 /// Its length.
-pub(crate) fn attr_len(attr: &Attr) -> Result<usize, Memory>
+fn attr_len(attr: &Attr) -> Result<usize, Memory>
     ensures { IfOk result (λ len. len ≡ length (attr_octets attr.now)) }
 {
     element_len(SEQUENCE, attr_fields_len(attr)?)
 }
 
 /// Attributes one after another.
-pub(crate) fn put_attrs(out: &mut Text, attrs: &[Attr]) -> Result<(), Memory>
+fn put_attrs(out: &mut Text, attrs: &[Attr]) -> Result<(), Memory>
     ensures ok { OnOk result (out.new ≡ out.old ++ flat_map attr_octets attrs.now) }
     ensures err { OnErr result (StillBegins out.old out.new) }
 {
@@ -92,7 +92,7 @@ pub(crate) fn put_attrs(out: &mut Text, attrs: &[Attr]) -> Result<(), Memory>
 }
 
 /// Its length.
-pub(crate) fn attrs_len(attrs: &[Attr]) -> Result<usize, Memory>
+fn attrs_len(attrs: &[Attr]) -> Result<usize, Memory>
     ensures { IfOk result (λ len. len ≡ length (flat_map attr_octets attrs.now)) }
 {
     let mut len = 0;
@@ -104,11 +104,7 @@ pub(crate) fn attrs_len(attrs: &[Attr]) -> Result<usize, Memory>
 
 /// The attributes of an operand and its term.
 #[tactic(auto, using(crate::proofs::KeptFront::kept_on))]
-pub(crate) fn put_attributes_plus_term(
-    out: &mut Text,
-    attrs: &List<Attr>,
-    term: &Term,
-) -> Result<(), Memory>
+fn put_attributes_plus_term(out: &mut Text, attrs: &List<Attr>, term: &Term) -> Result<(), Memory>
     ensures ok { OnOk result (out.new ≡ out.old ++ attributes_plus_term attrs.now term.now) }
     ensures err { OnErr result (StillBegins out.old out.new) }
 {
@@ -119,7 +115,7 @@ pub(crate) fn put_attributes_plus_term(
 }
 
 /// Their length.
-pub(crate) fn attributes_plus_term_len(attrs: &List<Attr>, term: &Term) -> Result<usize, Memory>
+fn attributes_plus_term_len(attrs: &List<Attr>, term: &Term) -> Result<usize, Memory>
     ensures { IfOk result (λ len. len ≡ length (attributes_plus_term attrs.now term.now)) }
 {
     let tag = Tag::constructed_context(tags::ATTRIBUTE_LIST);

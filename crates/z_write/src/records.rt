@@ -21,7 +21,7 @@ use z_types::{Body, Diag, Form, Item, List, Memory, NamedRecord, Oid, Text};
 
 /// The fields of a diagnostic.
 #[tactic(auto, using(crate::proofs::KeptFront::kept_on), unfolding(unit_forms::specs::Records::diag_fields))]
-pub(crate) fn put_diag_fields(out: &mut Text, diag: &Diag) -> Result<(), Memory>
+fn put_diag_fields(out: &mut Text, diag: &Diag) -> Result<(), Memory>
     ensures ok { OnOk result (out.new ≡ out.old ++ diag_fields diag.now) }
     ensures err { OnErr result (StillBegins out.old out.new) }
 {
@@ -32,7 +32,7 @@ pub(crate) fn put_diag_fields(out: &mut Text, diag: &Diag) -> Result<(), Memory>
 
 /// Its length.
 #[tactic(auto, unfolding(unit_forms::specs::Records::diag_fields))]
-pub(crate) fn diag_fields_len(diag: &Diag) -> Result<usize, Memory>
+fn diag_fields_len(diag: &Diag) -> Result<usize, Memory>
     ensures { IfOk result (λ len. len ≡ length (diag_fields diag.now)) }
 {
     sum_of(&[
@@ -44,7 +44,7 @@ pub(crate) fn diag_fields_len(diag: &Diag) -> Result<usize, Memory>
 
 /// A diagnostic, with the tag of its sequence.
 #[tactic(auto, using(crate::proofs::KeptFront::kept_on))]
-pub(crate) fn put_diag(out: &mut Text, diag: &Diag) -> Result<(), Memory>
+fn put_diag(out: &mut Text, diag: &Diag) -> Result<(), Memory>
     ensures ok { OnOk result (out.new ≡ out.old ++ diag_octets diag.now) }
     ensures err { OnErr result (StillBegins out.old out.new) }
 {
@@ -53,7 +53,7 @@ pub(crate) fn put_diag(out: &mut Text, diag: &Diag) -> Result<(), Memory>
 }
 
 /// Its length.
-pub(crate) fn diag_len(diag: &Diag) -> Result<usize, Memory>
+fn diag_len(diag: &Diag) -> Result<usize, Memory>
     ensures { IfOk result (λ len. len ≡ length (diag_octets diag.now)) }
 {
     element_len(SEQUENCE, diag_fields_len(diag)?)
@@ -110,12 +110,7 @@ fn encoding_len(form: Form, bytes: &[u8]) -> Result<usize, Memory>
 
 /// What stands in an EXTERNAL.
 #[tactic(auto, using(crate::proofs::KeptFront::kept_on))]
-pub(crate) fn put_external_fields(
-    out: &mut Text,
-    syntax: &Oid,
-    form: Form,
-    bytes: &[u8],
-) -> Result<(), Memory>
+fn put_external_fields(out: &mut Text, syntax: &Oid, form: Form, bytes: &[u8]) -> Result<(), Memory>
     ensures ok { OnOk result (out.new ≡ out.old
         ++ (object_identifier syntax.now ++ element (encoding_tag form) bytes.now)) }
     ensures err { OnErr result (StillBegins out.old out.new) }
@@ -125,7 +120,7 @@ pub(crate) fn put_external_fields(
 }
 
 /// Its length.
-pub(crate) fn external_fields_len(syntax: &Oid, form: Form, bytes: &[u8]) -> Result<usize, Memory>
+fn external_fields_len(syntax: &Oid, form: Form, bytes: &[u8]) -> Result<usize, Memory>
     ensures { IfOk result (λ len. len ≡
         length ((object_identifier syntax.now ++ element (encoding_tag form) bytes.now))) }
 {
@@ -134,12 +129,7 @@ pub(crate) fn external_fields_len(syntax: &Oid, form: Form, bytes: &[u8]) -> Res
 
 /// An EXTERNAL.
 #[tactic(auto, using(crate::proofs::KeptFront::kept_on))]
-pub(crate) fn put_external(
-    out: &mut Text,
-    syntax: &Oid,
-    form: Form,
-    bytes: &[u8],
-) -> Result<(), Memory>
+fn put_external(out: &mut Text, syntax: &Oid, form: Form, bytes: &[u8]) -> Result<(), Memory>
     ensures ok { OnOk result (out.new ≡ out.old ++ external_octets syntax.now form bytes.now) }
     ensures err { OnErr result (StillBegins out.old out.new) }
 {
@@ -148,7 +138,7 @@ pub(crate) fn put_external(
 }
 
 /// Its length.
-pub(crate) fn external_len(syntax: &Oid, form: Form, bytes: &[u8]) -> Result<usize, Memory>
+fn external_len(syntax: &Oid, form: Form, bytes: &[u8]) -> Result<usize, Memory>
     ensures { IfOk result (λ len. len ≡ length (external_octets syntax.now form bytes.now)) }
 {
     element_len(EXTERNAL, external_fields_len(syntax, form, bytes)?)
@@ -223,7 +213,7 @@ fn named_fields_len(named: &NamedRecord) -> Result<usize, Memory>
 
 /// A record with the name of its database.
 #[tactic(auto, using(crate::proofs::KeptFront::kept_on), unfolding(unit_forms::specs::Records::named_octets))]
-pub(crate) fn put_named(out: &mut Text, named: &NamedRecord) -> Result<(), Memory>
+fn put_named(out: &mut Text, named: &NamedRecord) -> Result<(), Memory>
     ensures ok { OnOk result (out.new ≡ out.old ++ named_octets named.now) }
     ensures err { OnErr result (StillBegins out.old out.new) }
 {
@@ -233,14 +223,14 @@ pub(crate) fn put_named(out: &mut Text, named: &NamedRecord) -> Result<(), Memor
 
 /// Its length.
 #[tactic(auto, unfolding(unit_forms::specs::Records::named_octets))]
-pub(crate) fn named_len(named: &NamedRecord) -> Result<usize, Memory>
+fn named_len(named: &NamedRecord) -> Result<usize, Memory>
     ensures { IfOk result (λ len. len ≡ length (named_octets named.now)) }
 {
     element_len(SEQUENCE, named_fields_len(named)?)
 }
 
 /// Records one after another.
-pub(crate) fn put_records(out: &mut Text, records: &[NamedRecord]) -> Result<(), Memory>
+fn put_records(out: &mut Text, records: &[NamedRecord]) -> Result<(), Memory>
     ensures ok { OnOk result (out.new ≡ out.old ++ flat_map named_octets records.now) }
     ensures err { OnErr result (StillBegins out.old out.new) }
 {
@@ -251,7 +241,7 @@ pub(crate) fn put_records(out: &mut Text, records: &[NamedRecord]) -> Result<(),
 }
 
 /// Its length.
-pub(crate) fn records_len(records: &[NamedRecord]) -> Result<usize, Memory>
+fn records_len(records: &[NamedRecord]) -> Result<usize, Memory>
     ensures { IfOk result (λ len. len ≡ length (flat_map named_octets records.now)) }
 {
     let mut len = 0;

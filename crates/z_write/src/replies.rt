@@ -24,7 +24,7 @@ use z_types::{Body, Init, Memory, Reply, Text};
 
 /// Who answers an Init.
 #[tactic(auto, using(crate::proofs::KeptFront::kept_on), unfolding(unit_forms::specs::Replies::implementation_fields))]
-pub(crate) fn put_implementation(out: &mut Text) -> Result<(), Memory>
+fn put_implementation(out: &mut Text) -> Result<(), Memory>
     ensures ok { OnOk result (out.new ≡ out.old ++ implementation_fields) }
     ensures err { OnErr result (StillBegins out.old out.new) }
 {
@@ -35,7 +35,7 @@ pub(crate) fn put_implementation(out: &mut Text) -> Result<(), Memory>
 
 /// Its length.
 #[tactic(auto, unfolding(unit_forms::specs::Replies::implementation_fields))]
-pub(crate) fn implementation_len() -> Result<usize, Memory>
+fn implementation_len() -> Result<usize, Memory>
     ensures { IfOk result (λ len. len ≡ length (implementation_fields)) }
 {
     sum_of(&[
@@ -47,11 +47,7 @@ pub(crate) fn implementation_len() -> Result<usize, Memory>
 
 /// The fields of the answer to an Init.
 #[tactic(auto, using(crate::proofs::KeptFront::kept_on))]
-pub(crate) fn put_init_reply_fields(
-    out: &mut Text,
-    init: &Init,
-    accepted: bool,
-) -> Result<(), Memory>
+fn put_init_reply_fields(out: &mut Text, init: &Init, accepted: bool) -> Result<(), Memory>
     ensures ok { OnOk result (out.new ≡ out.old ++ init_reply_fields init.now accepted) }
     ensures err { OnErr result (StillBegins out.old out.new) }
 {
@@ -61,7 +57,7 @@ pub(crate) fn put_init_reply_fields(
 }
 
 /// Its length.
-pub(crate) fn init_reply_fields_len(init: &Init, accepted: bool) -> Result<usize, Memory>
+fn init_reply_fields_len(init: &Init, accepted: bool) -> Result<usize, Memory>
     ensures { IfOk result (λ len. len ≡ length (init_reply_fields init.now accepted)) }
 {
     sum_of(&[
@@ -153,7 +149,7 @@ fn search_reply_fields_len(
 
 /// The fields of a PresentResponse.
 #[tactic(auto, using(crate::proofs::KeptFront::kept_on), unfolding(unit_forms::specs::Replies::present_reply_fields))]
-pub(crate) fn put_present_reply_fields(
+fn put_present_reply_fields(
     out: &mut Text,
     ref_id: &Option<Text>,
     returned: u32,
@@ -174,7 +170,7 @@ pub(crate) fn put_present_reply_fields(
 
 /// Its length.
 #[tactic(auto, unfolding(unit_forms::specs::Replies::present_reply_fields))]
-pub(crate) fn present_reply_fields_len(
+fn present_reply_fields_len(
     ref_id: &Option<Text>,
     returned: u32,
     next: u32,

@@ -55,7 +55,7 @@ pub(crate) fn init_fields_len(init: &Init) -> Result<usize, Memory>
 }
 
 /// Names of databases, one after another.
-pub(crate) fn put_database_names(out: &mut Text, dbs: &[Text]) -> Result<(), Memory>
+fn put_database_names(out: &mut Text, dbs: &[Text]) -> Result<(), Memory>
     ensures ok { OnOk result (out.new ≡ out.old ++ database_names dbs.now) }
     ensures err { OnErr result (StillBegins out.old out.new) }
 {
@@ -66,7 +66,7 @@ pub(crate) fn put_database_names(out: &mut Text, dbs: &[Text]) -> Result<(), Mem
 }
 
 /// Its length.
-pub(crate) fn database_names_len(dbs: &[Text]) -> Result<usize, Memory>
+fn database_names_len(dbs: &[Text]) -> Result<usize, Memory>
     ensures { IfOk result (λ len. len ≡ length (database_names dbs.now)) }
 {
     let mut len = 0;
@@ -224,7 +224,7 @@ fn search_fields_len(alloc: Global, search: &Search) -> Result<usize, Memory>
 }
 
 /// The record composition of a Present.
-pub(crate) fn put_composition(out: &mut Text, asked: &Asked<Option<Text>>) -> Result<(), Memory>
+fn put_composition(out: &mut Text, asked: &Asked<Option<Text>>) -> Result<(), Memory>
     ensures ok { OnOk result (out.new ≡ out.old ++ composition_field asked.now) }
     ensures err { OnErr result (StillBegins out.old out.new) }
 {
@@ -235,7 +235,7 @@ pub(crate) fn put_composition(out: &mut Text, asked: &Asked<Option<Text>>) -> Re
 }
 
 /// Its length.
-pub(crate) fn composition_len(asked: &Asked<Option<Text>>) -> Result<usize, Memory>
+fn composition_len(asked: &Asked<Option<Text>>) -> Result<usize, Memory>
     ensures { IfOk result (λ len. len ≡ length (composition_field asked.now)) }
 {
     match asked {
@@ -328,7 +328,7 @@ fn scan_ask_len(ask: &ScanAsk) -> Result<usize, Memory>
 }
 
 /// What a Scan asks for, where it is not refused.
-pub(crate) fn put_scan_asked(out: &mut Text, asked: &Asked<ScanAsk>) -> Result<(), Memory>
+fn put_scan_asked(out: &mut Text, asked: &Asked<ScanAsk>) -> Result<(), Memory>
     ensures ok { OnOk result (out.new ≡ out.old ++ scan_asked_fields asked.now) }
     ensures err { OnErr result (StillBegins out.old out.new) }
 {
@@ -339,7 +339,7 @@ pub(crate) fn put_scan_asked(out: &mut Text, asked: &Asked<ScanAsk>) -> Result<(
 }
 
 /// Its length.
-pub(crate) fn scan_asked_len(asked: &Asked<ScanAsk>) -> Result<usize, Memory>
+fn scan_asked_len(asked: &Asked<ScanAsk>) -> Result<usize, Memory>
     ensures { IfOk result (λ len. len ≡ length (scan_asked_fields asked.now)) }
 {
     match asked {
@@ -350,7 +350,7 @@ pub(crate) fn scan_asked_len(asked: &Asked<ScanAsk>) -> Result<usize, Memory>
 
 /// The fields of a Scan.
 #[tactic(auto, using(crate::proofs::KeptFront::kept_on), unfolding(unit_forms::specs::Requests::scan_fields))]
-pub(crate) fn put_scan_fields(out: &mut Text, scan: &Scan) -> Result<(), Memory>
+fn put_scan_fields(out: &mut Text, scan: &Scan) -> Result<(), Memory>
     ensures ok { OnOk result (out.new ≡ out.old ++ scan_fields scan.now) }
     ensures err { OnErr result (StillBegins out.old out.new) }
 {
@@ -361,7 +361,7 @@ pub(crate) fn put_scan_fields(out: &mut Text, scan: &Scan) -> Result<(), Memory>
 
 /// Its length.
 #[tactic(auto, unfolding(unit_forms::specs::Requests::scan_fields))]
-pub(crate) fn scan_fields_len(scan: &Scan) -> Result<usize, Memory>
+fn scan_fields_len(scan: &Scan) -> Result<usize, Memory>
     ensures { IfOk result (λ len. len ≡ length (scan_fields scan.now)) }
 {
     sum_of(&[
@@ -373,7 +373,7 @@ pub(crate) fn scan_fields_len(scan: &Scan) -> Result<usize, Memory>
 
 /// The fields of a Close.
 #[tactic(auto, using(crate::proofs::KeptFront::kept_on), unfolding(unit_forms::specs::Requests::close_fields))]
-pub(crate) fn put_close_fields(out: &mut Text, close: &Close) -> Result<(), Memory>
+fn put_close_fields(out: &mut Text, close: &Close) -> Result<(), Memory>
     ensures ok { OnOk result (out.new ≡ out.old ++ close_fields close.now) }
     ensures err { OnErr result (StillBegins out.old out.new) }
 {
@@ -384,7 +384,7 @@ pub(crate) fn put_close_fields(out: &mut Text, close: &Close) -> Result<(), Memo
 
 /// Its length.
 #[tactic(auto, unfolding(unit_forms::specs::Requests::close_fields))]
-pub(crate) fn close_fields_len(close: &Close) -> Result<usize, Memory>
+fn close_fields_len(close: &Close) -> Result<usize, Memory>
     ensures { IfOk result (λ len. len ≡ length (close_fields close.now)) }
 {
     sum_of(&[

@@ -20,7 +20,7 @@ use z_types::{Diag, List, Memory, ScanAnswer, ScanEntry, Text};
 
 /// A term and in how many records it stands.
 #[tactic(auto, using(crate::proofs::KeptFront::kept_on))]
-pub(crate) fn put_term_info(out: &mut Text, entry: &ScanEntry) -> Result<(), Memory>
+fn put_term_info(out: &mut Text, entry: &ScanEntry) -> Result<(), Memory>
     ensures ok { OnOk result (out.new ≡ out.old ++ term_info_fields entry.now) }
     ensures err { OnErr result (StillBegins out.old out.new) }
 {
@@ -29,7 +29,7 @@ pub(crate) fn put_term_info(out: &mut Text, entry: &ScanEntry) -> Result<(), Mem
 }
 
 /// Its length.
-pub(crate) fn term_info_len(entry: &ScanEntry) -> Result<usize, Memory>
+fn term_info_len(entry: &ScanEntry) -> Result<usize, Memory>
     ensures { IfOk result (λ len. len ≡ length (term_info_fields entry.now)) }
 {
     sum_of(&[
@@ -40,7 +40,7 @@ pub(crate) fn term_info_len(entry: &ScanEntry) -> Result<usize, Memory>
 
 /// An entry.
 #[tactic(auto, using(crate::proofs::KeptFront::kept_on), unfolding(unit_forms::specs::Replies::entry_octets))]
-pub(crate) fn put_entry(out: &mut Text, entry: &ScanEntry) -> Result<(), Memory>
+fn put_entry(out: &mut Text, entry: &ScanEntry) -> Result<(), Memory>
     ensures ok { OnOk result (out.new ≡ out.old ++ entry_octets entry.now) }
     ensures err { OnErr result (StillBegins out.old out.new) }
 {
@@ -54,7 +54,7 @@ pub(crate) fn put_entry(out: &mut Text, entry: &ScanEntry) -> Result<(), Memory>
 
 /// Its length.
 #[tactic(auto, unfolding(unit_forms::specs::Replies::entry_octets))]
-pub(crate) fn entry_len(entry: &ScanEntry) -> Result<usize, Memory>
+fn entry_len(entry: &ScanEntry) -> Result<usize, Memory>
     ensures { IfOk result (λ len. len ≡ length (entry_octets entry.now)) }
 {
     element_len(
@@ -64,7 +64,7 @@ pub(crate) fn entry_len(entry: &ScanEntry) -> Result<usize, Memory>
 }
 
 /// Entries one after another.
-pub(crate) fn put_entries(out: &mut Text, entries: &[ScanEntry]) -> Result<(), Memory>
+fn put_entries(out: &mut Text, entries: &[ScanEntry]) -> Result<(), Memory>
     ensures ok { OnOk result (out.new ≡ out.old ++ flat_map entry_octets entries.now) }
     ensures err { OnErr result (StillBegins out.old out.new) }
 {
@@ -75,7 +75,7 @@ pub(crate) fn put_entries(out: &mut Text, entries: &[ScanEntry]) -> Result<(), M
 }
 
 /// Its length.
-pub(crate) fn entries_len(entries: &[ScanEntry]) -> Result<usize, Memory>
+fn entries_len(entries: &[ScanEntry]) -> Result<usize, Memory>
     ensures { IfOk result (λ len. len ≡ length (flat_map entry_octets entries.now)) }
 {
     let mut len = 0;

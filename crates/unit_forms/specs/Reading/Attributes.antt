@@ -40,7 +40,7 @@ attr_in fields =
 
 -- each attribute is a SEQUENCE
 abbrev pub attr_of : Field → Result (Asked Attr) Refusal
-attr_of field = if has_tag field.tag (universal 16) then within attr_in field else Err (BadValue field.tag.number)
+attr_of field = if has_tag field.tag (universal numbers.sequence) then within attr_in field else Err (BadValue field.tag.number)
 
 -- AttributeList [44]: every element in it
 unfoldable pub attrs_in : Forest → Result (Asked (List Attr)) Refusal

@@ -2,7 +2,7 @@
 use Rattle.std.specs.Prelude.{ℕ, ◌+◌, ◌-◌, ◌*◌, ◌/◌, ◌%◌, ◌^◌, ℤ, pos, negsuc, List, [], ◌∷◌, ◌++◌, length, map, take, min, Bool, true, false, ◌==◌, Option, Some, None, option_map, option_and_then, nat_lt, nat_le, if◌then◌else◌}
 use Rattle.std.specs.Int.Digits.{number_from_digits}
 use Rattle.z_types.specs.Oid.{is_oid}
-use Rattle.z_ber.specs.Reading.{mirrored_number}
+use Rattle.z_ber.specs.Written.{mirrored_number}
 
 -- 8.2: BOOLEAN
 abbrev pub truth_in : List ℕ → Option Bool

@@ -6,9 +6,10 @@ use Rattle.z_types.specs.declared.conditions.Condition.TheVariants.{PresentReque
 use Rattle.z_types.specs.declared.diagnostic.Diag.{Diag}
 use Rattle.z_ber.specs.Element.{Forest}
 use Rattle.unit_forms.specs.declared.refusal.Refusal.{Refusal}
+use Rattle.unit_forms.specs.Tags as numbers
 use Rattle.unit_forms.specs.Reading.Elements.{Field}
 use Rattle.unit_forms.specs.Reading.Answers.{◌⊗◌, read_as}
-use Rattle.unit_forms.specs.Reading.Rows.{octets_of, number_of, oid_of, universal, required_of, within}
+use Rattle.unit_forms.specs.Reading.Rows.{octets_of, number_of, oid_of, universal, required_of, within, required_universal}
 
 abbrev as_diag : List ℕ × (ℕ × List ℕ) → Diag
 as_diag p = record { set = p.0; condition = p.1.0; addinfo = p.1.1 }
@@ -17,9 +18,9 @@ as_diag p = record { set = p.0; condition = p.1.0; addinfo = p.1.1 }
 unfoldable pub diag_in : Forest → Result Diag Refusal
 diag_in fields =
     read_as as_diag (
-    required_of 6 (universal 6 ∷ []) oid_of fields
-    ⊗ required_of 2 (universal 2 ∷ []) number_of fields
-    ⊗ required_of 27 (universal 26 ∷ universal 27 ∷ []) octets_of fields)
+    required_universal numbers.object_identifier oid_of fields
+    ⊗ required_universal numbers.integer number_of fields
+    ⊗ required_of numbers.general_string (universal numbers.visible_string ∷ universal numbers.general_string ∷ []) octets_of fields)
 
 -- DefaultDiagFormat, in its own tag or another
 abbrev pub diag_of : Field → Result Diag Refusal

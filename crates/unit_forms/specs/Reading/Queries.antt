@@ -79,8 +79,8 @@ structure_at zero (branch tag contents inner others) =
 
 -- the attribute set of a query, its first element
 abbrev pub set_of : Option Field → Result (List ℕ) Refusal
-set_of None = Err (Missing 6)
-set_of (Some field) = if has_tag field.tag (universal 6) then oid_of field else Err (Missing 6)
+set_of None = Err (Missing numbers.object_identifier)
+set_of (Some field) = if has_tag field.tag (universal numbers.object_identifier) then oid_of field else Err (Missing numbers.object_identifier)
 
 abbrev query_with : List ℕ → Tree → RpnQuery
 query_with set root = record { attr_set = set; root = root }

@@ -15,7 +15,7 @@ use Rattle.unit_forms.specs.declared.refusal.Refusal.TheVariants.{BadValue, Left
 use Rattle.unit_forms.specs.Reading.Contents.{bits_in}
 use Rattle.unit_forms.specs.Reading.Elements.{Field, first_element, other_elements, first_of}
 use Rattle.unit_forms.specs.Reading.Answers.{◌⊗◌, read_as, value_or}
-use Rattle.unit_forms.specs.Reading.Rows.{octets_of, oid_of, context, universal, required, required_of, optional, within, each_with}
+use Rattle.unit_forms.specs.Reading.Rows.{octets_of, oid_of, context, universal, required, required_of, optional, within, each_with, required_universal}
 use Rattle.unit_forms.specs.Reading.Diagnostics.{diag_of}
 use Rattle.unit_forms.specs.Tags as numbers
 
@@ -53,14 +53,14 @@ as_record p = Record p.0 p.1.0 p.1.1
 unfoldable pub external_in : Forest → Result Item Refusal
 external_in fields =
     read_as as_record (
-    required_of 6 (universal 6 ∷ []) oid_of fields
+    required_universal numbers.object_identifier oid_of fields
     ⊗ required_of numbers.single_asn1_type encoding_choice encoding_of fields)
 
 -- retrievalRecord [1], round an EXTERNAL, or surrogateDiagnostic [2], round a diagnostic
 abbrev pub item_of : Field → Result Item Refusal
 item_of field =
-    if field.tag.number == numbers.retrieval_record then within (required_of 8 (universal 8 ∷ []) (within external_in)) field
-    else read_as Surrogate (within (required_of 16 (universal 16 ∷ []) diag_of) field)
+    if field.tag.number == numbers.retrieval_record then within (required_universal numbers.external (within external_in)) field
+    else read_as Surrogate (within (required_universal numbers.sequence diag_of) field)
 
 unfoldable pub item_in : Forest → Result Item Refusal
 item_in elements =
@@ -81,11 +81,11 @@ named_of field = within named_in field
 
 -- records one after another, each a SEQUENCE
 unfoldable pub records_in : Forest → Result (List NamedRecord) Refusal
-records_in elements = each_with (universal 16) named_of elements
+records_in elements = each_with (universal numbers.sequence) named_of elements
 
 -- diagnostics one after another, each a SEQUENCE
 unfoldable pub diags_in : Forest → Result (List Diag) Refusal
-diags_in elements = each_with (universal 16) diag_of elements
+diags_in elements = each_with (universal numbers.sequence) diag_of elements
 
 -- Records: responseRecords [28], nonSurrogateDiagnostic [130], multipleNonSurDiagnostics [205]
 abbrev pub body_of : Field → Result Body Refusal

@@ -58,6 +58,9 @@ required_of number choice read fields = read_or (Missing number) read (first_of 
 abbrev pub required : {A : Type 0} → ℕ → (Field → Result A Refusal) → Forest → Result A Refusal
 required number read fields = required_of number (context number ∷ []) read fields
 
+abbrev pub required_universal : {A : Type 0} → ℕ → (Field → Result A Refusal) → Forest → Result A Refusal
+required_universal number read fields = required_of number (universal number ∷ []) read fields
+
 -- one that may be absent
 abbrev pub optional_of : {A : Type 0} → List Tag → (Field → Result A Refusal) → Forest → Result (Option A) Refusal
 optional_of choice read fields = read_if read (first_of choice fields)

@@ -34,7 +34,7 @@ as_ask p = asked_as (ask_with p) p.1.0
 unfoldable pub ask_in : Forest → Result (Asked ScanAsk) Refusal
 ask_in fields =
     read_as as_ask (
-    optional_of (universal 6 ∷ []) oid_of fields
+    optional_of (universal numbers.object_identifier ∷ []) oid_of fields
     ⊗ required numbers.term_list_and_start_point (within attrs_and_term_in) fields
     ⊗ optional numbers.step_size number_of fields
     ⊗ required numbers.number_of_terms_requested number_of fields

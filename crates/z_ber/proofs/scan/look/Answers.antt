@@ -14,17 +14,17 @@ overflow_sub-scan c = few_open c.args.bytes.now c.args.scan.passed c.args.scan.o
 pub returns-in-Ok-End-default : goal.returns-in-Ok-End-default
 returns-in-Ok-End-default c =
     let h = look_step c.args.bytes.now c.args.scan.passed c.args.scan.opened c.in-Ok-End-default.field-0-0 c.in-Ok-End-default.after.now c.requires.stands c.requires.opened (λ i. omega (arith, c.type_inv.bytes i)) (ap (step_at (64 - c.args.scan.opened)) (sym (take_rest c.args.bytes.now c.args.scan.passed)) ∙ c.in-Ok-End-default.ensures.read) in
-    subst (λ (r : Result Progress BerFault). IsProgress c.args.scan c.args.bytes.now r) (ap (λ s. progress_of (length c.args.bytes.now) c.args.scan.opened s c.in-Ok-End-default.after.now) c.in-Ok-End-default.field-0-0-is ∙ ap (λ (x : Progress). Ok x) (sym c.ended.ensures)) h
+    subst (λ (r : Result Progress BerFault). IsProgress c.args.scan c.args.bytes.now r) (ap (λ s. progress_of (length c.args.bytes.now) c.args.scan.opened s c.in-Ok-End-default.after.now) c.in-Ok-End-default.field-0-0-is ∙ ap (λ (x : Progress). Ok x) (sym c.end_element.ensures)) h
 
 pub returns-in-Ok-Whole-default : goal.returns-in-Ok-Whole-default
 returns-in-Ok-Whole-default c =
     let h = look_step c.args.bytes.now c.args.scan.passed c.args.scan.opened c.in-Ok-Whole-default.field-0-0 c.in-Ok-Whole-default.after.now c.requires.stands c.requires.opened (λ i. omega (arith, c.type_inv.bytes i)) (ap (step_at (64 - c.args.scan.opened)) (sym (take_rest c.args.bytes.now c.args.scan.passed)) ∙ c.in-Ok-Whole-default.ensures.read) in
-    subst (λ (r : Result Progress BerFault). IsProgress c.args.scan c.args.bytes.now r) (ap (λ s. progress_of (length c.args.bytes.now) c.args.scan.opened s c.in-Ok-Whole-default.after.now) c.in-Ok-Whole-default.field-0-0-is ∙ sym c.moved.ensures) h
+    subst (λ (r : Result Progress BerFault). IsProgress c.args.scan c.args.bytes.now r) (ap (λ s. progress_of (length c.args.bytes.now) c.args.scan.opened s c.in-Ok-Whole-default.after.now) c.in-Ok-Whole-default.field-0-0-is ∙ sym c.move_on.ensures) h
 
 pub returns-in-Ok-Open-default : goal.returns-in-Ok-Open-default
 returns-in-Ok-Open-default c =
     let h = look_step c.args.bytes.now c.args.scan.passed c.args.scan.opened c.in-Ok-Open-default.field-0-0 c.in-Ok-Open-default.after.now c.requires.stands c.requires.opened (λ i. omega (arith, c.type_inv.bytes i)) (ap (step_at (64 - c.args.scan.opened)) (sym (take_rest c.args.bytes.now c.args.scan.passed)) ∙ c.in-Ok-Open-default.ensures.read) in
-    subst (λ (r : Result Progress BerFault). IsProgress c.args.scan c.args.bytes.now r) (ap (λ s. progress_of (length c.args.bytes.now) c.args.scan.opened s c.in-Ok-Open-default.after.now) c.in-Ok-Open-default.field-0-0-is ∙ sym c.moved-in-Ok-Open-default.ensures) h
+    subst (λ (r : Result Progress BerFault). IsProgress c.args.scan c.args.bytes.now r) (ap (λ s. progress_of (length c.args.bytes.now) c.args.scan.opened s c.in-Ok-Open-default.after.now) c.in-Ok-Open-default.field-0-0-is ∙ sym c.move_on-in-Ok-Open-default.ensures) h
 
 pub returns-in-Err : goal.returns-in-Err
 returns-in-Err c =

@@ -14,21 +14,21 @@ returns-in-Ended-clause-keeps g c =
 pub returns-in-Bad-clause-stepped : goal.returns-in-Bad-clause-stepped
 returns-in-Bad-clause-stepped g c =
     step-bad _ _ _ _ _ _ _ _ _ _ _ c.put_bad_unit-put.result _ c.self.view_is
-    (none-of _ (sym c.is_some.ensures ∙ c.if-is_some.false)) c.in-Bad.ensures c.stepped.ensures
+    (none-of _ (sym c.is_some.ensures ∙ c.if-is_some.false)) c.in-Bad.ensures c.end_step.ensures
 
 pub returns-in-Bad-clause-keeps : goal.returns-in-Bad-clause-keeps
 returns-in-Bad-clause-keeps g c =
     keeps-bad g.T.World _ _ _ _ _ _ _ _ _ _ _ _ c.put_bad_unit-put.result _ c.self.view_is
-    (none-of _ (sym c.is_some.ensures ∙ c.if-is_some.false)) c.in-Bad.ensures c.stepped.ensures
+    (none-of _ (sym c.is_some.ensures ∙ c.if-is_some.false)) c.in-Bad.ensures c.end_step.ensures
     c.put_bad_unit-put.ensures
 
 pub returns-in-Ok-clause-stepped : goal.returns-in-Ok-clause-stepped
 returns-in-Ok-clause-stepped g c =
     step-whole _ _ _ _ _ _ _ _ _ _ _ _ _ _ _ c.put_mark-put.result _ c.self.view_is
-    (none-of _ (sym c.is_some.ensures ∙ c.if-is_some.false)) c.in-Whole.ensures c.stepped-in-Ok.ensures
+    (none-of _ (sym c.is_some.ensures ∙ c.if-is_some.false)) c.in-Whole.ensures c.end_step-in-Ok.ensures
 
 pub returns-in-Ok-clause-keeps : goal.returns-in-Ok-clause-keeps
 returns-in-Ok-clause-keeps g c =
     keeps-whole g.T.World _ _ _ _ _ _ _ _ _ _ _ _ _ _ _ _ c.in-Ok.told c.put_mark-put.result _ c.self.view_is
     (none-of _ (sym c.is_some.ensures ∙ c.if-is_some.false)) c.in-Whole.ensures c.unit-unit.ensures
-    c.in-Ok.ensures c.put_mark-put.ensures c.stepped-in-Ok.ensures
+    c.in-Ok.ensures c.put_mark-put.ensures c.end_step-in-Ok.ensures

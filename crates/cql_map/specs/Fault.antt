@@ -4,18 +4,18 @@ use Rattle.cql_map.specs.declared.fault.MapFault.{MapFault}
 use Rattle.cql_map.specs.declared.fault.MapFault.TheVariants.{ContextSet, Index, Relation, Modifier, Boolean, Masking, EmptyTerm, Sort, BooleanModifier, Anchoring, Memory}
 
 -- 0 for want of memory, which is no refusal
-abbrev pub number_of : MapFault → ℕ
-number_of (ContextSet text) = 1
-number_of (Index text) = 2
-number_of (Relation text) = 3
-number_of (Modifier text) = 4
-number_of (Boolean text) = 5
-number_of (Masking text) = 6
-number_of (EmptyTerm text) = 7
-number_of (Sort text) = 8
-number_of (BooleanModifier text) = 9
-number_of (Anchoring text) = 10
-number_of Memory = 0
+abbrev pub fault_number : MapFault → ℕ
+fault_number (ContextSet text) = 1
+fault_number (Index text) = 2
+fault_number (Relation text) = 3
+fault_number (Modifier text) = 4
+fault_number (Boolean text) = 5
+fault_number (Masking text) = 6
+fault_number (EmptyTerm text) = 7
+fault_number (Sort text) = 8
+fault_number (BooleanModifier text) = 9
+fault_number (Anchoring text) = 10
+fault_number Memory = 0
 
 -- unsupported context set, index, relation, relation modifier, boolean, masking character, empty term, sort,
 -- boolean modifier, anchoring character

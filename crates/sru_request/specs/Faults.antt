@@ -4,8 +4,8 @@ use Rattle.sru_request.specs.declared.faults.HeadFault.{HeadFault}
 use Rattle.sru_request.specs.declared.faults.HeadFault.TheVariants.{BadHttp, NotGet, HeadTooLarge, Memory}
 
 -- 0 for want of memory, which is no refusal
-abbrev pub number_of : HeadFault → ℕ
-number_of BadHttp = 1
-number_of NotGet = 2
-number_of HeadTooLarge = 3
-number_of Memory = 0
+abbrev pub fault_number : HeadFault → ℕ
+fault_number BadHttp = 1
+fault_number NotGet = 2
+fault_number HeadTooLarge = 3
+fault_number Memory = 0

@@ -1,7 +1,7 @@
 use Rattle.std.proofs.Common.{◌≡◌, ◌∙◌, get_or, rules, arith}
 use Rattle.std.specs.Fmt.{decimal}
 use Rattle.test_target.proofs.Dotted.{dotted_from}
-use Rattle.test_target.proofs.syntaxes.dotted.Goals as goal
+use Rattle.test_target.proofs.syntaxes.dotted_text.Goals as goal
 
 pub returns : goal.returns
 returns c =
