@@ -1,5 +1,5 @@
 pub mod IntegerLemmas
-pub mod KeptLemmas
+pub mod IndexLemmas
 pub mod FirstLemmas
 pub mod TakeLemmas
 pub mod TreeLemmas

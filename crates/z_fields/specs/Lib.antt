@@ -1,3 +1,3 @@
 pub mod Codes
 pub mod Trees
-pub mod Kept
+pub mod Index

@@ -1,28 +1,37 @@
 //! The fields of an element, of which the first with each tag counts (this project's own).
 
-ghost use Rattle.std.specs.Prelude.{◌≡◌, [], IfOk, OnOk};
+ghost use Rattle.std.specs.Prelude.{◌≡◌, ◌+◌, ◌<◌, ◌∷◌, [], length, IfOk, OnOk};
+ghost use Rattle.std.specs.Option.{option_copied};
 ghost use Rattle.unit_forms.specs.Reading.Elements.{first_of};
-ghost use Rattle.z_fields.specs.Kept.{first_kept, are_wanted, is_kept, with_kept, HasFirsts};
+ghost use Rattle.z_fields.specs.Index.{place_count, free, kept_at, places_with, kept_with};
 
-use crate::elements::{Elements, Field, has_tag, is_one_of};
+use crate::elements::{Elements, Field, has_tag};
 use std::alloc::Global;
 use std::marker::Model;
 use z_ber::Tag;
 use z_types::Memory;
 
-/// The fields of an element. Those with wanted tags are found in one pass, and others by a look at each
-/// element in it.
+/// How many places an index has. No two context tags that one unit's fields are looked for by share
+/// a place, so that each is found without a look at others.
+const PLACE_COUNT: usize = 31;
+
+/// How many fields an index keeps at first.
+const FEW: usize = 12;
+
+/// The fields of an element. Where they are indexed, those of the context class are found by their
+/// numbers, and else by a look at each element.
 #[derive(Drop)]
 pub struct Fields<'a> {
     field: Field<'a>,
-    wanted: &'a [Tag],
+    is_indexed: bool,
+    places: [u8; PLACE_COUNT],
     kept: Vec<Field<'a>>,
 }
 
 impl<'a> Model for Fields<'a> {
     ghost use Rattle.z_ber.specs.Element.{Forest};
     ghost use Rattle.z_fields.specs.Codes.{forest_code};
-    ghost use Rattle.z_fields.specs.Kept.{HasFirsts};
+    ghost use Rattle.z_fields.specs.Index.{AreIndexed};
 
     ghost Value = { Forest };
 
@@ -30,125 +39,105 @@ impl<'a> Model for Fields<'a> {
 
     ghost view = { λ f. f.field.inner };
 
-    ghost invariant = { λ f. HasFirsts f.wanted.now f.kept.items f.field.inner };
+    ghost invariant = { λ f. AreIndexed f.is_indexed f.places f.kept.items f.field.inner };
 }
 
-/// The first of these fields whose tag is one of a choice's.
+/// Keeps a field of the context class at its place, where it is the first.
+#[tactic(auto, using(crate::proofs::IndexLemmas::one_free))]
 #[inline(always)]
-fn first_kept<'a>(kept: &[Field<'a>], choice: &[Tag]) -> Option<Field<'a>>
-    ensures { result ≡ first_kept choice.now kept.now }
+fn keep<'a>(
+    places: &mut [u8; PLACE_COUNT],
+    kept: &mut Vec<Field<'a>>,
+    field: Field<'a>,
+) -> Result<(), Memory>
+    requires { length kept.old.items + free places.old ≡ place_count }
+    ensures places { OnOk result (places.new ≡ places_with places.old kept.old.items field.entry) }
+    ensures kept { OnOk result (kept.new.items ≡ kept_with places.old kept.old.items field.entry) }
 {
-    let mut left = kept;
-    loop {
-        match left {
-            [] => return None,
-            [field, rest @ ..] => {
-                if is_one_of(choice, field.tag()) {
-                    return Some(field.again());
-                }
-                left = rest;
-            }
+    let tag = field.tag();
+    if tag.class == 2 {
+        let place = tag.number as usize % PLACE_COUNT;
+        if places[place] == 0 {
+            kept.push(field)?;
+            places[place] = kept.len() as u8;
         }
-    }
-}
-
-/// Whether each tag of a choice is wanted.
-#[inline(always)]
-fn are_wanted(wanted: &[Tag], choice: &[Tag]) -> bool
-    ensures { result ≡ are_wanted wanted.now choice.now }
-{
-    let mut left = choice;
-    loop {
-        match left {
-            [] => return true,
-            [tag, rest @ ..] => {
-                if !is_one_of(wanted, *tag) {
-                    return false;
-                }
-                left = rest;
-            }
-        }
-    }
-}
-
-/// Whether a field of this tag is kept.
-#[inline(always)]
-fn is_kept(kept: &[Field<'_>], tag: Tag) -> bool
-    ensures { result ≡ is_kept tag kept.now }
-{
-    let mut left = kept;
-    loop {
-        match left {
-            [] => return false,
-            [field, rest @ ..] => {
-                if has_tag(field.tag(), tag) {
-                    return true;
-                }
-                left = rest;
-            }
-        }
-    }
-}
-
-/// Keeps a field where its tag is wanted and none of that tag is kept.
-#[inline(always)]
-fn keep<'a>(kept: &mut Vec<Field<'a>>, field: Field<'a>, wanted: &[Tag]) -> Result<(), Memory>
-    ensures { OnOk result (kept.new.items ≡ with_kept wanted.now kept.old.items field.entry) }
-{
-    if is_one_of(wanted, field.tag()) && !is_kept(kept.as_slice(), field.tag()) {
-        kept.push(field)?;
     }
     Ok(())
 }
 
-/// The first element of each wanted tag.
-#[tactic(auto, using(crate::proofs::KeptLemmas::kept_steps))]
+/// The kept field at a place.
 #[inline(always)]
-fn firsts<'a>(
-    alloc: Global,
-    mut elements: Elements<'a>,
-    wanted: &[Tag],
-) -> Result<Vec<Field<'a>>, Memory>
-    ensures { IfOk result (λ kept. HasFirsts wanted.now kept.items elements.entry) }
+fn kept_at<'k, 'a>(
+    places: &[u8; PLACE_COUNT],
+    kept: &'k [Field<'a>],
+    place: usize,
+) -> Option<&'k Field<'a>>
+    requires { place < place_count }
+    ensures { option_copied result ≡ kept_at places.now kept.now place }
 {
-    let mut kept = Vec::with_capacity(alloc, wanted.len())?;
-    loop {
-        match elements.next() {
-            None => return Ok(kept),
-            Some(field) => keep(&mut kept, field, wanted)?,
-        }
+    let behind = places[place];
+    if behind == 0 {
+        return None;
     }
+    kept.get(usize::from(behind) - 1)
 }
 
 impl<'a> Fields<'a> {
     /// The fields of an element, found by a look at each. It takes no memory.
-    #[tactic(auto, using(crate::proofs::KeptLemmas::nothing_wanted))]
     #[inline(always)]
     pub fn of(alloc: Global, field: &Field<'a>) -> Fields<'a>
         ensures { result ≡ field.now.inner }
     {
         Fields {
             field: field.again(),
-            wanted: &[],
+            is_indexed: false,
+            places: [0; PLACE_COUNT],
             kept: Vec::new(alloc),
         }
     }
 
-    /// The fields of an element, those with wanted tags found at once.
+    /// The fields of an element, indexed in one pass.
+    #[tactic(auto, using(crate::proofs::FirstLemmas::fewer))]
     #[inline(always)]
-    pub fn keeping(
-        alloc: Global,
-        field: &Field<'a>,
-        wanted: &'a [Tag],
-    ) -> Result<Fields<'a>, Memory>
+    pub fn with_index(alloc: Global, field: &Field<'a>) -> Result<Fields<'a>, Memory>
         ensures { IfOk result (λ fields. fields ≡ field.now.inner) }
     {
-        let kept = firsts(alloc, field.elements(), wanted)?;
-        Ok(Fields {
-            field: field.again(),
-            wanted,
-            kept,
-        })
+        let mut places = [0; PLACE_COUNT];
+        let mut kept = Vec::with_capacity(alloc, FEW)?;
+        let mut elements = field.elements();
+        loop {
+            match elements.next() {
+                Some(one) => keep(&mut places, &mut kept, one)?,
+                None => {
+                    return Ok(Fields {
+                        field: field.again(),
+                        is_indexed: true,
+                        places,
+                        kept,
+                    });
+                }
+            }
+        }
+    }
+
+    /// The first field with this tag.
+    #[tactic(auto, using(crate::proofs::IndexLemmas::found_steps))]
+    #[inline(always)]
+    fn first(&self, tag: Tag) -> Option<Field<'a>>
+        ensures { result ≡ first_of (tag ∷ []) self.now }
+    {
+        if self.is_indexed && tag.class == 2 {
+            let place = tag.number as usize % PLACE_COUNT;
+            match kept_at(&self.places, self.kept.as_slice(), place) {
+                None => return None,
+                Some(field) => {
+                    if has_tag(field.tag(), tag) {
+                        return Some(field.again());
+                    }
+                }
+            }
+        }
+        self.field.elements().first_of(&[tag])
     }
 
     /// The first field whose tag is one of these.
@@ -156,10 +145,9 @@ impl<'a> Fields<'a> {
     pub fn first_of(&self, choice: &[Tag]) -> Option<Field<'a>>
         ensures { result ≡ first_of choice.now self.now }
     {
-        if are_wanted(self.wanted, choice) {
-            first_kept(self.kept.as_slice(), choice)
-        } else {
-            self.field.elements().first_of(choice)
+        match choice {
+            [tag] => self.first(*tag),
+            _ => self.field.elements().first_of(choice),
         }
     }
 

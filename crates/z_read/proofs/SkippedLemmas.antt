@@ -1,5 +1,5 @@
 -- Elements that are skipped change nothing.
-use Rattle.std.proofs.Common.{◌≡◌, ◌∙◌, ℕ, ◌==◌, Bool, true, false, cond, List, [], ◌∷◌, Some, Result, Ok, Err, refl, sym, ap}
+use Rattle.std.proofs.Common.{◌≡◌, ◌∙◌, ℕ, ◌==◌, ◌&&◌, ◌||◌, arith, Bool, true, false, cond, List, [], ◌∷◌, Some, Result, Ok, Err, refl, sym, ap}
 use Rattle.z_types.specs.declared.requests.Request.TheVariants as request
 use Rattle.z_types.specs.declared.replies.Reply.TheVariants as reply
 use Rattle.z_ber.specs.declared.tag.Tag.{Tag}
@@ -11,7 +11,7 @@ use Rattle.unit_forms.specs.declared.refusal.Refusal.TheVariants as refusal
 use Rattle.unit_forms.specs.Reading.Answers.{read_as, read_or}
 use Rattle.unit_forms.specs.Reading.CloseUnit.{close_in}
 use Rattle.unit_forms.specs.Reading.ElementNames.{composition_in}
-use Rattle.unit_forms.specs.Reading.Elements.{Field, field_of, is_one_of, first_of, first_element}
+use Rattle.unit_forms.specs.Reading.Elements.{Field, field_of, has_tag, is_one_of, first_of, first_element}
 use Rattle.unit_forms.specs.Reading.InitRequest.{init_in, init_response_in}
 use Rattle.unit_forms.specs.Reading.PresentRequest.{place_in, form_in, present_in}
 use Rattle.unit_forms.specs.Reading.Records.{body_in}
@@ -20,11 +20,38 @@ use Rattle.unit_forms.specs.Reading.Rows.{context, universal, within}
 use Rattle.unit_forms.specs.Reading.ScanRequest.{ask_in, scan_in}
 use Rattle.unit_forms.specs.Reading.SearchRequest.{bounds_in, named_in, wanted_in, search_in}
 use Rattle.unit_forms.specs.Reading.Units.{numbered_request, request_of, numbered_reply, reply_of}
-use Rattle.z_fields.specs.Kept.{are_wanted}
-use Rattle.z_fields.proofs.KeptLemmas.{unwanted}
+use Rattle.z_fields.proofs.IndexLemmas.{and_both, same_class}
 use Rattle.z_read.specs.declared.fault.ReadFault.TheVariants.{Ber, UnknownUnit, Missing, BadValue, LeftOut, Memory}
 use Rattle.z_read.specs.Laws.{kept, contexts, request_tags, reply_tags, HaveSameFields, SkippedChangeNothing}
 use Rattle.z_read.specs.Read.{IsReadAs, IsReadingBy, IsRequestRead, IsReplyRead}
+
+-- ---- tags among others
+
+-- whether each tag of a choice is one of these
+abbrev are_wanted : List Tag → List Tag → Bool
+are_wanted wanted [] = true
+are_wanted wanted (tag ∷ choice) = is_one_of wanted tag && are_wanted wanted choice
+
+same_choice : (s t : Tag) → has_tag s t ≡ true → (choice : List Tag) → is_one_of choice s ≡ is_one_of choice t
+same_choice s t e [] = refl
+same_choice s t e (w ∷ choice) = both _ _ _ _ (same_class s t e w) (same_choice s t e choice)
+  where
+    both : (a b x y : Bool) → a ≡ b → x ≡ y → (a || x) ≡ (b || y)
+    both a b x y p q = cc
+
+-- a tag that is not wanted is in no choice of wanted tags
+unwanted : (wanted choice : List Tag) (tag : Tag) → are_wanted wanted choice ≡ true → is_one_of wanted tag ≡ false → is_one_of choice tag ≡ false
+unwanted wanted [] tag all not_one = refl
+unwanted wanted (w ∷ choice) tag all not_one =
+    let p = and_both (is_one_of wanted w) (are_wanted wanted choice) all in
+    by (has_tag tag w) refl (unwanted wanted choice tag p.1 not_one) p.0
+  where
+    no : {P : Type 0} (b : Bool) → b ≡ true → b ≡ false → P
+    no b e f = absurd (grind arith)
+
+    by : (b : Bool) → has_tag tag w ≡ b → is_one_of choice tag ≡ false → is_one_of wanted w ≡ true → (b || is_one_of choice tag) ≡ false
+    by true e rest one = no (is_one_of wanted tag) (same_choice tag w e wanted ∙ one) not_one
+    by false e rest one = rest
 
 -- ---- the first of a choice of kept tags is kept
 

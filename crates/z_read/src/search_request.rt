@@ -100,6 +100,7 @@ fn wanted_in(alloc: Global, fields: &Fields<'_>) -> Result<Result<Wanted, Refusa
 }
 
 /// The query, or the diagnostic of element set names that are not served.
+#[inline(always)]
 fn with_names(names: Option<Asked<Text>>, query: Asked<RpnQuery>) -> (Option<Text>, Asked<RpnQuery>)
     ensures name { result.0 ≡ name_in names }
     ensures query { result.1 ≡ with_names names query }

@@ -23,7 +23,7 @@ use crate::scan_request::scan_in;
 use crate::search_request::search_in;
 use std::alloc::Global;
 use unit_forms::{Refusal, tags};
-use z_fields::{Field, Fields, context};
+use z_fields::{Field, Fields};
 use z_types::{Memory, Reply, Request};
 
 /// The request that an Init is.
@@ -33,14 +33,7 @@ fn init_of(alloc: Global, field: &Field<'_>) -> Result<Result<Request, Refusal>,
     if !field.tag().constructed {
         return Ok(Err(Refusal::BadValue(field.tag().number)));
     }
-    let wanted = [
-        context(tags::REFERENCE_ID),
-        context(tags::PROTOCOL_VERSION),
-        context(tags::OPTIONS),
-        context(tags::PREFERRED_MESSAGE_SIZE),
-        context(tags::EXCEPTIONAL_RECORD_SIZE),
-    ];
-    match init_in(alloc, &Fields::keeping(alloc, field, &wanted)?)? {
+    match init_in(alloc, &Fields::with_index(alloc, field)?)? {
         Ok(init) => Ok(Ok(Request::Init(init))),
         Err(refusal) => Ok(Err(refusal)),
     }
@@ -53,20 +46,7 @@ fn search_of(alloc: Global, field: &Field<'_>) -> Result<Result<Request, Refusal
     if !field.tag().constructed {
         return Ok(Err(Refusal::BadValue(field.tag().number)));
     }
-    let wanted = [
-        context(tags::REFERENCE_ID),
-        context(tags::SMALL_SET_UPPER_BOUND),
-        context(tags::LARGE_SET_LOWER_BOUND),
-        context(tags::MEDIUM_SET_PRESENT_NUMBER),
-        context(tags::REPLACE_INDICATOR),
-        context(tags::RESULT_SET_NAME),
-        context(tags::DATABASE_NAMES),
-        context(tags::SMALL_SET_ELEMENT_SET_NAMES),
-        context(tags::MEDIUM_SET_ELEMENT_SET_NAMES),
-        context(tags::PREFERRED_RECORD_SYNTAX),
-        context(tags::QUERY),
-    ];
-    match search_in(alloc, &Fields::keeping(alloc, field, &wanted)?)? {
+    match search_in(alloc, &Fields::with_index(alloc, field)?)? {
         Ok(search) => Ok(Ok(Request::Search(search))),
         Err(refusal) => Ok(Err(refusal)),
     }
@@ -80,17 +60,7 @@ fn present_of(alloc: Global, field: &Field<'_>) -> Result<Result<Request, Refusa
     if !field.tag().constructed {
         return Ok(Err(Refusal::BadValue(field.tag().number)));
     }
-    let wanted = [
-        context(tags::REFERENCE_ID),
-        context(tags::RESULT_SET_ID),
-        context(tags::RESULT_SET_START_POINT),
-        context(tags::NUMBER_OF_RECORDS_REQUESTED),
-        context(tags::RECORD_COMPOSITION_SIMPLE),
-        context(tags::RECORD_COMPOSITION_COMPLEX),
-        context(tags::ADDITIONAL_RANGES),
-        context(tags::PREFERRED_RECORD_SYNTAX),
-    ];
-    match present_in(alloc, &Fields::keeping(alloc, field, &wanted)?)? {
+    match present_in(alloc, &Fields::with_index(alloc, field)?)? {
         Ok(present) => Ok(Ok(Request::Present(present))),
         Err(refusal) => Ok(Err(refusal)),
     }
@@ -103,15 +73,7 @@ fn scan_of(alloc: Global, field: &Field<'_>) -> Result<Result<Request, Refusal>,
     if !field.tag().constructed {
         return Ok(Err(Refusal::BadValue(field.tag().number)));
     }
-    let wanted = [
-        context(tags::REFERENCE_ID),
-        context(tags::SCAN_DATABASE_NAMES),
-        context(tags::TERM_LIST_AND_START_POINT),
-        context(tags::STEP_SIZE),
-        context(tags::NUMBER_OF_TERMS_REQUESTED),
-        context(tags::PREFERRED_POSITION_IN_RESPONSE),
-    ];
-    match scan_in(alloc, &Fields::keeping(alloc, field, &wanted)?)? {
+    match scan_in(alloc, &Fields::with_index(alloc, field)?)? {
         Ok(scan) => Ok(Ok(Request::Scan(scan))),
         Err(refusal) => Ok(Err(refusal)),
     }
@@ -124,12 +86,7 @@ fn close_of(alloc: Global, field: &Field<'_>) -> Result<Result<Request, Refusal>
     if !field.tag().constructed {
         return Ok(Err(Refusal::BadValue(field.tag().number)));
     }
-    let wanted = [
-        context(tags::REFERENCE_ID),
-        context(tags::CLOSE_REASON),
-        context(tags::DIAGNOSTIC_INFORMATION),
-    ];
-    match close_in(alloc, &Fields::keeping(alloc, field, &wanted)?)? {
+    match close_in(alloc, &Fields::with_index(alloc, field)?)? {
         Ok(close) => Ok(Ok(Request::Close(close))),
         Err(refusal) => Ok(Err(refusal)),
     }
@@ -142,15 +99,7 @@ fn init_reply_of(alloc: Global, field: &Field<'_>) -> Result<Result<Reply, Refus
     if !field.tag().constructed {
         return Ok(Err(Refusal::BadValue(field.tag().number)));
     }
-    let wanted = [
-        context(tags::REFERENCE_ID),
-        context(tags::PROTOCOL_VERSION),
-        context(tags::OPTIONS),
-        context(tags::PREFERRED_MESSAGE_SIZE),
-        context(tags::EXCEPTIONAL_RECORD_SIZE),
-        context(tags::INIT_RESULT),
-    ];
-    init_reply_in(alloc, &Fields::keeping(alloc, field, &wanted)?)
+    init_reply_in(alloc, &Fields::with_index(alloc, field)?)
 }
 
 /// The reply that a SearchResponse is.
@@ -160,18 +109,7 @@ fn search_reply_of(alloc: Global, field: &Field<'_>) -> Result<Result<Reply, Ref
     if !field.tag().constructed {
         return Ok(Err(Refusal::BadValue(field.tag().number)));
     }
-    let wanted = [
-        context(tags::REFERENCE_ID),
-        context(tags::RESULT_COUNT),
-        context(tags::NUMBER_OF_RECORDS_RETURNED),
-        context(tags::NEXT_RESULT_SET_POSITION),
-        context(tags::SEARCH_STATUS),
-        context(tags::PRESENT_STATUS),
-        context(tags::RESPONSE_RECORDS),
-        context(tags::NON_SURROGATE_DIAGNOSTIC),
-        context(tags::MULTIPLE_NON_SURROGATE_DIAGNOSTICS),
-    ];
-    search_reply_in(alloc, &Fields::keeping(alloc, field, &wanted)?)
+    search_reply_in(alloc, &Fields::with_index(alloc, field)?)
 }
 
 /// The reply that a PresentResponse is.
@@ -181,16 +119,7 @@ fn present_reply_of(alloc: Global, field: &Field<'_>) -> Result<Result<Reply, Re
     if !field.tag().constructed {
         return Ok(Err(Refusal::BadValue(field.tag().number)));
     }
-    let wanted = [
-        context(tags::REFERENCE_ID),
-        context(tags::NUMBER_OF_RECORDS_RETURNED),
-        context(tags::NEXT_RESULT_SET_POSITION),
-        context(tags::PRESENT_STATUS),
-        context(tags::RESPONSE_RECORDS),
-        context(tags::NON_SURROGATE_DIAGNOSTIC),
-        context(tags::MULTIPLE_NON_SURROGATE_DIAGNOSTICS),
-    ];
-    present_reply_in(alloc, &Fields::keeping(alloc, field, &wanted)?)
+    present_reply_in(alloc, &Fields::with_index(alloc, field)?)
 }
 
 /// The reply that a ScanResponse is.
@@ -200,14 +129,7 @@ fn scan_reply_of(alloc: Global, field: &Field<'_>) -> Result<Result<Reply, Refus
     if !field.tag().constructed {
         return Ok(Err(Refusal::BadValue(field.tag().number)));
     }
-    let wanted = [
-        context(tags::REFERENCE_ID),
-        context(tags::SCAN_STATUS),
-        context(tags::NUMBER_OF_ENTRIES_RETURNED),
-        context(tags::POSITION_OF_TERM),
-        context(tags::SCAN_ENTRIES),
-    ];
-    scan_reply_in(alloc, &Fields::keeping(alloc, field, &wanted)?)
+    scan_reply_in(alloc, &Fields::with_index(alloc, field)?)
 }
 
 /// The reply that a Close is.
