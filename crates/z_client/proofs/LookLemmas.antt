@@ -1,5 +1,5 @@
 -- What a look keeps of a session (this project's own)
-use Rattle.std.proofs.Common.{inl, ◌≡◌, ◌≢◌, ◌∙◌, inr, ℕ, Bool, true, false, cond, List, take, drop, Option, None, Some, Result, Ok, Err, IfOk, IfErr, OnOk, MatchResult, is_err, refl, sym, subst, []}
+use Rattle.std.proofs.Common.{inl, ◌≡◌, ◌≢◌, ◌∙◌, inr, ℕ, Bool, true, false, cond, List, take, drop, Option, None, Some, Result, Ok, Err, IfOk, IfErr, OnOk, MatchResult, is_err, refl, sym, ap, subst, []}
 use Rattle.std.proofs.lemmas.List.{take-append-drop}
 use Rattle.z_ber.specs.Frames.{IsFrame}
 use Rattle.z_ber.specs.Header.{IsBadFor}
@@ -11,13 +11,14 @@ use Rattle.z_types.specs.declared.ask.Ask.TheVariants.{Search, Present, Scan}
 use Rattle.z_types.specs.declared.key.SetKey.{SetKey}
 use Rattle.z_types.specs.declared.world.World as world
 use Rattle.gw_outside.specs.declared.backends.Heard.{Heard}
-use Rattle.gw_outside.specs.declared.backends.Heard.TheVariants.{NotYet, Failed, Memory}
+use Rattle.gw_outside.specs.declared.backends.Heard.TheVariants.{Opened, Hits, Refused, Items, Gone, Scanned, NotYet, Failed, Memory}
 use Rattle.gw_outside.specs.Peers.{Peer, is_named}
 use Rattle.gw_outside.specs.Sessions.{Made, Fits, IsWorlds, RecordsOf, made_after}
-use Rattle.z_client.specs.Heard.{IsBreach}
-use Rattle.z_client.specs.Looks.{IsHeardIn, EndsWait, IsToldCome, answer_of}
+use Rattle.gw_outside.specs.Wires.{HandsOver}
+use Rattle.z_client.specs.Heard.{IsBreach, heard_of}
+use Rattle.z_client.specs.Looks.{IsHeardIn, IsSaidIn, IsFirstOwed, IsOwed, EndsWait, IsToldCome, answer_of}
 use Rattle.z_client.specs.TrueSession.{IsToldTrue, IsTruePeer}
-use Rattle.z_client.proofs.TrueLooks.{come_worlds, come_rests, has_come}
+use Rattle.z_client.proofs.TrueLooks.{come_worlds, come_rests, has_come, reply_one}
 
 -- ---- answers that say nothing
 
@@ -122,6 +123,14 @@ module _ (arrived : List ℕ) (p : Pending) where
   breach_fits (Ok heard) m = subst (λ h. Fits p h) (sym m) (memory_fits p)
   breach_fits (Err octets) m = failed_fits p
 
+  pub breach_said : (unit : List ℕ) (said : Result Heard (List ℕ)) → Said said → IsSaidIn p unit (answer_of said)
+  breach_said unit (Ok heard) m = subst (λ h. IsSaidIn p unit h) (sym m) tt
+  breach_said unit (Err octets) m = tt
+
+  pub breach_owed : (peer : Option Peer) (said : Result Heard (List ℕ)) → Said said → IsOwed peer p (answer_of said)
+  breach_owed peer (Ok heard) m = subst (λ h. IsOwed peer p h) (sym m) tt
+  breach_owed peer (Err octets) m = tt
+
   pub breach_made : (made : Made) (said : Result Heard (List ℕ)) → Said said → (name : List ℕ) → made name ≡ made_after p (answer_of said) made name
   breach_made made (Ok heard) m name = subst (λ h. made name ≡ made_after p h made name) (sym m) (memory_made p made name)
   breach_made made (Err octets) m name = failed_made p made name
@@ -151,6 +160,23 @@ module _ (arrived : List ℕ) (p : Pending) where
     no_reply = none;
   })
 
+-- what was heard of a unit is said in it
+pub heard_said : (p : Pending) (unit : List ℕ) (heard : Heard) → IsHeardIn p unit (Some heard) → IsSaidIn p unit heard
+heard_said p unit Opened is = is
+heard_said p unit (Hits hits) is = is
+heard_said p unit (Refused diag) is = is
+heard_said p unit (Items items) is = is
+heard_said p unit Gone is = is
+heard_said p unit (Scanned answer) is = is
+heard_said p unit NotYet is = tt
+heard_said p unit Failed is = tt
+heard_said p unit Memory is = tt
+
+-- a reply that was handed over as a unit was the first that was owed
+owed_first : (old new : Peer) (p : Pending) (unit : List ℕ) (heard : Heard) → HandsOver old new unit → IsHeardIn p unit (Some heard) → IsFirstOwed old.owed p heard
+owed_first old new p unit heard by is =
+    (by.reply, by.rest, by.was_owed, ap (λ said. heard_of p said) (reply_one unit by.reply is.0 by.unit is.1) ∙ is.2)
+
 pub on_ok : {A E P : Type 0} (said : Result A E) → is_err said ≡ false → OnOk said P → P
 on_ok (Ok a) e p = p
 on_ok (Err why) e p = absurd cc
@@ -169,3 +195,18 @@ module _ {W : Type 0} (w : world.Ghosts W) (address : Address) (made : Made) (p 
   unit_come None new arrived size is t by = absurd t
   unit_come (Some old) None arrived size is t by = absurd by
   unit_come (Some old) (Some new) arrived size is t by = (has_come w address made p old new (take size arrived) is t by.0, by.1)
+
+  -- what it says is heard of the first reply that was owed
+  pub unit_owed : (old new : Option Peer) (arrived : List ℕ) (size : ℕ) (heard : Heard) → IsToldTrue w address made p old
+      → ArrivesBy old new arrived (Whole size) → IsSaidIn p (take size arrived) heard → IsOwed old p heard
+  unit_owed None new arrived size heard t by said = absurd t
+  unit_owed (Some old) None arrived size heard t by said = absurd by
+  unit_owed (Some old) (Some new) arrived size Opened t by said = owed_first old new p (take size arrived) Opened by.0 said
+  unit_owed (Some old) (Some new) arrived size (Hits hits) t by said = owed_first old new p (take size arrived) (Hits hits) by.0 said
+  unit_owed (Some old) (Some new) arrived size (Refused diag) t by said = owed_first old new p (take size arrived) (Refused diag) by.0 said
+  unit_owed (Some old) (Some new) arrived size (Items items) t by said = owed_first old new p (take size arrived) (Items items) by.0 said
+  unit_owed (Some old) (Some new) arrived size Gone t by said = owed_first old new p (take size arrived) Gone by.0 said
+  unit_owed (Some old) (Some new) arrived size (Scanned answer) t by said = owed_first old new p (take size arrived) (Scanned answer) by.0 said
+  unit_owed (Some old) (Some new) arrived size NotYet t by said = tt
+  unit_owed (Some old) (Some new) arrived size Failed t by said = tt
+  unit_owed (Some old) (Some new) arrived size Memory t by said = tt

@@ -9,6 +9,7 @@ ghost use Rattle.gw_outside.specs.Asks.{MayAsk};
 ghost use Rattle.gw_outside.specs.Counts.{Rose, one_more};
 ghost use Rattle.gw_outside.specs.Sessions.{IfSession, OpenCounts, Fits, IsWorlds, made_after, pending_from, pending_after, is_search, begins_search, is_gone, is_not_yet};
 ghost use Rattle.z_client.specs.Heard.{IsBreach};
+ghost use Rattle.z_client.specs.Looks.{IsOwed};
 ghost use Rattle.z_client.specs.Sets.{made_in, pending_of};
 
 use crate::listening::listen;
@@ -135,7 +136,7 @@ impl<W: World, N: Wire<W>> Backend<W> for ZBackend<N> {
         ensures last { self.new.last ≡ self.old.last }
     {
         let parts = &mut session.parts;
-        let Ok((own, unit)) = asked(alloc, ask) else {
+        let Ok((own, unit)) = own_ask(alloc, ask) else {
             parts.waiting = Waiting::Broken;
             return Began::Memory;
         };
@@ -169,6 +170,8 @@ impl<W: World, N: Wire<W>> Backend<W> for ZBackend<N> {
         ensures dials { self.new.dials ≡ self.old.dials }
         ensures not_yet { result ≡ Heard.NotYet
             → IsOpenFor IsFrame (N.Link.arrived session.new.link) }
+        ensures owed { W.told session.old.address → IsOwed (N.Link.peer session.old.link)
+            (pending_of session.old.waiting) result }
         ensures breach { self.new.breaches ≢ self.old.breaches
             → IsBreach (pending_of session.old.waiting) self.new.last }
         ensures last { self.new.breaches ≢ self.old.breaches
@@ -190,7 +193,7 @@ impl<W: World, N: Wire<W>> Backend<W> for ZBackend<N> {
 }
 
 /// An ask of one's own, and its unit.
-fn asked(alloc: Global, ask: &Ask) -> Result<(Ask, Text), Memory>
+fn own_ask(alloc: Global, ask: &Ask) -> Result<(Ask, Text), Memory>
     ensures own { IfOk result (λ made. made.0 ≡ ask.now) }
     ensures unit { IfOk result (λ made. IsAskUnit ask.now made.1) }
 {

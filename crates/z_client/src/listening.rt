@@ -1,13 +1,13 @@
 //! A look of a session at its link: what is heard of the unit that has arrived, or a breach.
 
-ghost use Rattle.std.specs.Prelude.{◌≡◌, ◌≢◌, ◌≤◌, ℕ, List, length, take, Ok, false, IfOk, IfErr, MatchResult};
+ghost use Rattle.std.specs.Prelude.{◌≡◌, ◌≢◌, ◌≤◌, ℕ, List, length, take, Some, Ok, false, IfOk, IfErr, MatchResult};
 ghost use Rattle.z_ber.specs.Frames.{IsFrame};
 ghost use Rattle.z_ber.specs.Header.{IsOpenFor};
 ghost use Rattle.z_types.specs.Pending.{IsPending, broken};
 ghost use Rattle.gw_outside.specs.Counts.{Rose, one_more};
 ghost use Rattle.gw_outside.specs.Sessions.{Fits, IsWorlds, made_after, pending_after, is_not_yet};
 ghost use Rattle.z_client.specs.Heard.{IsBreach};
-ghost use Rattle.z_client.specs.Looks.{IsHeardIn, EndsWait, HasArrived, answer_of};
+ghost use Rattle.z_client.specs.Looks.{IsHeardIn, IsSaidIn, IsOwed, EndsWait, HasArrived, answer_of};
 ghost use Rattle.z_client.specs.Sets.{made_in, pending_of};
 ghost use Rattle.z_client.specs.TrueSession.{IsKept, IsTrueSession};
 
@@ -38,6 +38,8 @@ pub(crate) fn listen<W: World, N: Wire<W>>(
         ≡ made_after (pending_of parts.old.waiting) (answer_of result)
         (made_in parts.old.made.items) name }
     ensures address { parts.new.address ≡ parts.old.address }
+    ensures owed { W.told parts.old.address → IsOwed (N.Link.peer parts.old.link)
+        (pending_of parts.old.waiting) (answer_of result) }
     ensures kept { IsTrueSession W.World N.Link.Linked parts.new }
     ensures breach { IfErr result (λ octets. IsBreach (pending_of parts.old.waiting) octets) }
     ensures last { IfErr result (λ octets. octets ≡ N.Link.arrived parts.new.link) }
@@ -60,7 +62,7 @@ pub(crate) fn listen<W: World, N: Wire<W>>(
     }
 }
 
-/// What is heard of the unit of so many octets that has arrived. A breach gives the octets that had.
+/// What is heard of the unit of `size` octets that has arrived. A breach gives the octets that had.
 #[tactic(auto, using(crate::proofs::HearingLemmas::heard_ends, crate::proofs::LookLemmas::memory_worlds))]
 fn hear<W: World, N: Wire<W>>(
     wire: &mut N,
@@ -82,6 +84,8 @@ fn hear<W: World, N: Wire<W>>(
     ensures made { (name : List ℕ) → made_in parts.new.made.items name
         ≡ made_after (pending_of waiting) (answer_of result) (made_in parts.old.made.items) name }
     ensures address { parts.new.address ≡ parts.old.address }
+    ensures said { IsSaidIn (pending_of waiting)
+        (take size (N.Link.arrived parts.old.link)) (answer_of result) }
     ensures kept { IsTrueSession W.World N.Link.Linked parts.new }
     ensures breach { IfErr result (λ octets. IsBreach (pending_of waiting) octets) }
     ensures last { IfErr result (λ octets. octets ≡ N.Link.arrived parts.new.link) }
@@ -97,7 +101,7 @@ fn hear<W: World, N: Wire<W>>(
     }
 }
 
-/// What is heard of the unit of so many octets that has arrived.
+/// What is heard of the unit of `size` octets that has arrived.
 fn unit_heard<W: World, N: Wire<W>>(
     wire: &N,
     alloc: Global,
@@ -114,6 +118,7 @@ fn unit_heard<W: World, N: Wire<W>>(
 }
 
 /// Keeps what was heard, drops the unit, and lets the session rest.
+#[tactic(auto, using(crate::proofs::LookLemmas::heard_said))]
 fn settle<W: World, N: Wire<W>>(
     wire: &mut N,
     parts: &mut Parts<N::Link>,
@@ -125,6 +130,8 @@ fn settle<W: World, N: Wire<W>>(
     requires pending { IsPending (pending_of waiting) }
     requires broken { pending_of parts.old.waiting ≡ broken }
     requires arrived { HasArrived W.World N.Link.Linked parts.old (pending_of waiting) size }
+    requires said { IsHeardIn (pending_of waiting)
+        (take size (N.Link.arrived parts.old.link)) (Some heard) }
     requires ends { EndsWait (pending_of waiting) heard }
     requires worlds { W.told parts.old.address → IsWorlds W.World parts.old.address
         (made_in parts.old.made.items) (pending_of waiting) heard }
@@ -135,6 +142,8 @@ fn settle<W: World, N: Wire<W>>(
     ensures made { (name : List ℕ) → made_in parts.new.made.items name
         ≡ made_after (pending_of waiting) result (made_in parts.old.made.items) name }
     ensures address { parts.new.address ≡ parts.old.address }
+    ensures said { IsSaidIn (pending_of waiting)
+        (take size (N.Link.arrived parts.old.link)) result }
     ensures kept { IsTrueSession W.World N.Link.Linked parts.new }
     ensures not_failed { result ≢ Heard.Failed }
     ensures come { is_not_yet result ≡ false }

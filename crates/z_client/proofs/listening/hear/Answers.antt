@@ -1,7 +1,7 @@
 use Rattle.std.proofs.Common.{take, subst}
 use Rattle.z_client.specs.Sets.{made_in, pending_of}
 use Rattle.z_client.specs.Looks.{IsHeardIn}
-use Rattle.z_client.proofs.LookLemmas.{told_worlds, memory_worlds, breach_fits, breach_worlds, breach_made, breach_last, breach_not_failed, another_breach}
+use Rattle.z_client.proofs.LookLemmas.{told_worlds, memory_worlds, breach_fits, breach_said, breach_worlds, breach_made, breach_last, breach_not_failed, another_breach}
 use Rattle.z_client.proofs.listening.hear.Goals as goal
 
 pub settle-requires-clause-worlds : goal.settle-requires-clause-worlds
@@ -44,3 +44,13 @@ returns-in-Ok-None-clause-not_failed g c =
 pub returns-in-Err-clause-worlds : goal.returns-in-Err-clause-worlds
 returns-in-Err-clause-worlds g c = λ told.
     memory_worlds g.W.World c.args.parts.now.address (made_in c.args.parts.now.made.items) (pending_of c.args.waiting)
+
+pub settle-requires-clause-said : goal.settle-requires-clause-said
+settle-requires-clause-said g c =
+    subst (λ heard. IsHeardIn (pending_of c.args.waiting) (take c.args.size (g.N.Link.Linked.arrived c.args.parts.now.link)) heard)
+    c.in-Ok-Some.field-0-is c.in-Ok-Some.ensures
+
+pub returns-in-Ok-None-clause-said : goal.returns-in-Ok-None-clause-said
+returns-in-Ok-None-clause-said g c =
+    breach_said (g.N.Link.Linked.arrived c.args.parts.now.link) (pending_of c.args.waiting)
+    (take c.args.size (g.N.Link.Linked.arrived c.args.parts.now.link)) c.breach.result c.breach.ensures

@@ -1,8 +1,8 @@
 use Rattle.std.proofs.Common.{take, refl, sym, subst}
-use Rattle.z_client.specs.Looks.{IsToldCome}
+use Rattle.z_client.specs.Looks.{IsToldCome, IsSaidIn, answer_of}
 use Rattle.z_client.specs.TrueSession.{IsToldTrue}
 use Rattle.z_client.specs.Sets.{made_in, pending_of}
-use Rattle.z_client.proofs.LookLemmas.{not_yet_true, unit_come, failed_worlds, memory_worlds, breach_fits, breach_worlds, breach_made, breach_last, bad_breach}
+use Rattle.z_client.proofs.LookLemmas.{not_yet_true, unit_come, unit_owed, breach_owed, failed_worlds, memory_worlds, breach_fits, breach_worlds, breach_made, breach_last, bad_breach}
 use Rattle.z_client.proofs.listening.listen.Goals as goal
 
 pub returns-in-Breach-clause-fits : goal.returns-in-Breach-clause-fits
@@ -50,3 +50,15 @@ returns-in-NotYet-clause-kept g c = λ waits.
       peer = λ told. subst (λ waiting. IsToldTrue g.W.World c.args.parts.now.address (made_in c.args.parts.now.made.items) (pending_of waiting)
           (g.N.Link.Linked.peer c.await_unit.new.link)) (sym c.replace-waiting.ensures.value) (still told).1;
     }
+
+pub returns-in-Breach-clause-owed : goal.returns-in-Breach-clause-owed
+returns-in-Breach-clause-owed g c = λ told.
+    breach_owed (g.N.Link.Linked.arrived c.await_unit.new.link) (pending_of c.args.parts.now.waiting) (g.N.Link.Linked.peer c.args.parts.now.link) c.breach.result c.breach.ensures
+
+pub returns-in-Unit-clause-owed : goal.returns-in-Unit-clause-owed
+returns-in-Unit-clause-owed g c = λ told.
+    unit_owed g.W.World c.args.parts.now.address (made_in c.args.parts.now.made.items) (pending_of c.args.parts.now.waiting)
+    (g.N.Link.Linked.peer c.args.parts.now.link) (g.N.Link.Linked.peer c.await_unit.new.link) (g.N.Link.Linked.arrived c.await_unit.new.link)
+    c.in-Unit.size (answer_of c.hear.result) (c.requires.kept.peer told) (c.in-Unit.ensures.peer (c.requires.kept.nothing told))
+    (subst (λ waiting. IsSaidIn (pending_of waiting) (take c.in-Unit.size (g.N.Link.Linked.arrived c.await_unit.new.link)) (answer_of c.hear.result))
+    c.replace-waiting.ensures.value c.hear.ensures.said)
