@@ -1,6 +1,7 @@
 //! Links that are cut before, in and after each reply.
 
 ghost use Rattle.std.specs.Prelude.{◌≡◌};
+ghost use Rattle.link_rows.specs.declared.plays.Stage.{Stage};
 
 use crate::far::{FarPlay, far_play};
 use crate::played::PlayedWire;

@@ -1,6 +1,7 @@
 //! Plays with a target far away, which sends what is played.
 
 ghost use Rattle.std.specs.Prelude.{◌≡◌, IfOk};
+ghost use Rattle.link_rows.specs.declared.plays.Stage.{Stage};
 
 use crate::played::{PlayedLink, PlayedWire};
 use crate::plays::{Play, Step, play_over, take_steps, told};

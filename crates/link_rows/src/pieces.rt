@@ -1,6 +1,7 @@
 //! Replies that come in pieces, with a look that finds nothing between two of them.
 
 ghost use Rattle.std.specs.Prelude.{◌≡◌, IfOk};
+ghost use Rattle.link_rows.specs.declared.plays.Stage.{Stage};
 
 use crate::far::{FarPlay, far_play};
 use crate::played::PlayedWire;

@@ -2,6 +2,7 @@
 //! every second of them.
 
 ghost use Rattle.std.specs.Prelude.{◌≡◌};
+ghost use Rattle.link_rows.specs.declared.plays.Stage.{Stage};
 
 use crate::plays::Step::{Look, Open, Present, Scan, Search};
 use crate::plays::{Play, play_over, take_steps, told};
