@@ -8,7 +8,7 @@ use Rattle.z_ber.specs.Frames.{IsFrame}
 use Rattle.z_frame.specs.Framing.{Framing, IsGiven}
 use Rattle.gateway_rules.specs.Answers as kind
 use Rattle.gateway_rules.specs.Answers.{kind_of, IsOpen, IsBad}
-use Rattle.front_conn.specs.Places.{Place}
+use Rattle.front_conn.specs.States.{ConnectionState}
 use Rattle.front_conn.specs.Steps.{IsIdle, NothingWaits, AreUnfinished, BeginsWithLetter}
 use Rattle.front_conn.specs.Ahead.{AreAhead, IsOctetAhead, StaysGood, Stays, is_letter_first, end_or_nothing}
 use Rattle.front_conn.specs.declared.ahead.Ahead.TheVariants.{Nothing, Ended, Bad, Whole}
@@ -55,24 +55,24 @@ nothing-one : (has_ended : Bool) (other : End) → Nothing ≡ end_or_nothing ha
 nothing-one true other h = absurd cc
 nothing-one false other h = refl
 
-nothing-octet : (letter has_ended : Bool) (old new : Framing) (place : Place) (octet : ℕ) (octets : List ℕ)
-    → place.at ≡ old.end → is_letter_first old.end octet ≡ letter → old.rest ≡ octet ∷ octets
+nothing-octet : (letter has_ended : Bool) (old new : Framing) (state : ConnectionState) (octet : ℕ) (octets : List ℕ)
+    → state.at ≡ old.end → is_letter_first old.end octet ≡ letter → old.rest ≡ octet ∷ octets
     → IsOctetAhead letter has_ended old new Nothing
-    → (has_ended ≡ false) × AreUnfinished place (octet ∷ octets) × StaysGood old new
-nothing-octet true has_ended old new place octet octets at first rest h = let wrong = h.0 in absurd cc
-nothing-octet false has_ended old new place octet octets at first rest h =
-    let no : BeginsWithLetter place octet → ⊥ = λ letter.
+    → (has_ended ≡ false) × AreUnfinished state (octet ∷ octets) × StaysGood old new
+nothing-octet true has_ended old new state octet octets at first rest h = let wrong = h.0 in absurd cc
+nothing-octet false has_ended old new state octet octets at first rest h =
+    let no : BeginsWithLetter state octet → ⊥ = λ letter.
     let none = no-letter old.end octet first (sym at ∙ letter.0) in
     let some = letter.1 in absurd cc in
     (nothing-one has_ended (Cut (length old.rest)) h.0, (no, subst IsOpen rest h.1), h.2)
 
 -- no whole unit has come, and the input goes on
-pub ahead-nothing : (left : List ℕ) (has_ended : Bool) (old new : Framing) (place : Place) → place.at ≡ old.end
+pub ahead-nothing : (left : List ℕ) (has_ended : Bool) (old new : Framing) (state : ConnectionState) → state.at ≡ old.end
     → old.rest ≡ left → AreAhead left has_ended old new Nothing
-    → (has_ended ≡ false) × AreUnfinished place left × StaysGood old new
-ahead-nothing [] has_ended old new place at rest h = (nothing-one has_ended Finished h.0, tt, h.1)
-ahead-nothing (octet ∷ octets) has_ended old new place at rest h =
-    nothing-octet (is_letter_first old.end octet) has_ended old new place octet octets at refl rest h
+    → (has_ended ≡ false) × AreUnfinished state left × StaysGood old new
+ahead-nothing [] has_ended old new state at rest h = (nothing-one has_ended Finished h.0, tt, h.1)
+ahead-nothing (octet ∷ octets) has_ended old new state at rest h =
+    nothing-octet (is_letter_first old.end octet) has_ended old new state octet octets at refl rest h
 
 -- ---- octets that are no unit
 
@@ -124,26 +124,26 @@ ahead-whole (octet ∷ octets) has_ended old new start end h =
 -- ---- what waits
 
 -- a connection that goes on is not idle where something waits
-busy : (place : Place) → place.end ≡ None → (NothingWaits place → ⊥) → ¬ IsIdle place
-busy place goes waits (inl ended) =
+busy : (state : ConnectionState) → state.end ≡ None → (NothingWaits state → ⊥) → ¬ IsIdle state
+busy state goes waits (inl ended) =
     let e : false ≡ true = subst (λ (e : Option End). IsSome e) goes ended in
     absurd cc
-busy place goes waits (inr nothing) = waits nothing
+busy state goes waits (inr nothing) = waits nothing
 
-bad-waits : (place : Place) (left : List ℕ) (at : ℕ) → BadSo place.at left at → AreUnfinished place left → ⊥
-bad-waits place [] at so un = so
-bad-waits place (octet ∷ octets) at (inl so) un = un.0 (so.0, so.2)
-bad-waits place (octet ∷ octets) at (inr so) un = so.0 un.1.1
+bad-waits : (state : ConnectionState) (left : List ℕ) (at : ℕ) → BadSo state.at left at → AreUnfinished state left → ⊥
+bad-waits state [] at so un = so
+bad-waits state (octet ∷ octets) at (inl so) un = un.0 (so.0, so.2)
+bad-waits state (octet ∷ octets) at (inr so) un = so.0 un.1.1
 
 -- octets that are no unit wait
-pub busy-bad : (place : Place) (at : ℕ) → place.end ≡ None → BadSo place.at place.left at → ¬ IsIdle place
-busy-bad place at goes so = busy place goes (λ nothing. bad-waits place place.left at so nothing.unfinished)
+pub busy-bad : (state : ConnectionState) (at : ℕ) → state.end ≡ None → BadSo state.at state.left at → ¬ IsIdle state
+busy-bad state at goes so = busy state goes (λ nothing. bad-waits state state.left at so nothing.unfinished)
 
-whole-waits : (place : Place) (left unit rest : List ℕ) → IsFrame unit → left ≡ unit ++ rest → AreUnfinished place left → ⊥
-whole-waits place [] unit rest f e un = omega (arith, ap length e, length-append unit rest, frame-octets unit f)
-whole-waits place (octet ∷ octets) unit rest f e un = un.1.0 (unit, rest, f, e)
+whole-waits : (state : ConnectionState) (left unit rest : List ℕ) → IsFrame unit → left ≡ unit ++ rest → AreUnfinished state left → ⊥
+whole-waits state [] unit rest f e un = omega (arith, ap length e, length-append unit rest, frame-octets unit f)
+whole-waits state (octet ∷ octets) unit rest f e un = un.1.0 (unit, rest, f, e)
 
 -- a unit waits
-pub busy-whole : (place : Place) (unit rest : List ℕ) → place.end ≡ None → IsFrame unit → place.left ≡ unit ++ rest
-    → ¬ IsIdle place
-busy-whole place unit rest goes f e = busy place goes (λ nothing. whole-waits place place.left unit rest f e nothing.unfinished)
+pub busy-whole : (state : ConnectionState) (unit rest : List ℕ) → state.end ≡ None → IsFrame unit → state.left ≡ unit ++ rest
+    → ¬ IsIdle state
+busy-whole state unit rest goes f e = busy state goes (λ nothing. whole-waits state state.left unit rest f e nothing.unfinished)

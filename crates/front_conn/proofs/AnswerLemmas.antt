@@ -23,13 +23,13 @@ use Rattle.front_session.specs.Sessions.{SessionState, Waiting, client_of, progr
 use Rattle.front_session.specs.Admitting.{hits_named, counted}
 use Rattle.front_z.specs.Units.{Served, IsBegun, IsDueBegun, IsMetBegun, IsEnded}
 use Rattle.front_z.specs.declared.units.Begun.TheVariants as begun
-use Rattle.front_conn.specs.Places.{HasMeantHits}
+use Rattle.front_conn.specs.States.{HasMeantHits}
 use Rattle.front_conn.specs.Answering.{AnswersUnit, IsMetAnswered, IsPlainly, IsSteady}
-use Rattle.front_conn.specs.declared.answer.Told.{Told}
+use Rattle.front_conn.specs.declared.answer.UnitAnswer.{UnitAnswer}
 use Rattle.front_conn.proofs.SetLemmas.{asked_with-meant, sets-meant}
 
 -- what was answered, and no end
-abbrev pub told_plainly : Told
+abbrev pub told_plainly : UnitAnswer
 told_plainly = record { mark = Some Plain; end = None }
 
 -- ---- a reply at once

@@ -25,9 +25,9 @@ use Rattle.gateway_rules.specs.Session.{run, stopped}
 use Rattle.gateway_rules.specs.State.{new_client, at_the_start}
 use Rattle.gateway_rules.proofs.OneEnding.{extent-filled}
 use Rattle.gateway_rules.proofs.Parts.{rest-ends}
-use Rattle.front_conn.specs.Places.{Place, StandsBehind, StandsOrEnded, HasEnded, BeginsWithUnits, MayCome}
-use Rattle.front_conn.specs.Steps.{KeepsPlace}
-use Rattle.front_conn.proofs.PlaceLemmas.{kind-more, kind-fed}
+use Rattle.front_conn.specs.States.{ConnectionState, StandsBehind, StandsOrEnded, HasEnded, BeginsWithUnits, MayCome}
+use Rattle.front_conn.specs.Steps.{KeepsState}
+use Rattle.front_conn.proofs.StateLemmas.{kind-more, kind-fed}
 
 -- ---- a connection without units
 
@@ -48,20 +48,20 @@ kind-ended w route bytes written of_kind last end same is out = record {
   ended = refl;
 }
 
--- a place that stands behind no units has no marks, and nothing was written
-pub record IsFirst (fed written : List ℕ) (place : Place) : Type 0 where
-  pub fed-is : fed ≡ place.left
-  pub marks : place.marks ≡ []
-  pub out : written ++ place.out ≡ []
+-- a state that stands behind no units has no marks, and nothing was written
+pub record IsFirst (fed written : List ℕ) (state : ConnectionState) : Type 0 where
+  pub fed-is : fed ≡ state.left
+  pub marks : state.marks ≡ []
+  pub out : written ++ state.out ≡ []
 
-first-place : {W : Type 0} (w : world.Ghosts W) (route : Route) (fed written : List ℕ) (place : Place)
-    (sb : StandsBehind w route fed written place) → sb.units ≡ [] → IsFirst fed written place
-first-place w route fed written place sb e =
+first-state : {W : Type 0} (w : world.Ghosts W) (route : Route) (fed written : List ℕ) (state : ConnectionState)
+    (sb : StandsBehind w route fed written state) → sb.units ≡ [] → IsFirst fed written state
+first-state w route fed written state sb e =
     let got : stopped [] sb.causes new_client (session.standing at_the_start) ≡ sb.got =
     ap (λ u. run w route new_client (course.course route at_the_start u) sb.causes) (sym e) ∙ sb.has_run.runs in
     let causes : sb.causes ≡ [] = ap (λ r. r.left) got ∙ sb.has_run.none_left in
     record {
-      fed-is = sb.spelled ∙ ap (λ u. octets_of u ++ place.left) e;
+      fed-is = sb.spelled ∙ ap (λ u. octets_of u ++ state.left) e;
       marks = sym sb.of_marks ∙ ap marks_of causes;
       out = sb.replies ∙ ap (λ r. written_as r.replies) (sym got);
     }
@@ -69,7 +69,7 @@ first-place w route fed written place sb e =
 -- ---- the rest
 
 -- the answers where the rest of the octets ends the session
-rest-answers : {W : Type 0} (w : world.Ghosts W) (route : Route) (fed written more : List ℕ) (old new : Place)
+rest-answers : {W : Type 0} (w : world.Ghosts W) (route : Route) (fed written more : List ℕ) (old new : ConnectionState)
     (last : Option Reply) (end : End) (sb : StandsBehind w route fed written old) → kind_of (fed ++ more) ≡ kind.unit
     → RestLeadsTo (length (octets_of sb.units)) (old.left ++ more) (ends last end) → new.marks ≡ old.marks
     → written ++ new.out ≡ written_as (sb.got.replies ++ option_to_list last)
@@ -128,7 +128,7 @@ nothing-comes true more e h = h
 nothing-comes false more e h = absurd cc
 
 -- the connection is unchanged but for its end
-pub record Ends (old new : Place) (end : End) : Type 0 where
+pub record Ends (old new : ConnectionState) (end : End) : Type 0 where
   pub goes : old.end ≡ None
   pub ended : new.end ≡ Some end
   pub input : new.has_ended ≡ true
@@ -136,7 +136,7 @@ pub record Ends (old new : Place) (end : End) : Type 0 where
   pub out : new.out ≡ old.out
 
 -- the answers where nothing is left
-finished-answers : {W : Type 0} (w : world.Ghosts W) (route : Route) (fed written : List ℕ) (old new : Place)
+finished-answers : {W : Type 0} (w : world.Ghosts W) (route : Route) (fed written : List ℕ) (old new : ConnectionState)
     (sb : StandsBehind w route fed written old) → old.left ≡ [] → new.marks ≡ old.marks → new.out ≡ old.out
     → Answers w route (fed ++ []) new.marks (written ++ new.out) Finished
 finished-answers w route fed written old new sb left marks out =
@@ -145,13 +145,13 @@ finished-answers w route fed written old new sb left marks out =
     (subst (λ (l : List ℕ). RestLeadsTo (length (octets_of sb.units)) (l ++ []) (ends None Finished)) (sym left) refl) marks
     (no-reply written old.out new.out sb.got.replies sb.replies out))
     (λ none.
-    let first = first-place w route fed written old sb none in
+    let first = first-state w route fed written old sb none in
     subst (λ (m : List Mark). Answers w route (fed ++ []) m (written ++ new.out) Finished) (sym first.marks ∙ sym marks)
     (kind-ended w route (fed ++ []) (written ++ new.out) kind.empty None Finished
     (ap kind_of (append-nil fed ∙ first.fed-is ∙ left)) refl (ap (λ o. written ++ o) out ∙ first.out)))
 
 -- the answers where the input ends inside a unit
-cut-answers : {W : Type 0} (w : world.Ghosts W) (route : Route) (fed written : List ℕ) (old new : Place) (octet : ℕ)
+cut-answers : {W : Type 0} (w : world.Ghosts W) (route : Route) (fed written : List ℕ) (old new : ConnectionState) (octet : ℕ)
     (octets : List ℕ) (sb : StandsBehind w route fed written old) → old.left ≡ octet ∷ octets → IsOpen (octet ∷ octets)
     → (old.at ≡ 0 → kind_of (octet ∷ octets) ≡ kind.unit) → new.marks ≡ old.marks → new.out ≡ old.out
     → Answers w route (fed ++ []) new.marks (written ++ new.out) (Cut (length (octet ∷ octets)))
@@ -163,7 +163,7 @@ cut-answers w route fed written old new octet octets sb left is_open first marks
     (inl (is_open, refl))) marks (no-reply written old.out new.out sb.got.replies sb.replies out)
 
 -- either
-ends-answers : {W : Type 0} (w : world.Ghosts W) (route : Route) (fed written : List ℕ) (old new : Place) (end : End)
+ends-answers : {W : Type 0} (w : world.Ghosts W) (route : Route) (fed written : List ℕ) (old new : ConnectionState) (end : End)
     (left : List ℕ) (sb : StandsBehind w route fed written old) → old.left ≡ left → EndsSo old.at left end
     → new.marks ≡ old.marks → new.out ≡ old.out → Answers w route (fed ++ []) new.marks (written ++ new.out) end
 ends-answers w route fed written old new end [] sb e so marks out =
@@ -174,8 +174,8 @@ ends-answers w route fed written old new end (octet ∷ octets) sb e so marks ou
     (cut-answers w route fed written old new octet octets sb e so.0 so.2 marks out)
 
 -- a connection whose input has ended is answered whole
-pub end-keeps : {W : Type 0} (w : world.Ghosts W) (route : Route) (old new : Place) (end : End)
-    → Ends old new end → EndsSo old.at old.left end → KeepsPlace w route old new
+pub end-keeps : {W : Type 0} (w : world.Ghosts W) (route : Route) (old new : ConnectionState) (end : End)
+    → Ends old new end → EndsSo old.at old.left end → KeepsState w route old new
 end-keeps w route old new end t so = λ fed written h.
     let sb : StandsBehind w route fed written old = subst (λ (e : Option End). StandsOrEnded e w route fed written old) t.goes h in
     let ended : HasEnded w route fed written new end = record {
@@ -191,13 +191,13 @@ end-keeps w route old new end t so = λ fed written h.
 
 -- a letter at the start, or octets of which no continuation begins with a unit
 abbrev pub BadSo : ℕ → List ℕ → ℕ → Type 0
-BadSo at [] place = ⊥
-BadSo at (octet ∷ octets) place =
-    ((at ≡ 0) × (place ≡ 0) × IsTrue (is_ascii_alphabetic octet))
-    ⊎ (IsBad (octet ∷ octets) × (place ≡ at) × (at ≡ 0 → kind_of (octet ∷ octets) ≡ kind.unit))
+BadSo at [] state = ⊥
+BadSo at (octet ∷ octets) state =
+    ((at ≡ 0) × (state ≡ 0) × IsTrue (is_ascii_alphabetic octet))
+    ⊎ (IsBad (octet ∷ octets) × (state ≡ at) × (at ≡ 0 → kind_of (octet ∷ octets) ≡ kind.unit))
 
 -- the connection is unchanged but for a Close, and its end
-pub record Refuses (old new : Place) (at : ℕ) : Type 0 where
+pub record Refuses (old new : ConnectionState) (at : ℕ) : Type 0 where
   pub goes : old.end ≡ None
   pub ended : new.end ≡ Some (Malformed at)
   pub marks : new.marks ≡ old.marks
@@ -212,13 +212,13 @@ letter-kind : (octet : ℕ) (octets : List ℕ) → IsTrue (is_ascii_alphabetic 
 letter-kind octet octets h = ap (λ b. if b then kind.letter else kind.unit) h
 
 -- the answers where a letter stands first
-letter-answers : {W : Type 0} (w : world.Ghosts W) (route : Route) (fed written more : List ℕ) (old new : Place)
+letter-answers : {W : Type 0} (w : world.Ghosts W) (route : Route) (fed written more : List ℕ) (old new : ConnectionState)
     (sb : StandsBehind w route fed written old) → old.at ≡ 0 → kind_of (old.left ++ more) ≡ kind.letter
     → new.marks ≡ old.marks → new.out ≡ old.out ++ spell_reply bad_unit_reply
     → Answers w route (fed ++ more) new.marks (written ++ new.out) (Malformed 0)
 letter-answers w route fed written more old new sb zero is_letter marks out =
     let none = none-at_0 sb.units sb.has_run.each (sym sb.offset ∙ zero) in
-    let first = first-place w route fed written old sb none in
+    let first = first-state w route fed written old sb none in
     let reply : List ℕ = spell_reply bad_unit_reply in
     let all : written ++ new.out ≡ written_as (bad_unit_reply ∷ []) =
     ap (λ o. written ++ o) out ∙ sym (append_assoc written old.out reply) ∙ ap (λ o. o ++ reply) first.out
@@ -228,7 +228,7 @@ letter-answers w route fed written more old new sb zero is_letter marks out =
     (ap (λ f. kind_of (f ++ more)) first.fed-is ∙ is_letter) refl all)
 
 -- the answers where no unit can come
-bad-answers : {W : Type 0} (w : world.Ghosts W) (route : Route) (fed written more : List ℕ) (old new : Place) (octet : ℕ)
+bad-answers : {W : Type 0} (w : world.Ghosts W) (route : Route) (fed written more : List ℕ) (old new : ConnectionState) (octet : ℕ)
     (octets : List ℕ) (sb : StandsBehind w route fed written old) → old.left ≡ octet ∷ octets → IsBad (octet ∷ octets)
     → (old.at ≡ 0 → kind_of (octet ∷ octets) ≡ kind.unit) → new.marks ≡ old.marks
     → new.out ≡ old.out ++ spell_reply bad_unit_reply
@@ -243,7 +243,7 @@ bad-answers w route fed written more old new octet octets sb left bad first mark
     (last-reply written old.out new.out sb.got.replies bad_unit_reply sb.replies out))
 
 -- either
-refused-answers : {W : Type 0} (w : world.Ghosts W) (route : Route) (fed written more : List ℕ) (old new : Place) (at : ℕ)
+refused-answers : {W : Type 0} (w : world.Ghosts W) (route : Route) (fed written more : List ℕ) (old new : ConnectionState) (at : ℕ)
     (left : List ℕ) (sb : StandsBehind w route fed written old) → old.left ≡ left → BadSo old.at left at
     → new.marks ≡ old.marks → new.out ≡ old.out ++ spell_reply bad_unit_reply
     → Answers w route (fed ++ more) new.marks (written ++ new.out) (Malformed at)
@@ -257,8 +257,8 @@ refused-answers w route fed written more old new at (octet ∷ octets) sb e (inr
     (bad-answers w route fed written more old new octet octets sb e so.0 so.2 marks out)
 
 -- a connection that is refused is answered whole, whatever may still come
-pub refuse-keeps : {W : Type 0} (w : world.Ghosts W) (route : Route) (old new : Place) (at : ℕ)
-    → Refuses old new at → BadSo old.at old.left at → KeepsPlace w route old new
+pub refuse-keeps : {W : Type 0} (w : world.Ghosts W) (route : Route) (old new : ConnectionState) (at : ℕ)
+    → Refuses old new at → BadSo old.at old.left at → KeepsState w route old new
 refuse-keeps w route old new at t so = λ fed written h.
     let sb : StandsBehind w route fed written old = subst (λ (e : Option End). StandsOrEnded e w route fed written old) t.goes h in
     let ended : HasEnded w route fed written new (Malformed at) = record {

@@ -1,6 +1,6 @@
 pub mod SetLemmas
 pub mod AnswerLemmas
-pub mod PlaceLemmas
+pub mod StateLemmas
 pub mod EndLemmas
 pub mod AheadLemmas
 pub mod StepLemmas

@@ -20,7 +20,7 @@ use Rattle.gateway_rules.specs.Outcomes.{plain_outcome, found}
 use Rattle.gateway_rules.specs.Targets.{hits_of}
 use Rattle.front_session.specs.Sessions.{SessionState, client_of}
 use Rattle.front_session.specs.Admitting.{hits_named, HasGivenHits, IsFoundSet}
-use Rattle.front_conn.specs.Places.{HasMeantHits}
+use Rattle.front_conn.specs.States.{HasMeantHits}
 
 -- ---- before a request
 

@@ -11,20 +11,20 @@ use Rattle.unit_forms.specs.Replies.{spell_reply}
 use Rattle.z_frame.specs.Framing.{Framing}
 use Rattle.gateway_rules.specs.Replies.{bad_unit_reply}
 use Rattle.front_session.specs.Sessions.{SessionState}
-use Rattle.front_conn.specs.Places.{Place}
-use Rattle.front_conn.specs.Steps.{IsIdle, IsStepped, KeepsPlace, UnlessMemory, IsEndAfter}
+use Rattle.front_conn.specs.States.{ConnectionState}
+use Rattle.front_conn.specs.Steps.{IsIdle, IsStepped, KeepsState, UnlessMemory, IsEndAfter}
 use Rattle.front_conn.specs.Ahead.{AreAhead}
 use Rattle.front_conn.specs.Answering.{AnswersUnit}
-use Rattle.front_conn.specs.declared.answer.Told.{Told}
+use Rattle.front_conn.specs.declared.answer.UnitAnswer.{UnitAnswer}
 use Rattle.front_conn.specs.declared.ahead.Ahead.TheVariants.{Nothing, Ended, Bad, Whole}
 use Rattle.front_conn.specs.declared.stepped.Stepped.{Stepped}
-use Rattle.front_conn.proofs.PlaceLemmas.{unit-keeps, served}
+use Rattle.front_conn.proofs.StateLemmas.{unit-keeps, served}
 use Rattle.front_conn.proofs.EndLemmas.{end-keeps, refuse-keeps, frame-octets}
 use Rattle.front_conn.proofs.AheadLemmas.{ahead-nothing, ahead-ended, ahead-bad, ahead-whole, busy-bad, busy-whole}
 
--- the place of a connection with such parts
-abbrev pub place_of : Framing → SessionState → List ℕ → List Mark → Option End → Bool → Place
-place_of f session out marks end has_ended =
+-- the state of a connection with such parts
+abbrev pub state_of : Framing → SessionState → List ℕ → List Mark → Option End → Bool → ConnectionState
+state_of f session out marks end has_ended =
     record { session = session; at = f.end; left = f.rest; has_ended = has_ended; marks = marks; out = out; end = end }
 
 -- a connection that has not ended
@@ -35,79 +35,79 @@ none-of (Some end) h = absurd cc
 -- ---- nothing
 
 pub step-nothing : (f g : Framing) (session : SessionState) (out : List ℕ) (marks : List Mark) (end : Option End)
-    (has_ended : Bool) (old : Place) → place_of f session out marks end has_ended ≡ old
-    → AreAhead f.rest has_ended f g Nothing → IsIdle old × (place_of g session out marks end has_ended ≡ old)
+    (has_ended : Bool) (old : ConnectionState) → state_of f session out marks end has_ended ≡ old
+    → AreAhead f.rest has_ended f g Nothing → IsIdle old × (state_of g session out marks end has_ended ≡ old)
 step-nothing f g session out marks end has_ended old e h =
-    let here : Place = place_of f session out marks end has_ended in
+    let here : ConnectionState = state_of f session out marks end has_ended in
     let a = ahead-nothing f.rest has_ended f g here refl refl h in
     let at = a.2.stays.place in
     let left = a.2.stays.rest in
-    let same : place_of g session out marks end has_ended ≡ here = λ i. record here { at = at i; left = left i } in
+    let same : state_of g session out marks end has_ended ≡ here = λ i. record here { at = at i; left = left i } in
     (subst IsIdle e (inr (record { goes_on = a.0; unfinished = a.1 })), same ∙ e)
 
 -- ---- the end of the input
 
 pub step-ended : {W : Type 0} (w : world.Ghosts W) (route : Route) (f g : Framing) (session : SessionState)
-    (out : List ℕ) (marks : List Mark) (end : Option End) (has_ended : Bool) (old : Place) (how : End)
-    → place_of f session out marks end has_ended ≡ old → end ≡ None → AreAhead f.rest has_ended f g (Ended how)
-    → KeepsPlace w route old (place_of g session out marks (Some how) has_ended)
+    (out : List ℕ) (marks : List Mark) (end : Option End) (has_ended : Bool) (old : ConnectionState) (how : End)
+    → state_of f session out marks end has_ended ≡ old → end ≡ None → AreAhead f.rest has_ended f g (Ended how)
+    → KeepsState w route old (state_of g session out marks (Some how) has_ended)
 step-ended w route f g session out marks end has_ended old how e goes h =
-    let here : Place = place_of f session out marks end has_ended in
-    let new : Place = place_of g session out marks (Some how) has_ended in
+    let here : ConnectionState = state_of f session out marks end has_ended in
+    let new : ConnectionState = state_of g session out marks (Some how) has_ended in
     let a = ahead-ended f.rest has_ended f g how refl h in
-    subst (λ (o : Place). KeepsPlace w route o new) e
+    subst (λ (o : ConnectionState). KeepsState w route o new) e
     (end-keeps w route here new how
     (record { goes = goes; ended = refl; input = a.0; marks = refl; out = refl }) a.1)
 
 -- ---- octets that are no unit
 
 pub step-bad : (f g : Framing) (session : SessionState) (out new_out : List ℕ) (marks : List Mark)
-    (end new_end : Option End) (has_ended : Bool) (old : Place) (at : ℕ) (done : Result (Unit {0}) memory.Memory)
-    (answer : Stepped) → place_of f session out marks end has_ended ≡ old → end ≡ None
+    (end new_end : Option End) (has_ended : Bool) (old : ConnectionState) (at : ℕ) (done : Result (Unit {0}) memory.Memory)
+    (answer : Stepped) → state_of f session out marks end has_ended ≡ old → end ≡ None
     → AreAhead f.rest has_ended f g (Bad at) → IsEndAfter done (Some (Malformed at)) new_end answer
-    → IsStepped old (place_of g session new_out marks new_end has_ended) answer
+    → IsStepped old (state_of g session new_out marks new_end has_ended) answer
 step-bad f g session out new_out marks end new_end has_ended old at (Ok nothing) answer e goes h done =
-    let here : Place = place_of f session out marks end has_ended in
-    let new : Place = place_of g session new_out marks new_end has_ended in
+    let here : ConnectionState = state_of f session out marks end has_ended in
+    let new : ConnectionState = state_of g session new_out marks new_end has_ended in
     let a = ahead-bad f.rest has_ended f g at refl h in
     let some : IsSome new_end = subst (λ (o : Option End). IsSome o) (sym done.0) refl in
-    subst (λ (o : Place). IsStepped o new answer) e
+    subst (λ (o : ConnectionState). IsStepped o new answer) e
     (subst (λ (s : Stepped). IsStepped here new s) (sym done.1) (busy-bad here at goes a.0, (goes, refl, inr some)))
 step-bad f g session out new_out marks end new_end has_ended old at (Err want) answer e goes h done =
-    let new : Place = place_of g session new_out marks new_end has_ended in
+    let new : ConnectionState = state_of g session new_out marks new_end has_ended in
     subst (λ (s : Stepped). IsStepped old new s) (sym done.1) done.0
 
 pub keeps-bad : {W : Type 0} (w : world.Ghosts W) (route : Route) (f g : Framing) (session : SessionState)
-    (out new_out : List ℕ) (marks : List Mark) (end new_end : Option End) (has_ended : Bool) (old : Place) (at : ℕ)
-    (done : Result (Unit {0}) memory.Memory) (answer : Stepped) → place_of f session out marks end has_ended ≡ old
+    (out new_out : List ℕ) (marks : List Mark) (end new_end : Option End) (has_ended : Bool) (old : ConnectionState) (at : ℕ)
+    (done : Result (Unit {0}) memory.Memory) (answer : Stepped) → state_of f session out marks end has_ended ≡ old
     → end ≡ None → AreAhead f.rest has_ended f g (Bad at) → IsEndAfter done (Some (Malformed at)) new_end answer
     → OnOk done (new_out ≡ out ++ spell_reply bad_unit_reply)
-    → UnlessMemory answer (KeepsPlace w route old (place_of g session new_out marks new_end has_ended))
+    → UnlessMemory answer (KeepsState w route old (state_of g session new_out marks new_end has_ended))
 keeps-bad w route f g session out new_out marks end new_end has_ended old at (Ok nothing) answer e goes h done written =
-    let here : Place = place_of f session out marks end has_ended in
-    let new : Place = place_of g session new_out marks new_end has_ended in
+    let here : ConnectionState = state_of f session out marks end has_ended in
+    let new : ConnectionState = state_of g session new_out marks new_end has_ended in
     let a = ahead-bad f.rest has_ended f g at refl h in
     let keeps = refuse-keeps w route here new at
     (record { goes = goes; ended = done.0; marks = refl; out = written }) a.0 in
-    subst (λ (s : Stepped). UnlessMemory s (KeepsPlace w route old new)) (sym done.1)
-    (subst (λ (o : Place). KeepsPlace w route o new) e keeps)
+    subst (λ (s : Stepped). UnlessMemory s (KeepsState w route old new)) (sym done.1)
+    (subst (λ (o : ConnectionState). KeepsState w route o new) e keeps)
 keeps-bad w route f g session out new_out marks end new_end has_ended old at (Err want) answer e goes h done written =
-    let new : Place = place_of g session new_out marks new_end has_ended in
-    subst (λ (s : Stepped). UnlessMemory s (KeepsPlace w route old new)) (sym done.1) tt
+    let new : ConnectionState = state_of g session new_out marks new_end has_ended in
+    subst (λ (s : Stepped). UnlessMemory s (KeepsState w route old new)) (sym done.1) tt
 
 -- ---- a unit
 
 pub step-whole : (f g : Framing) (session new_session : SessionState) (out new_out : List ℕ) (marks new_marks : List Mark)
-    (end new_end ended : Option End) (has_ended : Bool) (old : Place) (from to : ℕ)
+    (end new_end ended : Option End) (has_ended : Bool) (old : ConnectionState) (from to : ℕ)
     (done : Result (Unit {0}) memory.Memory) (answer : Stepped)
-    → place_of f session out marks end has_ended ≡ old → end ≡ None → AreAhead f.rest has_ended f g (Whole from to)
+    → state_of f session out marks end has_ended ≡ old → end ≡ None → AreAhead f.rest has_ended f g (Whole from to)
     → IsEndAfter done ended new_end answer
-    → IsStepped old (place_of g new_session new_out new_marks new_end has_ended) answer
+    → IsStepped old (state_of g new_session new_out new_marks new_end has_ended) answer
 step-whole f g session new_session out new_out marks new_marks end new_end ended has_ended old from to (Ok nothing) answer e goes h done =
-    let here : Place = place_of f session out marks end has_ended in
-    let new : Place = place_of g new_session new_out new_marks new_end has_ended in
+    let here : ConnectionState = state_of f session out marks end has_ended in
+    let new : ConnectionState = state_of g new_session new_out new_marks new_end has_ended in
     let a = ahead-whole f.rest has_ended f g from to h in
-    subst (λ (o : Place). IsStepped o new answer) e
+    subst (λ (o : ConnectionState). IsStepped o new answer) e
     (subst (λ (s : Stepped). IsStepped here new s) (sym done.1) (
       busy-whole here g.unit g.rest goes a.given.frame a.given.spelled,
       (
@@ -122,24 +122,24 @@ step-whole f g session new_session out new_out marks new_marks end new_end ended
       ),
     ))
 step-whole f g session new_session out new_out marks new_marks end new_end ended has_ended old from to (Err want) answer e goes h done =
-    let new : Place = place_of g new_session new_out new_marks new_end has_ended in
+    let new : ConnectionState = state_of g new_session new_out new_marks new_end has_ended in
     subst (λ (s : Stepped). IsStepped old new s) (sym done.1) done.0
 
 pub keeps-whole : {W : Type 0} (w : world.Ghosts W) (route : Route) (f g : Framing) (session new_session : SessionState)
-    (out new_out : List ℕ) (marks new_marks : List Mark) (end new_end : Option End) (has_ended : Bool) (old : Place)
-    (from to : ℕ) (unit : List ℕ) (told : Told) (done : Result (Unit {0}) memory.Memory) (answer : Stepped)
-    → place_of f session out marks end has_ended ≡ old → end ≡ None → AreAhead f.rest has_ended f g (Whole from to)
+    (out new_out : List ℕ) (marks new_marks : List Mark) (end new_end : Option End) (has_ended : Bool) (old : ConnectionState)
+    (from to : ℕ) (unit : List ℕ) (of_unit : UnitAnswer) (done : Result (Unit {0}) memory.Memory) (answer : Stepped)
+    → state_of f session out marks end has_ended ≡ old → end ≡ None → AreAhead f.rest has_ended f g (Whole from to)
     → unit ≡ g.unit
-    → AnswersUnit w route from unit (record { session = session; out = out }) (record { session = new_session; out = new_out }) told
-    → OnOk done (new_marks ≡ marks ++ option_to_list told.mark) → IsEndAfter done told.end new_end answer
-    → UnlessMemory answer (KeepsPlace w route old (place_of g new_session new_out new_marks new_end has_ended))
-keeps-whole w route f g session new_session out new_out marks new_marks end new_end has_ended old from to unit told (Ok nothing) answer e goes h is answers put done =
-    let here : Place = place_of f session out marks end has_ended in
-    let new : Place = place_of g new_session new_out new_marks new_end has_ended in
+    → AnswersUnit w route from unit (record { session = session; out = out }) (record { session = new_session; out = new_out }) of_unit
+    → OnOk done (new_marks ≡ marks ++ option_to_list of_unit.mark) → IsEndAfter done of_unit.end new_end answer
+    → UnlessMemory answer (KeepsState w route old (state_of g new_session new_out new_marks new_end has_ended))
+keeps-whole w route f g session new_session out new_out marks new_marks end new_end has_ended old from to unit of_unit (Ok nothing) answer e goes h is answers put done =
+    let here : ConnectionState = state_of f session out marks end has_ended in
+    let new : ConnectionState = state_of g new_session new_out new_marks new_end has_ended in
     let a = ahead-whole f.rest has_ended f g from to h in
-    let at_unit = subst (λ (u : List ℕ). AnswersUnit w route from u (served here) (served new) told) is answers in
-    let at_place = subst (λ (p : ℕ). AnswersUnit w route p g.unit (served here) (served new) told) a.from at_unit in
-    let keeps = unit-keeps w route here new g.unit told (record {
+    let at_unit = subst (λ (u : List ℕ). AnswersUnit w route from u (served here) (served new) of_unit) is answers in
+    let at_place = subst (λ (p : ℕ). AnswersUnit w route p g.unit (served here) (served new) of_unit) a.from at_unit in
+    let keeps = unit-keeps w route here new g.unit of_unit (record {
       goes = goes;
       frame = a.given.frame;
       taken = a.given.spelled;
@@ -149,8 +149,8 @@ keeps-whole w route f g session new_session out new_out marks new_marks end new_
       marks = put;
       ended = done.0;
     }) in
-    subst (λ (s : Stepped). UnlessMemory s (KeepsPlace w route old new)) (sym done.1)
-    (subst (λ (o : Place). KeepsPlace w route o new) e keeps)
-keeps-whole w route f g session new_session out new_out marks new_marks end new_end has_ended old from to unit told (Err want) answer e goes h is answers put done =
-    let new : Place = place_of g new_session new_out new_marks new_end has_ended in
-    subst (λ (s : Stepped). UnlessMemory s (KeepsPlace w route old new)) (sym done.1) tt
+    subst (λ (s : Stepped). UnlessMemory s (KeepsState w route old new)) (sym done.1)
+    (subst (λ (o : ConnectionState). KeepsState w route o new) e keeps)
+keeps-whole w route f g session new_session out new_out marks new_marks end new_end has_ended old from to unit of_unit (Err want) answer e goes h is answers put done =
+    let new : ConnectionState = state_of g new_session new_out new_marks new_end has_ended in
+    subst (λ (s : Stepped). UnlessMemory s (KeepsState w route old new)) (sym done.1) tt

@@ -15,8 +15,8 @@ use Rattle.gateway_rules.specs.Settling.{Settled}
 use Rattle.front_session.specs.Sessions.{SessionState, client_of, progress_of}
 use Rattle.front_z.specs.Units.{Served, IsMetBegun}
 use Rattle.front_z.specs.declared.units.Begun.TheVariants as begun
-use Rattle.front_conn.specs.Places.{HasMeantHits}
-use Rattle.front_conn.specs.declared.answer.Told.{Told}
+use Rattle.front_conn.specs.States.{HasMeantHits}
+use Rattle.front_conn.specs.declared.answer.UnitAnswer.{UnitAnswer}
 
 -- what a request is answered where no target fails
 abbrev pub answered_plainly : {W : Type 0} → world.Ghosts W → Route → SessionState → Request
@@ -36,19 +36,19 @@ pub record IsPlainly {W : Type 0} (w : world.Ghosts W) (route : Route) (request 
 
 -- what was answered to a unit that is met so: a request that is due was answered plainly
 abbrev pub IsMetAnswered : {W : Type 0} → world.Ghosts W → Meeting → Route → ℕ → Option Request
-    → Served → Served → Told → Type 0
-IsMetAnswered w (course.due request) route at read old new told =
-    (told ≡ record { mark = Some Plain; end = None }) × IsPlainly w route request old new
-IsMetAnswered w meeting route at read old new told =
-    IsMetBegun meeting route at read old new (begun.Write told.mark told.end)
+    → Served → Served → UnitAnswer → Type 0
+IsMetAnswered w (course.due request) route at read old new answer =
+    (answer ≡ record { mark = Some Plain; end = None }) × IsPlainly w route request old new
+IsMetAnswered w meeting route at read old new answer =
+    IsMetBegun meeting route at read old new (begun.Write answer.mark answer.end)
 
 -- what a unit at an offset is read as, and what was answered to it
 pub record IsAnsweredUnit {W : Type 0} (w : world.Ghosts W) (route : Route) (at : ℕ)
-    (unit : List ℕ) (old new : Served) (told : Told) : Type 0 where
+    (unit : List ℕ) (old new : Served) (answer : UnitAnswer) : Type 0 where
   pub read : Option Request
   pub reading : IsReading unit read
   pub met_so :
-      IsMetAnswered w (met route (progress_of at old.session) read) route at read old new told
+      IsMetAnswered w (met route (progress_of at old.session) read) route at read old new answer
 
 -- no request waits, and each set has the hits that the targets mean
 pub record IsSteady {W : Type 0} (w : world.Ghosts W) (route : Route)
@@ -57,7 +57,7 @@ pub record IsSteady {W : Type 0} (w : world.Ghosts W) (route : Route)
   pub sets : AllByRecursion (HasMeantHits w route) session.sets
 
 -- of a steady session
-abbrev pub AnswersUnit : {W : Type 0} → world.Ghosts W → Route → ℕ → List ℕ → Served → Served → Told
+abbrev pub AnswersUnit : {W : Type 0} → world.Ghosts W → Route → ℕ → List ℕ → Served → Served → UnitAnswer
     → Type 0
-AnswersUnit w route at unit old new told =
-    IsSteady w route old.session → IsAnsweredUnit w route at unit old new told
+AnswersUnit w route at unit old new answer =
+    IsSteady w route old.session → IsAnsweredUnit w route at unit old new answer

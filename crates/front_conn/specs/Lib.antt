@@ -1,4 +1,4 @@
-pub mod Places
+pub mod States
 pub mod Steps
 pub mod Feeding
 pub mod Ahead

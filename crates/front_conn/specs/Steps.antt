@@ -8,53 +8,53 @@ use Rattle.z_types.specs.declared.world.World as world
 use Rattle.route_config.specs.declared.route.Route.{Route}
 use Rattle.z_ber.specs.Frames.{IsFrame}
 use Rattle.gateway_rules.specs.Answers.{IsOpen}
-use Rattle.front_conn.specs.Places.{Place, IsPlaceOf}
+use Rattle.front_conn.specs.States.{ConnectionState, IsStateOf}
 use Rattle.front_conn.specs.declared.stepped.Stepped.{Stepped}
 use Rattle.front_conn.specs.declared.stepped.Stepped.TheVariants.{Idle, NotYet, Went, Memory}
 
 -- the first octet of a connection is an ASCII letter
-abbrev pub BeginsWithLetter : Place → ℕ → Type 0
-BeginsWithLetter place octet = (place.at ≡ 0) × IsTrue (is_ascii_alphabetic octet)
+abbrev pub BeginsWithLetter : ConnectionState → ℕ → Type 0
+BeginsWithLetter state octet = (state.at ≡ 0) × IsTrue (is_ascii_alphabetic octet)
 
 -- no whole unit stands in these octets, and more can make one; a letter at the start begins none
-abbrev pub AreUnfinished : Place → List ℕ → Type 0
-AreUnfinished place [] = Unit {0}
-AreUnfinished place (octet ∷ octets) = ¬ BeginsWithLetter place octet × IsOpen (octet ∷ octets)
+abbrev pub AreUnfinished : ConnectionState → List ℕ → Type 0
+AreUnfinished state [] = Unit {0}
+AreUnfinished state (octet ∷ octets) = ¬ BeginsWithLetter state octet × IsOpen (octet ∷ octets)
 
 -- no whole request, no bad unit and no end waits
-pub record NothingWaits (place : Place) : Type 0 where
-  pub goes_on : place.has_ended ≡ false
-  pub unfinished : AreUnfinished place place.left
+pub record NothingWaits (state : ConnectionState) : Type 0 where
+  pub goes_on : state.has_ended ≡ false
+  pub unfinished : AreUnfinished state state.left
 
 -- the connection has ended, or nothing waits
-abbrev pub IsIdle : Place → Type 0
-IsIdle place = IsSome place.end ⊎ NothingWaits place
+abbrev pub IsIdle : ConnectionState → Type 0
+IsIdle state = IsSome state.end ⊎ NothingWaits state
 
 -- a whole unit was taken
-pub record TakesUnit (old new : Place) : Type 0 where
+pub record TakesUnit (old new : ConnectionState) : Type 0 where
   pub unit : List ℕ
   pub whole : IsFrame unit
   pub filled : 0 < length unit
   pub taken : old.left ≡ unit ++ new.left
 
 -- a unit was taken, or the connection has ended now; the input goes on or has ended as before
-abbrev pub GoesOn : Place → Place → Type 0
+abbrev pub GoesOn : ConnectionState → ConnectionState → Type 0
 GoesOn old new =
     (old.end ≡ None) × (new.has_ended ≡ old.has_ended) × (TakesUnit old new ⊎ IsSome new.end)
 
 -- what a step answers: it changed nothing, exactly where there is nothing to do; or it took one
 -- unit or ended the
 -- connection; without memory it ended the connection so
-abbrev pub IsStepped : Place → Place → Stepped → Type 0
+abbrev pub IsStepped : ConnectionState → ConnectionState → Stepped → Type 0
 IsStepped old new Idle = IsIdle old × (new ≡ old)
 IsStepped old new NotYet = ⊥
 IsStepped old new Went = ¬ IsIdle old × GoesOn old new
 IsStepped old new Memory = new.end ≡ Some how.Memory
 
 -- whatever was fed and written before, the connection stands in the session as before, or has ended
-abbrev pub KeepsPlace : {W : Type 0} → world.Ghosts W → Route → Place → Place → Type 0
-KeepsPlace w route old new =
-    (fed written : List ℕ) → IsPlaceOf w route fed written old → IsPlaceOf w route fed written new
+abbrev pub KeepsState : {W : Type 0} → world.Ghosts W → Route → ConnectionState → ConnectionState → Type 0
+KeepsState w route old new =
+    (fed written : List ℕ) → IsStateOf w route fed written old → IsStateOf w route fed written new
 
 -- this holds of a step that did not run out of memory
 abbrev pub UnlessMemory : Stepped → Type 0 → Type 0

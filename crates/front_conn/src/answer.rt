@@ -22,7 +22,7 @@ const PROTOCOL_ERROR: u32 = 6;
 
 /// What was answered to a unit.
 #[derive(Clone, Copy)]
-pub(crate) struct Told {
+pub(crate) struct UnitAnswer {
     /// The mark of its request, where it has one.
     pub mark: Option<Mark>,
     /// How the connection has ended, if it did.
@@ -38,15 +38,15 @@ pub(crate) fn answer_unit<T: Targets>(
     at: u64,
     out: &mut Text,
     targets: &T,
-) -> Result<Told, Memory>
+) -> Result<UnitAnswer, Memory>
     ensures { IfOk result (AnswersUnit T.World route.now at unit.now
         (record { session = session.old; out = out.old }) (record { session = session.new; out = out.new })) }
 {
     match begin_unit(alloc, session, route, unit, at, out) {
-        Begun::Write(mark, end) => Ok(Told { mark, end }),
+        Begun::Write(mark, end) => Ok(UnitAnswer { mark, end }),
         Begun::Work(work) => {
             end_work(alloc, session, route, &work, out, targets)?;
-            Ok(Told {
+            Ok(UnitAnswer {
                 mark: Some(Mark::Plain),
                 end: None,
             })

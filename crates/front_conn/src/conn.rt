@@ -2,13 +2,13 @@
 
 ghost use Rattle.std.specs.Prelude.{◌≡◌, ◌++◌, Some, None, false, OnOk, OnErr, option_to_list};
 ghost use Rattle.front_session.specs.Sessions.{new_session};
-ghost use Rattle.front_conn.specs.Places.{nothing_yet};
+ghost use Rattle.front_conn.specs.States.{nothing_yet};
 ghost use Rattle.front_conn.specs.Feeding.{with_piece, with_end, without_out};
-ghost use Rattle.front_conn.specs.Steps.{IsEndAfter, IsStepped, KeepsPlace, UnlessMemory};
+ghost use Rattle.front_conn.specs.Steps.{IsEndAfter, IsStepped, KeepsState, UnlessMemory};
 
 use crate::Stepped;
 use crate::ahead::{Ahead, look};
-use crate::answer::{Told, answer_unit, put_bad_unit};
+use crate::answer::{UnitAnswer, answer_unit, put_bad_unit};
 use front_session::FrontSession;
 use gw_outside::Targets;
 use route_config::Route;
@@ -32,9 +32,9 @@ impl Model for Conn {
     ghost use Rattle.std.specs.Prelude.{◌≡◌, None};
     ghost use Rattle.std.specs.Coded.{codes};
     ghost use Rattle.z_types.specs.Tree.{tree_code};
-    ghost use Rattle.front_conn.specs.Places.{Place};
+    ghost use Rattle.front_conn.specs.States.{ConnectionState};
 
-    ghost Value = { Place };
+    ghost Value = { ConnectionState };
 
     ghost coded = { Prim.hlevel (codes, tree_code) };
 
@@ -126,7 +126,7 @@ impl Conn {
     /// no unit.
     pub fn step<T: Targets>(&mut self, alloc: Global, route: &Route, targets: &T) -> Stepped
         ensures stepped { IsStepped self.old self.new result }
-        ensures keeps { UnlessMemory result (KeepsPlace T.World route.now self.old self.new) }
+        ensures keeps { UnlessMemory result (KeepsState T.World route.now self.old self.new) }
     {
         if self.end.is_some() {
             return Stepped::Idle;
@@ -145,9 +145,9 @@ impl Conn {
                 let unit = self.framer.unit(start, end);
                 let (session, out) = (&mut self.session, &mut self.out);
                 match answer_unit(alloc, session, route, unit, start, out, targets) {
-                    Ok(told) => {
-                        let put = put_mark(&mut self.marks, told.mark);
-                        end_step(&mut self.end, put, told.end)
+                    Ok(answer) => {
+                        let put = put_mark(&mut self.marks, answer.mark);
+                        end_step(&mut self.end, put, answer.end)
                     }
                     Err(memory) => end_step(&mut self.end, Err(memory), None),
                 }

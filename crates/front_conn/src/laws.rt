@@ -1,4 +1,4 @@
-//! What the place of a connection is of. These functions do nothing; what they ensure is the law.
+//! What the state of a connection is of. These functions do nothing; what they ensure is the law.
 
 ghost use Rattle.front_conn.specs.Feeding.{EndsAnswered, StandsAtStart, StandsWhenEnded, StandsWhenFed, StandsWhenWritten};
 

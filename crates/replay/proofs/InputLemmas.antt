@@ -3,7 +3,7 @@ use Rattle.std.proofs.Common.{◌≡◌, ◌∙◌, ℕ, suc, Bool, true, false,
 use Rattle.std.proofs.lemmas.Bool.{or_parts}
 use Rattle.std.proofs.lemmas.List.{append-nil}
 use Rattle.script.specs.declared.event.Event.{Event}
-use Rattle.script.specs.Events.{fed, is_named, client_of, octets_of, most_clients}
+use Rattle.script.specs.Events.{fed, is_named, client_of, octets_of}
 use Rattle.replay.specs.Inputs.{input_at, input_of, input_with, octets_so_far, AreEmpty}
 
 -- an input and all events of its client behind it
@@ -44,11 +44,6 @@ input_after-by input (event ∷ events) client =
 -- from nothing, all events give what the client is fed
 pub input_after-all : (events : List Event) (client : ℕ) → input_after None events client ≡ input_of events client
 input_after-all events client = input_after-by None events client
-
--- how many clients there can be
-pub most_clients-value : most_clients ≡ 10000
-unfolding most_clients
-most_clients-value = refl
 
 -- the inputs so far and the events that are left give what all events feed
 abbrev pub GoOn : List Event → ℕ → List (Option (List ℕ)) → Type 0

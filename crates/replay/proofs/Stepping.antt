@@ -1,12 +1,12 @@
 -- How many steps a connection can still take, and how it ends.
 use Rattle.std.proofs.Common.{◌+◌, ℕ, length, Option, Some, None}
 use Rattle.z_types.specs.declared.marks.End.{End}
-use Rattle.front_conn.specs.Places.{Place}
+use Rattle.front_conn.specs.States.{ConnectionState}
 
 -- one for each octet that is left, and one for the end
 abbrev pub steps_until : Option End → ℕ → ℕ
 steps_until None left = left + 1
 steps_until (Some end) left = 0
 
-abbrev pub steps_left : Place → ℕ
-steps_left place = steps_until place.end (length place.left)
+abbrev pub steps_left : ConnectionState → ℕ
+steps_left state = steps_until state.end (length state.left)

@@ -1,8 +1,8 @@
 //! One client's connection, fed and stepped to its end (ANSI/NISO Z39.50-2003, 4.2).
 
 ghost use Rattle.std.specs.Prelude.{◌≡◌, [], true, IfOk, OnOk, IsSome};
-ghost use Rattle.front_conn.specs.Places.{IsPlaceOf};
-ghost use Rattle.front_conn.specs.Steps.{KeepsPlace};
+ghost use Rattle.front_conn.specs.States.{IsStateOf};
+ghost use Rattle.front_conn.specs.Steps.{KeepsState};
 ghost use Rattle.replay.specs.Connections.{IsFedWhole};
 ghost use Rattle.replay.specs.Report.{IsClientReport};
 
@@ -53,7 +53,7 @@ fn run<T: Targets>(
     requires { connection.old.has_ended ≡ true }
     ensures whole { OnOk result (connection.new.has_ended ≡ true) }
     ensures ended { OnOk result (IsSome connection.new.end) }
-    ensures keeps { OnOk result (KeepsPlace T.World route.now connection.old connection.new) }
+    ensures keeps { OnOk result (KeepsState T.World route.now connection.old connection.new) }
 {
     while connection.end().is_none() {
         match connection.step(alloc, route, targets) {
@@ -69,7 +69,7 @@ fn run<T: Targets>(
 fn report_of<T: Targets>(route: &Route, number: u32, bytes: &[u8], connection: Conn) -> ClientReport
     requires whole { connection.has_ended ≡ true }
     requires ended { IsSome connection.end }
-    requires place { IsPlaceOf T.World route.now bytes.now [] connection }
+    requires state { IsStateOf T.World route.now bytes.now [] connection }
     ensures { IsClientReport T.World route.now number bytes.now result }
 {
     ends_answered::<T>();

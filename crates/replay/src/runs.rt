@@ -2,7 +2,7 @@
 
 ghost use Rattle.std.specs.Prelude.{◌<◌, ◌+◌, IfOk, OnOk};
 ghost use Rattle.std.specs.List.{AllByRecursion};
-ghost use Rattle.script.specs.Events.{HasClient};
+ghost use Rattle.script.specs.Events.{HasClient, most_clients};
 ghost use Rattle.replay.specs.Report.{IsReportOf, IsAnsweredBehind};
 
 use crate::inputs::inputs_of;
@@ -41,7 +41,7 @@ fn put_answer<T: Targets>(
     input: &Option<Text>,
     clients: &mut List<ClientReport>,
 ) -> Result<(), Memory>
-    requires { place < 10000 }
+    requires { place < most_clients }
     ensures { OnOk result (IsAnsweredBehind T.World route.now
         (place + 1) input.now clients.old clients.new) }
 {

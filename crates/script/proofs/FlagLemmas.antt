@@ -7,7 +7,7 @@ use Rattle.std.proofs.lemmas.List.{get_or-set_other}
 use Rattle.std.proofs.lemmas.List.Folds.{list_any-append}
 use Rattle.std.proofs.lemmas.Option.{unwrap_or-slice_get}
 use Rattle.script.specs.declared.event.Event.{Event}
-use Rattle.script.specs.Events.{client_of, is_end, has_ended}
+use Rattle.script.specs.Events.{most_clients, client_of, is_end, has_ended}
 use Rattle.script.specs.Flags.{flag_of, AreEnded}
 
 or_off : (a b : Bool) → b ≡ false → (a || b) ≡ a
@@ -40,5 +40,5 @@ flags_more events event flags place p within e h client =
     ∙ ap (λ number. has_ended events client || (number == client)) p ∙ sym (has_ended-more events event client e)
 
 -- a flag that is set leaves as many
-pub room_same : (flags : List Bool) (place : ℕ) → 10000 < length flags → 10000 < length (slice_set flags place true)
-room_same flags place h = subst (λ count. 10000 < count) (sym (length-set flags place true)) h
+pub room_same : (flags : List Bool) (place : ℕ) → most_clients < length flags → most_clients < length (slice_set flags place true)
+room_same flags place h = subst (λ count. most_clients < count) (sym (length-set flags place true)) h

@@ -7,7 +7,7 @@ use Rattle.script.specs.declared.event.Event.{Event}
 use Rattle.script.specs.declared.event.Event.TheVariants.{Feed, End, Run}
 
 -- clients have the numbers 1 to this
-unfoldable pub most_clients : ℕ
+abbrev pub most_clients : ℕ
 most_clients = 10000
 
 -- the client that an event is of
@@ -18,7 +18,7 @@ client_of (Run client) = client
 
 -- an event is of a client
 abbrev pub HasClient : Event → Type 0
-HasClient event = (1 ≤ client_of event) × (client_of event ≤ 10000)
+HasClient event = (1 ≤ client_of event) × (client_of event ≤ most_clients)
 
 -- an event goes on with its client's input: it feeds it or ends it
 abbrev pub is_of_input : Event → Bool

@@ -5,7 +5,8 @@ use Rattle.std.specs.List.{list_all, starts_with}
 use Rattle.std.specs.Result.{result_ok}
 use Rattle.hex.specs.Hex.{decode_of}
 use Rattle.script.specs.declared.event.Event.TheVariants.{Feed, End, Run}
-use Rattle.script.specs.Events.{HasClient}
+use Rattle.z_types.specs.Bounds.{most_unit_octets}
+use Rattle.script.specs.Events.{HasClient, most_clients}
 use Rattle.script.specs.declared.line.Said.{Said}
 use Rattle.script.specs.declared.line.Said.TheVariants.{Nothing, Says, Unknown}
 
@@ -23,18 +24,18 @@ abbrev pub number_after : ℕ → List ℕ → ℕ
 number_after before [] = before
 number_after before (digit ∷ digits) = number_after (before * 10 + (digit - 48)) digits
 
--- a number is a client's: 1 to 10000
+-- a number is a client's, where a client has it
 abbrev pub client_in_range : ℕ → Option ℕ
-client_in_range number = if nat_le number 10000 && nat_le 1 number then Some number else None
+client_in_range number = if nat_le number most_clients && nat_le 1 number then Some number else None
 
 -- the client of a number in decimal
 abbrev pub client_named : List ℕ → Option ℕ
 client_named digits = if is_decimal digits then client_in_range (number_after 0 digits) else None
 
--- the octets that hexadecimal digits of either case write, at least one and at most 1048576
+-- the octets that hexadecimal digits of either case write, one at least, and those of a unit at most
 abbrev pub octets_written : List ℕ → Option (List ℕ)
 octets_written digits =
-    if nat_le 1 (length digits) && nat_le (length digits) 2097152 then result_ok (decode_of digits)
+    if nat_le 1 (length digits) && nat_le (length digits) (2 * most_unit_octets) then result_ok (decode_of digits)
     else None
 
 -- these octets are fed to a client

@@ -1,6 +1,7 @@
 //! The number of a client in a script.
 
 ghost use Rattle.std.specs.Prelude.{◌≡◌, ◌≤◌, IfSome};
+ghost use Rattle.script.specs.Events.{most_clients};
 ghost use Rattle.script.specs.Lines.{client_named, client_in_range, is_decimal, are_digits, number_after};
 
 /// The greatest number of a client.
@@ -9,7 +10,7 @@ pub const MOST_CLIENTS: u32 = 10_000;
 /// The client of a number in decimal without leading zeros.
 pub(crate) fn client_named(digits: &[u8]) -> Option<u32>
     ensures named { result ≡ client_named digits.now }
-    ensures within { IfSome result (λ client. (1 ≤ client) × (client ≤ 10000)) }
+    ensures within { IfSome result (λ client. (1 ≤ client) × (client ≤ most_clients)) }
 {
     if is_decimal(digits) {
         client_written(digits)
@@ -51,7 +52,7 @@ fn client_written(digits: &[u8]) -> Option<u32>
     client_in_range(number)
 }
 
-/// The client of a number, where it is 1 to 10000.
+/// The client of a number, where one has it.
 fn client_in_range(number: u32) -> Option<u32>
     ensures { result ≡ client_in_range number }
 {

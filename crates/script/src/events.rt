@@ -2,7 +2,7 @@
 
 ghost use Rattle.std.specs.Prelude.{◌≡◌, ◌≤◌, ◌<◌, [], ◌∷◌, ◌++◌, length, IfOk, OnOk, OnErr};
 ghost use Rattle.std.specs.List.{AllByRecursion};
-ghost use Rattle.script.specs.Events.{HasClient, has_ended, may_follow};
+ghost use Rattle.script.specs.Events.{HasClient, most_clients, has_ended, may_follow};
 ghost use Rattle.script.specs.Lines.{SaysClient};
 ghost use Rattle.script.specs.Flags.{AreEnded, AreClear};
 ghost use Rattle.script.specs.Script.{put_event, put_said, IsPut};
@@ -22,7 +22,7 @@ pub struct Events {
     list: List<Event>,
     ended: Vec<bool>,
     ghost flags: { AreEnded list ended.items },
-    ghost room: { 10000 < length ended.items },
+    ghost room: { most_clients < length ended.items },
 }
 
 impl Events {
@@ -84,7 +84,7 @@ impl Events {
 
     /// Whether the input of a client has ended.
     fn has_ended(&self, client: u32) -> bool
-        requires { client ≤ 10000 }
+        requires { client ≤ most_clients }
         ensures { result ≡ has_ended self.now.list client }
     {
         self.ended[client as usize]

@@ -2,6 +2,7 @@
 
 ghost use Rattle.std.specs.Prelude.{◌≡◌, ◌≤◌, ◌∷◌, ◌==◌, IfOk, IfSome, position};
 ghost use Rattle.std.specs.Option.{option_copied};
+ghost use Rattle.script.specs.Events.{most_clients};
 ghost use Rattle.script.specs.Lines.{said_by, said_by_words, feed_at, end_said, run_said, octets_written, SaysClient};
 ghost use Rattle.script.specs.Script.{lines, lines_behind};
 
@@ -9,10 +10,10 @@ use crate::Event;
 use crate::clients::client_named;
 use hex::FromHexError;
 use std::alloc::Global;
-use z_types::{Memory, Text};
+use z_types::{MOST_UNIT_OCTETS, Memory, Text};
 
 /// The most hexadecimal digits that a line feeds, two for each octet.
-const MOST_DIGITS: usize = 2_097_152;
+const MOST_DIGITS: usize = 2 * MOST_UNIT_OCTETS as usize;
 
 /// What a line says.
 #[derive(Drop)]
@@ -88,7 +89,7 @@ fn octets_written(alloc: Global, digits: &[u8]) -> Result<Option<Text>, Memory>
 
 /// The end of a client, if it is one.
 fn end_said(client: Option<u32>) -> Said
-    requires { IfSome client (λ number. (1 ≤ number) × (number ≤ 10000)) }
+    requires { IfSome client (λ number. (1 ≤ number) × (number ≤ most_clients)) }
     ensures said { result ≡ end_said client }
     ensures client { SaysClient result }
 {
@@ -100,7 +101,7 @@ fn end_said(client: Option<u32>) -> Said
 
 /// The run of a client, if it is one.
 fn run_said(client: Option<u32>) -> Said
-    requires { IfSome client (λ number. (1 ≤ number) × (number ≤ 10000)) }
+    requires { IfSome client (λ number. (1 ≤ number) × (number ≤ most_clients)) }
     ensures said { result ≡ run_said client }
     ensures client { SaysClient result }
 {

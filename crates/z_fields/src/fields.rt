@@ -12,7 +12,8 @@ use z_ber::Tag;
 use z_types::Memory;
 
 /// How many places an index has. No two context tags that one unit's fields are looked for by share
-/// a place, so that each is found without a look at others.
+/// a place, so that each is found without a look at others where no field that is not looked for
+/// took its place.
 const PLACE_COUNT: usize = 31;
 
 /// How many fields an index keeps at first.

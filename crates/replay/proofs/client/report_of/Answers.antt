@@ -3,4 +3,4 @@ use Rattle.replay.proofs.client.report_of.Goals as goal
 
 pub returns : goal.returns
 returns g c =
-    reported g.T.World _ _ _ c.args.connection _ _ _ c.ends_answered.ensures c.requires.place c.requires.whole (cc) (cc) (cc)
+    reported g.T.World _ _ _ c.args.connection _ _ _ c.ends_answered.ensures c.requires.state c.requires.whole (cc) (cc) (cc)

@@ -1,7 +1,6 @@
 use Rattle.std.proofs.Common.{◌≡◌, length, subst, arith}
 use Rattle.replay.specs.Inputs.{AreInputs}
 use Rattle.replay.specs.Report.{AreReportsUpto}
-use Rattle.replay.proofs.InputLemmas.{most_clients-value}
 use Rattle.replay.proofs.RunSteps.{none_yet, next_place, all_places}
 use Rattle.replay.proofs.runs.run.Goals as goal
 
@@ -9,7 +8,7 @@ pub loop-place-init : goal.loop-place-init
 loop-place-init g c = none_yet g.T.World c.args.route.now c.args.events.now c.new-clients.result c.new-clients.ensures
 
 pub put_answer-requires : goal.put_answer-requires
-put_answer-requires g c = omega (arith, c.in_ok-inputs.ensures.all, most_clients-value)
+put_answer-requires g c = omega (arith, c.in_ok-inputs.ensures.all)
 
 pub loop-place-preserved : goal.loop-place-preserved
 loop-place-preserved g c =

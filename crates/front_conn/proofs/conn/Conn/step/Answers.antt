@@ -29,6 +29,6 @@ returns-in-Ok-clause-stepped g c =
 
 pub returns-in-Ok-clause-keeps : goal.returns-in-Ok-clause-keeps
 returns-in-Ok-clause-keeps g c =
-    keeps-whole g.T.World _ _ _ _ _ _ _ _ _ _ _ _ _ _ _ _ c.in-Ok.told c.put_mark-put.result _ c.self.view_is
+    keeps-whole g.T.World _ _ _ _ _ _ _ _ _ _ _ _ _ _ _ _ c.in-Ok.answer c.put_mark-put.result _ c.self.view_is
     (none-of _ (sym c.is_some.ensures ∙ c.if-is_some.false)) c.in-Whole.ensures c.unit-unit.ensures
     c.in-Ok.ensures c.put_mark-put.ensures c.end_step-in-Ok.ensures

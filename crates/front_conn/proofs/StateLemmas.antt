@@ -32,10 +32,10 @@ use Rattle.limit_rules.specs.Limits.{are_units_spent}
 use Rattle.gateway_rules.proofs.Parts.{all-append, runs-go-on, units-end}
 use Rattle.front_session.specs.Sessions.{SessionState, progress_of}
 use Rattle.front_z.specs.Units.{Served}
-use Rattle.front_conn.specs.Places.{Place, StandsBehind, StandsOrEnded, HasEnded, BeginsWithUnits}
-use Rattle.front_conn.specs.Steps.{KeepsPlace}
+use Rattle.front_conn.specs.States.{ConnectionState, StandsBehind, StandsOrEnded, HasEnded, BeginsWithUnits}
+use Rattle.front_conn.specs.Steps.{KeepsState}
 use Rattle.front_conn.specs.Answering.{AnswersUnit, IsMetAnswered, IsPlainly}
-use Rattle.front_conn.specs.declared.answer.Told.{Told}
+use Rattle.front_conn.specs.declared.answer.UnitAnswer.{UnitAnswer}
 
 -- ---- octets
 
@@ -89,7 +89,7 @@ met-at route a b s (Some (request.Present present)) = refl
 met-at route a b s (Some (request.Scan scan)) = refl
 met-at route a b s (Some (request.Close close)) = refl
 
--- a request in its place that is due is the one that was read
+-- a request in its state that is due is the one that was read
 in_place-due : (asks read : Request) → met_in_place read ≡ course.due asks → read ≡ asks
 in_place-due asks (request.Init init) h = cc
 in_place-due asks (request.Search search) h = cc
@@ -111,24 +111,24 @@ met-due route here (Some read) asks h =
 
 -- ---- a step that takes a unit
 
--- the session and the output of a place
-abbrev pub served : Place → Served
-served place = record { session = place.session; out = place.out }
+-- the session and the output of a state
+abbrev pub served : ConnectionState → Served
+served state = record { session = state.session; out = state.out }
 
 -- a unit was taken, and answered so
-pub record TookUnit {W : Type 0} (w : world.Ghosts W) (route : Route) (old new : Place) (unit : List ℕ) (told : Told) : Type 0 where
+pub record TookUnit {W : Type 0} (w : world.Ghosts W) (route : Route) (old new : ConnectionState) (unit : List ℕ) (answer : UnitAnswer) : Type 0 where
   pub goes : old.end ≡ None
   pub frame : IsFrame unit
   pub taken : old.left ≡ unit ++ new.left
   pub first : old.at ≡ 0 → kind_of old.left ≡ kind.unit
   pub place : new.at ≡ within64 (old.at + length unit)
-  pub answers : AnswersUnit w route old.at unit (served old) (served new) told
-  pub marks : new.marks ≡ old.marks ++ option_to_list told.mark
-  pub ended : new.end ≡ told.end
+  pub answers : AnswersUnit w route old.at unit (served old) (served new) answer
+  pub marks : new.marks ≡ old.marks ++ option_to_list answer.mark
+  pub ended : new.end ≡ answer.end
 
--- the place of the unit, in the session
-abbrev pub stand_of : List Received → Place → Progress
-stand_of units place = progress_of (length (octets_of units)) place.session
+-- the state of the unit, in the session
+abbrev pub stand_of : List Received → ConnectionState → Progress
+stand_of units state = progress_of (length (octets_of units)) state.session
 
 -- the run of one unit that is met so
 pub unit-run : {W : Type 0} (w : world.Ghosts W) (route : Route) (here : Progress) (client : ClientState)
@@ -156,7 +156,7 @@ written-snoc written old new replies reply e f =
 -- ---- a unit that ends the connection
 
 -- the answers behind a unit at which the session is over, whatever may still come
-pub over-ended : {W : Type 0} (w : world.Ghosts W) (route : Route) (fed written : List ℕ) (old new : Place)
+pub over-ended : {W : Type 0} (w : world.Ghosts W) (route : Route) (fed written : List ℕ) (old new : ConnectionState)
     (unit : Received) (causes : List Cause) (reply : Reply) (second : Run) (end : End)
     (sb : StandsBehind w route fed written old)
     → (old.at ≡ 0 → kind_of old.left ≡ kind.unit) → old.left ≡ unit.octets ++ new.left
@@ -201,14 +201,14 @@ within-more : (a n : ℕ) → within64 (within64 a + n) ≡ within64 (a + n)
 within-more a n = omega arith
 
 -- where it stands behind the request
-pub due-stands : {W : Type 0} (w : world.Ghosts W) (route : Route) (fed written : List ℕ) (old new : Place)
+pub due-stands : {W : Type 0} (w : world.Ghosts W) (route : Route) (fed written : List ℕ) (old new : ConnectionState)
     (unit : Received) (asks : Request) (sb : StandsBehind w route fed written old)
     → (old.at ≡ 0 → kind_of old.left ≡ kind.unit) → old.left ≡ unit.octets ++ new.left
     → new.at ≡ within64 (old.at + length unit.octets) → IsReceived unit
     → met route (stand_of sb.units old) unit.request ≡ course.due asks
     → new.marks ≡ old.marks ++ Plain ∷ [] → IsPlainly w route asks (served old) (served new)
     → StandsBehind w route fed written new
-due-stands w route fed written old new unit asks sb first taken place received is marks p =
+due-stands w route fed written old new unit asks sb first taken state received is marks p =
     let here : Progress = stand_of sb.units old in
     let client : ClientState = sb.got.client in
     let reply = (answered w route client asks plain).reply in
@@ -223,7 +223,7 @@ due-stands w route fed written old new unit asks sb first taken place received i
       units = sb.units ++ unit ∷ [];
       spelled = spelled-snoc sb.units unit fed old.left new.left sb.spelled taken;
       kind = begins-snoc sb.units unit fed of_units;
-      offset = place ∙ ap (λ a. within64 (a + length unit.octets)) sb.offset
+      offset = state ∙ ap (λ a. within64 (a + length unit.octets)) sb.offset
           ∙ within-more (length (octets_of sb.units)) (length unit.octets)
           ∙ ap within64 (sym (length-append (octets_of sb.units) unit.octets) ∙ ap length (sym (octets-snoc sb.units unit)));
       causes = sb.causes ++ plain ∷ [];
@@ -243,33 +243,33 @@ due-stands w route fed written old new unit asks sb first taken place received i
 -- ---- both
 
 -- by how the unit is met
-unit-stands : {W : Type 0} (w : world.Ghosts W) (route : Route) (fed written : List ℕ) (old new : Place)
-    (unit : Received) (told : Told) (sb : StandsBehind w route fed written old) → IsReceived unit
-    → TookUnit w route old new unit.octets told → (meeting : Meeting)
+unit-stands : {W : Type 0} (w : world.Ghosts W) (route : Route) (fed written : List ℕ) (old new : ConnectionState)
+    (unit : Received) (answer : UnitAnswer) (sb : StandsBehind w route fed written old) → IsReceived unit
+    → TookUnit w route old new unit.octets answer → (meeting : Meeting)
     → met route (stand_of sb.units old) unit.request ≡ meeting
-    → IsMetAnswered w meeting route old.at unit.request (served old) (served new) told
-    → StandsOrEnded told.end w route fed written new
-unit-stands w route fed written old new unit told sb received t course.bad is m =
-    let mark : told.mark ≡ None = let e = m.0 in cc in
-    let end : told.end ≡ Some (Malformed old.at) = let e = m.0 in cc in
+    → IsMetAnswered w meeting route old.at unit.request (served old) (served new) answer
+    → StandsOrEnded answer.end w route fed written new
+unit-stands w route fed written old new unit answer sb received t course.bad is m =
+    let mark : answer.mark ≡ None = let e = m.0 in cc in
+    let end : answer.end ≡ Some (Malformed old.at) = let e = m.0 in cc in
     let last : Run = stopped (bad_unit_reply ∷ []) [] sb.got.client (session.over (Malformed (within64 (length (octets_of sb.units))))) in
     let runs = unit-run w route (stand_of sb.units old) sb.got.client unit course.bad [] last received is refl tt refl in
     let marks = t.marks ∙ ap (λ k. old.marks ++ option_to_list k) mark in
     subst (λ (e : Option End). StandsOrEnded e w route fed written new) (sym end)
     (over-ended w route fed written old new unit [] bad_unit_reply last (Malformed old.at) sb t.first t.taken runs
     (ap (λ a. session.over (Malformed a)) (sym sb.offset)) refl m.1.0 marks tt)
-unit-stands w route fed written old new unit told sb received t (course.beyond asks) is m =
-    let mark : told.mark ≡ None = let e = m.0 in cc in
-    let end : told.end ≡ Some Limited = let e = m.0 in cc in
+unit-stands w route fed written old new unit answer sb received t (course.beyond asks) is m =
+    let mark : answer.mark ≡ None = let e = m.0 in cc in
+    let end : answer.end ≡ Some Limited = let e = m.0 in cc in
     let last : Run = stopped (limit_reply asks ∷ []) [] sb.got.client (session.over Limited) in
     let runs = unit-run w route (stand_of sb.units old) sb.got.client unit (course.beyond asks) [] last received is refl tt refl in
     let marks = t.marks ∙ ap (λ k. old.marks ++ option_to_list k) mark in
     subst (λ (e : Option End). StandsOrEnded e w route fed written new) (sym end)
     (over-ended w route fed written old new unit [] (limit_reply asks) last Limited sb t.first t.taken runs
     refl refl m.1.0 marks tt)
-unit-stands w route fed written old new unit told sb received t (course.closing close) is m =
-    let mark : told.mark ≡ Some Plain = let e = m.0 in cc in
-    let end : told.end ≡ Some Closed = let e = m.0 in cc in
+unit-stands w route fed written old new unit answer sb received t (course.closing close) is m =
+    let mark : answer.mark ≡ Some Plain = let e = m.0 in cc in
+    let end : answer.end ≡ Some Closed = let e = m.0 in cc in
     let reply = close_reply close.ref_id finished in
     let cause : Taken = record { classes = reached w route sb.got.client (request.Close close); cause = plain } in
     let last : Run = in_front (reply ∷ []) (cause ∷ []) (stopped [] [] sb.got.client (session.over Closed)) in
@@ -278,21 +278,21 @@ unit-stands w route fed written old new unit told sb received t (course.closing 
     subst (λ (e : Option End). StandsOrEnded e w route fed written new) (sym end)
     (over-ended w route fed written old new unit (plain ∷ []) reply last Closed sb t.first t.taken runs
     refl refl m.1 marks (refl, tt))
-unit-stands w route fed written old new unit told sb received t (course.due asks) is m =
-    let end : told.end ≡ None = ap (λ (k : Told). k.end) m.0 in
-    let marks = t.marks ∙ ap (λ (k : Told). old.marks ++ option_to_list k.mark) m.0 in
+unit-stands w route fed written old new unit answer sb received t (course.due asks) is m =
+    let end : answer.end ≡ None = ap (λ (k : UnitAnswer). k.end) m.0 in
+    let marks = t.marks ∙ ap (λ (k : UnitAnswer). old.marks ++ option_to_list k.mark) m.0 in
     subst (λ (e : Option End). StandsOrEnded e w route fed written new) (sym end)
     (due-stands w route fed written old new unit asks sb t.first t.taken t.place received is marks m.1)
 
 -- a connection that takes a unit stands behind it, or has ended by it
-pub unit-keeps : {W : Type 0} (w : world.Ghosts W) (route : Route) (old new : Place) (unit : List ℕ) (told : Told)
-    → TookUnit w route old new unit told → KeepsPlace w route old new
-unit-keeps w route old new unit told t = λ fed written h.
+pub unit-keeps : {W : Type 0} (w : world.Ghosts W) (route : Route) (old new : ConnectionState) (unit : List ℕ) (answer : UnitAnswer)
+    → TookUnit w route old new unit answer → KeepsState w route old new
+unit-keeps w route old new unit answer t = λ fed written h.
     let sb : StandsBehind w route fed written old = subst (λ (e : Option End). StandsOrEnded e w route fed written old) t.goes h in
     let a = t.answers (record { waits_not = sb.waits_not; sets = sb.sets }) in
     let received : Received = record { octets = unit; request = a.read } in
-    let m = subst (λ (m : Meeting). IsMetAnswered w m route old.at a.read (served old) (served new) told)
+    let m = subst (λ (m : Meeting). IsMetAnswered w m route old.at a.read (served old) (served new) answer)
     (met-at route old.at (length (octets_of sb.units)) old.session a.read) a.met_so in
     subst (λ (e : Option End). StandsOrEnded e w route fed written new) (sym t.ended)
-    (unit-stands w route fed written old new received told sb (t.frame, a.reading) t
+    (unit-stands w route fed written old new received answer sb (t.frame, a.reading) t
     (met route (stand_of sb.units old) a.read) refl m)

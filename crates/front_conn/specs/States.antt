@@ -20,7 +20,7 @@ use Rattle.front_session.specs.Sessions.{SessionState, client_of, progress_of}
 
 -- a connection: its session, the offset of the octets that were not taken, these octets, whether
 -- the input has ended, the marks, what is to be written, and how it ended, if it did
-pub record Place : Type 0 where
+pub record ConnectionState : Type 0 where
   pub session : SessionState
   pub at : ℕ
   pub left : List ℕ
@@ -30,7 +30,7 @@ pub record Place : Type 0 where
   pub end : Option End
 
 -- nothing has come
-abbrev pub nothing_yet : SessionState → Place
+abbrev pub nothing_yet : SessionState → ConnectionState
 nothing_yet session =
     record { session = session; at = 0; left = []; has_ended = false; marks = []; out = []; end = None }
 
@@ -48,21 +48,21 @@ BeginsWithUnits (unit ∷ units) fed = kind_of fed ≡ kind.unit
 -- were written, in part before and the others still to be; the client is as they left it, and no
 -- request waits.
 pub record StandsBehind {W : Type 0} (w : world.Ghosts W) (route : Route) (fed written : List ℕ)
-    (place : Place) : Type 0 where
+    (state : ConnectionState) : Type 0 where
   pub units : List Received
-  pub spelled : fed ≡ octets_of units ++ place.left
+  pub spelled : fed ≡ octets_of units ++ state.left
   pub kind : BeginsWithUnits units fed
-  pub offset : place.at ≡ within64 (length (octets_of units))
+  pub offset : state.at ≡ within64 (length (octets_of units))
   pub causes : List Cause
-  pub of_marks : marks_of causes ≡ place.marks
-  pub plainly : AreMarksPlain place.marks
+  pub of_marks : marks_of causes ≡ state.marks
+  pub plainly : AreMarksPlain state.marks
   pub got : Run
   pub has_run : HasRunSoFar w route units causes got
-  pub replies : written ++ place.out ≡ written_as got.replies
-  pub client : got.client ≡ client_of place.session
-  pub standing : got.stop ≡ session.standing (progress_of (length (octets_of units)) place.session)
-  pub sets : AllByRecursion (HasMeantHits w route) place.session.sets
-  pub waits_not : place.session.waiting ≡ None
+  pub replies : written ++ state.out ≡ written_as got.replies
+  pub client : got.client ≡ client_of state.session
+  pub standing : got.stop ≡ session.standing (progress_of (length (octets_of units)) state.session)
+  pub sets : AllByRecursion (HasMeantHits w route) state.session.sets
+  pub waits_not : state.session.waiting ≡ None
 
 -- octets that may still come: none behind the end of the input
 abbrev pub MayCome : Bool → List ℕ → Type 0
@@ -71,17 +71,17 @@ MayCome false more = Unit {0}
 
 -- The octets were answered whole, each request under a Plain mark, whatever may still come.
 pub record HasEnded {W : Type 0} (w : world.Ghosts W) (route : Route) (fed written : List ℕ)
-    (place : Place) (end : End) : Type 0 where
-  pub answers : (more : List ℕ) → MayCome place.has_ended more
-      → Answers w route (fed ++ more) place.marks (written ++ place.out) end
-  pub plainly : AreMarksPlain place.marks
+    (state : ConnectionState) (end : End) : Type 0 where
+  pub answers : (more : List ℕ) → MayCome state.has_ended more
+      → Answers w route (fed ++ more) state.marks (written ++ state.out) end
+  pub plainly : AreMarksPlain state.marks
 
 -- where a connection stands, or how it ended
 abbrev pub StandsOrEnded : {W : Type 0} → Option End → world.Ghosts W → Route → List ℕ → List ℕ
-    → Place → Type 0
-StandsOrEnded None w route fed written place = StandsBehind w route fed written place
-StandsOrEnded (Some end) w route fed written place = HasEnded w route fed written place end
+    → ConnectionState → Type 0
+StandsOrEnded None w route fed written state = StandsBehind w route fed written state
+StandsOrEnded (Some end) w route fed written state = HasEnded w route fed written state end
 
 -- of the octets that were fed, where so much was written before
-abbrev pub IsPlaceOf : {W : Type 0} → world.Ghosts W → Route → List ℕ → List ℕ → Place → Type 0
-IsPlaceOf w route fed written place = StandsOrEnded place.end w route fed written place
+abbrev pub IsStateOf : {W : Type 0} → world.Ghosts W → Route → List ℕ → List ℕ → ConnectionState → Type 0
+IsStateOf w route fed written state = StandsOrEnded state.end w route fed written state
