@@ -90,7 +90,7 @@ impl Targets for EmptyWorld {
 }
 
 /// A connection that was fed these octets, and has made one step.
-fn stepped(alloc: Global, octets: &[u8], has_ended: bool) -> Result<Conn, Memory> {
+fn first_step(alloc: Global, octets: &[u8], has_ended: bool) -> Result<Conn, Memory> {
     let route = Route::smallest(alloc)?;
     let mut conn = Conn::new(alloc);
     conn.feed(octets)?;
@@ -116,7 +116,7 @@ fn ends_so(
     end: Option<End>,
     out: &[u8],
 ) -> Result<bool, Memory> {
-    let mut conn = stepped(alloc, octets, has_ended)?;
+    let mut conn = first_step(alloc, octets, has_ended)?;
     Ok(is_as(&mut conn, end, out))
 }
 

@@ -1,6 +1,7 @@
-//! Links with the test target 0, played by hand: requests are written and sent, and what arrives is read.
+//! Links with the test target 0, turn by turn: requests are written and sent, and what arrives is read.
 //! The word `b` as title is found at every second record of twenty.
 
+use self::Turn::{Cut, Dial, Gone, Look, SendInit, SendPresent, SendSearch, Slow};
 use crate::asks::{databases, word};
 use gw_outside::{Dialled, Events, Looked, Sent, Wire};
 use std::alloc::Global;
@@ -86,109 +87,167 @@ fn put_records(text: &mut Text, records: &List<NamedRecord>) -> Result<(), Memor
     text.push(b';')
 }
 
-/// What `looks` looks find.
-fn heard(
-    alloc: Global,
-    wire: &mut TestWire,
-    link: &mut TestLink,
-    looks: u32,
-) -> Result<Text, Memory> {
-    let mut text = Text::new(alloc);
-    for _ in 0..looks {
-        match wire.look(alloc, link) {
-            Looked::Arrived => {
-                let Ok(reply) = read_reply(alloc, wire.arrived(link)) else {
-                    return Err(Memory);
-                };
-                text.append(words_of(alloc, &reply)?.as_slice())?;
-                let count = wire.arrived(link).len();
-                wire.consume(link, count);
-            }
-            Looked::NotYet => text.append(b"not yet;")?,
-            Looked::Failed => text.append(b"failed;")?,
-            Looked::Memory => return Err(Memory),
+/// What happens at a wire. A link is named by its place among those that were made.
+#[derive(Clone, Copy)]
+enum Turn {
+    /// A link is made.
+    Dial,
+    /// An Init is sent.
+    SendInit(usize),
+    /// A Search is sent.
+    SendSearch(usize),
+    /// A Present is sent.
+    SendPresent(usize),
+    /// A look.
+    Look(usize),
+    /// This number of Presents finds all sets gone.
+    Gone(u32),
+    /// Replies arrive after this number of looks.
+    Slow(u32),
+    /// All links are cut.
+    Cut,
+}
+
+/// A wire, the links that were made, and what was heard.
+#[derive(Drop)]
+struct Play {
+    wire: TestWire,
+    links: Vec<TestLink>,
+    line: Text,
+}
+
+/// What is heard, turn by turn.
+fn words_heard(alloc: Global, turns: &[Turn]) -> Result<Text, Memory> {
+    let mut play = Play {
+        wire: TestWire::new(alloc),
+        links: Vec::new(alloc),
+        line: Text::new(alloc),
+    };
+    take_turns(alloc, &mut play, turns)?;
+    Ok(play.line)
+}
+
+/// Takes turns.
+fn take_turns(alloc: Global, play: &mut Play, turns: &[Turn]) -> Result<(), Memory> {
+    for turn in turns {
+        match turn {
+            Turn::Dial => dial(alloc, play)?,
+            Turn::SendInit(place) => send(alloc, play, *place, &init())?,
+            Turn::SendSearch(place) => send(alloc, play, *place, &search(alloc)?)?,
+            Turn::SendPresent(place) => send(alloc, play, *place, &present(alloc)?)?,
+            Turn::Look(place) => look(alloc, play, *place)?,
+            Turn::Gone(presents) => play.wire.gone(0, *presents)?,
+            Turn::Slow(looks) => play.wire.slow(0, *looks)?,
+            Turn::Cut => play.wire.cut(0)?,
         }
     }
-    Ok(text)
+    Ok(())
 }
 
-/// A new link with the target 0.
-fn dialled(alloc: Global, wire: &mut TestWire) -> Result<TestLink, Memory> {
-    match wire.dial(alloc, &Address::Test(0)) {
-        Dialled::Link(link) => Ok(link),
-        _ => Err(Memory),
+/// Makes a link with the target 0.
+fn dial(alloc: Global, play: &mut Play) -> Result<(), Memory> {
+    match play.wire.dial(alloc, &Address::Test(0)) {
+        Dialled::Link(link) => {
+            play.links.push(link)?;
+            Ok(())
+        }
+        Dialled::Failed => play.line.append(b"no link;"),
+        Dialled::Memory => Err(Memory),
     }
 }
 
-/// Sends a request.
-fn send(
-    alloc: Global,
-    wire: &mut TestWire,
-    link: &mut TestLink,
-    request: &Request,
-) -> Result<Sent, Memory> {
+/// Sends a request over the link of a place.
+fn send(alloc: Global, play: &mut Play, place: usize, request: &Request) -> Result<(), Memory> {
     let unit = write_request(alloc, request)?;
-    Ok(wire.send(alloc, link, unit.as_slice()))
-}
-
-#[test]
-fn each_reply_arrives_whole_at_one_look(rt: HostRuntime) -> Result<(), Fail> {
-    let alloc = rt.alloc();
-    let mut wire = TestWire::new(alloc);
-    let mut link = dialled(alloc, &mut wire)?;
-    for request in [init(), search(alloc)?, present(alloc)?] {
-        assert_eq!(rt; send(alloc, &mut wire, &mut link, &request)?, Sent::Sent);
+    let Some(link) = play.links.get_mut(place) else {
+        return play.line.append(b"no link;");
+    };
+    match play.wire.send(alloc, link, unit.as_slice()) {
+        Sent::Sent => Ok(()),
+        Sent::Failed => play.line.append(b"not sent;"),
+        Sent::Memory => Err(Memory),
     }
-    let said = heard(alloc, &mut wire, &mut link, 4)?;
-    let wanted = b"opened;hits 10;<r>2</r><r>4</r><r>6</r><r>8</r><r>10</r>;not yet;".as_slice();
-    assert_eq!(rt; said.as_slice(), wanted);
-    Ok(())
 }
 
-#[test]
-fn presents_find_all_sets_gone(rt: HostRuntime) -> Result<(), Fail> {
-    let alloc = rt.alloc();
-    let mut wire = TestWire::new(alloc);
-    let mut link = dialled(alloc, &mut wire)?;
-    send(alloc, &mut wire, &mut link, &search(alloc)?)?;
-    wire.gone(0, 1)?;
-    send(alloc, &mut wire, &mut link, &present(alloc)?)?;
-    send(alloc, &mut wire, &mut link, &search(alloc)?)?;
-    send(alloc, &mut wire, &mut link, &present(alloc)?)?;
-    let said = heard(alloc, &mut wire, &mut link, 4)?;
-    let wanted =
-        b"hits 10;refused 30;hits 10;<r>2</r><r>4</r><r>6</r><r>8</r><r>10</r>;".as_slice();
-    assert_eq!(rt; said.as_slice(), wanted);
-    Ok(())
+/// Looks at the link of a place, and reads what arrived.
+fn look(alloc: Global, play: &mut Play, place: usize) -> Result<(), Memory> {
+    let Some(link) = play.links.get_mut(place) else {
+        return play.line.append(b"no link;");
+    };
+    match play.wire.look(alloc, link) {
+        Looked::Arrived => {
+            let arrived = play.wire.arrived(link);
+            let count = arrived.len();
+            let words = match read_reply(alloc, arrived) {
+                Ok(reply) => words_of(alloc, &reply)?,
+                Err(_) => return Err(Memory),
+            };
+            play.wire.consume(link, count);
+            play.line.append(words.as_slice())
+        }
+        Looked::NotYet => play.line.append(b"not yet;"),
+        Looked::Failed => play.line.append(b"failed;"),
+        Looked::Memory => Err(Memory),
+    }
 }
 
+/// Turns, and what is heard.
+const ROWS: [(&[Turn], &[u8]); 4] = [
+    // each reply arrives whole at one look
+    (
+        &[
+            Dial,
+            SendInit(0),
+            SendSearch(0),
+            SendPresent(0),
+            Look(0),
+            Look(0),
+            Look(0),
+            Look(0),
+        ],
+        b"opened;hits 10;<r>2</r><r>4</r><r>6</r><r>8</r><r>10</r>;not yet;",
+    ),
+    // a Present finds all sets gone
+    (
+        &[
+            Dial,
+            SendSearch(0),
+            Gone(1),
+            SendPresent(0),
+            SendSearch(0),
+            SendPresent(0),
+            Look(0),
+            Look(0),
+            Look(0),
+            Look(0),
+        ],
+        b"hits 10;refused 30;hits 10;<r>2</r><r>4</r><r>6</r><r>8</r><r>10</r>;",
+    ),
+    // replies are late
+    (
+        &[Dial, Slow(2), SendSearch(0), Look(0), Look(0), Look(0)],
+        b"not yet;not yet;hits 10;",
+    ),
+    // a link that was made before the cut is cut, and one that is made after it is not
+    (
+        &[Dial, Cut, Dial, SendInit(0), SendInit(1), Look(0), Look(1)],
+        b"not sent;failed;opened;",
+    ),
+];
+
 #[test]
-fn replies_are_late_and_links_are_cut(rt: HostRuntime) -> Result<(), Fail> {
-    let alloc = rt.alloc();
-    let mut wire = TestWire::new(alloc);
-    let mut link = dialled(alloc, &mut wire)?;
-    wire.slow(0, 2)?;
-    send(alloc, &mut wire, &mut link, &search(alloc)?)?;
-    let said = heard(alloc, &mut wire, &mut link, 3)?;
-    assert_eq!(rt; said.as_slice(), b"not yet;not yet;hits 10;".as_slice());
-    wire.cut(0)?;
-    let mut other = dialled(alloc, &mut wire)?;
-    wire.slow(0, 0)?;
-    assert_eq!(rt; send(alloc, &mut wire, &mut link, &init())?, Sent::Failed);
-    assert_eq!(rt; send(alloc, &mut wire, &mut other, &init())?, Sent::Sent);
-    let said = heard(alloc, &mut wire, &mut link, 1)?;
-    assert_eq!(rt; said.as_slice(), b"failed;".as_slice());
-    let said = heard(alloc, &mut wire, &mut other, 1)?;
-    assert_eq!(rt; said.as_slice(), b"opened;".as_slice());
+fn each_turn_is_heard(rt: HostRuntime) -> Result<(), Fail> {
+    for (turns, wanted) in &ROWS {
+        assert_eq!(rt; words_heard(rt.alloc(), turns)?.as_slice(), *wanted);
+    }
     Ok(())
 }
 
 #[test]
 fn no_other_target_is_dialled(rt: HostRuntime) -> Result<(), Fail> {
     let alloc = rt.alloc();
-    let mut wire = TestWire::new(alloc);
     let host = Text::copy_of(alloc, b"localhost")?;
-    let failed = match wire.dial(alloc, &Address::Tcp(host, 210)) {
+    let failed = match TestWire::new(alloc).dial(alloc, &Address::Tcp(host, 210)) {
         Dialled::Failed => true,
         _ => false,
     };
