@@ -11,7 +11,7 @@ use anyhow::{Context, Result, bail};
 use pool_core::Pool;
 use pool_sets::{Door, Seat, Taken};
 use route_config::{Members, PoolNumbers};
-use sessions::{Quiet, Still, holding, key_of};
+use sessions::{Quiet, Still, key_of, session_holding};
 use std::alloc::Global;
 use std::env;
 use std::rt::Env;
@@ -31,7 +31,7 @@ enum Want {
 }
 
 /// What a word names.
-fn named(word: &str) -> Option<Want> {
+fn want_named(word: &str) -> Option<Want> {
     match word {
         "any" => Some(Want::Any),
         "first" => Some(Want::First),
@@ -77,7 +77,7 @@ fn pool_of(
             class: 0,
             number: u64::from(number),
         };
-        pool.put(seat, holding(alloc, number)?.apart(), 0);
+        pool.put(seat, session_holding(alloc, number)?.apart(), 0);
     }
     Ok(pool)
 }
@@ -119,7 +119,7 @@ fn turns(
 }
 
 /// The number of the session whose set is wanted, where one is.
-fn wanted(want: Want, idle: u32) -> Option<u32> {
+fn number_wanted(want: Want, idle: u32) -> Option<u32> {
     match want {
         Want::Any => None,
         Want::First => Some(1),
@@ -133,7 +133,7 @@ fn reuses(alloc: Global, want: Want, idle: u32, times: u32) -> std::result::Resu
     let members = members(alloc)?;
     let mut pool = pool_of(alloc, members.as_slice(), idle)?;
     let at = members.as_slice();
-    match wanted(want, idle) {
+    match number_wanted(want, idle) {
         None => Ok(turns(alloc, &mut pool, at, None, times)),
         Some(number) => {
             let key = key_of(alloc, number, 5)?;
@@ -148,7 +148,7 @@ fn run<R: Env + Print + AllocGlobal>(rt: &R) -> Result<()> {
     let (Some(name), Some(idle), Some(times)) = (words.next(), words.next(), words.next()) else {
         bail!("usage: bench_pool any|first|last|other SESSIONS TIMES");
     };
-    let want = named(name.as_str()).context("no such want")?;
+    let want = want_named(name.as_str()).context("no such want")?;
     let idle = idle.as_str().parse::<u32>()?;
     let times = times.as_str().parse::<u32>()?;
     let Ok(reused) = reuses(rt.alloc(), want, idle, times) else {

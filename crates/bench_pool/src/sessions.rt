@@ -106,7 +106,7 @@ fn table_of(alloc: Global, session: &Still) -> Result<SetTable, Memory>
 }
 
 /// A session with sets of the number's query.
-pub fn holding(alloc: Global, number: u32) -> Result<Pooled<Quiet, Still>, Memory>
+pub fn session_holding(alloc: Global, number: u32) -> Result<Pooled<Quiet, Still>, Memory>
     ensures { IfOk result (λ pooled. pooled.address ≡ Test 0) }
 {
     let query = query_for(alloc, number)?;

@@ -88,7 +88,7 @@ pub(crate) fn within(alloc: Global, open: bool, inner: &Text) -> Result<Text, Me
 }
 
 /// These elements in `levels` others, one within another.
-fn nested(alloc: Global, levels: u32, open: bool, inner: Text) -> Result<Text, Memory> {
+fn nest(alloc: Global, levels: u32, open: bool, inner: Text) -> Result<Text, Memory> {
     let mut out = inner;
     for _ in 0..levels {
         out = within(alloc, open, &out)?;
@@ -108,10 +108,10 @@ fn flat(alloc: Global, size: usize) -> Result<Text, Memory> {
 pub(crate) fn sample(alloc: Global, shape: Shape, size: usize) -> Result<Text, Memory> {
     match shape {
         Shape::Flat | Shape::Pieces => flat(alloc, size),
-        Shape::Small => nested(alloc, 1, false, small(alloc, size)?),
-        Shape::Deep => nested(alloc, 63, false, small(alloc, size)?),
-        Shape::Open => nested(alloc, 63, true, small(alloc, size)?),
-        Shape::OpenPieces => nested(alloc, 1, true, small(alloc, size)?),
+        Shape::Small => nest(alloc, 1, false, small(alloc, size)?),
+        Shape::Deep => nest(alloc, 63, false, small(alloc, size)?),
+        Shape::Open => nest(alloc, 63, true, small(alloc, size)?),
+        Shape::OpenPieces => nest(alloc, 1, true, small(alloc, size)?),
     }
 }
 

@@ -37,7 +37,7 @@ fn chain(alloc: Global, levels: u32, open: bool) -> Result<Text, Memory> {
 }
 
 /// Octets again and again, about `size` in all.
-fn repeated(alloc: Global, octets: &Text, size: usize) -> Result<Text, Memory> {
+fn repeat(alloc: Global, octets: &Text, size: usize) -> Result<Text, Memory> {
     let mut out = Text::new(alloc);
     for _ in 0..size / octets.as_slice().len().max(1) {
         out.append(octets.as_slice())?;
@@ -52,9 +52,9 @@ fn sample(alloc: Global, shape: Shape, size: usize) -> Result<Text, Memory> {
         Shape::Small => ber::sample(alloc, ber::Shape::Small, size),
         Shape::Deep => ber::sample(alloc, ber::Shape::Deep, size),
         Shape::Open => ber::sample(alloc, ber::Shape::Open, size),
-        Shape::Empty => repeated(alloc, &chain(alloc, 1, false)?, size),
-        Shape::Chains => repeated(alloc, &chain(alloc, 60, false)?, size),
-        Shape::OpenChains => repeated(alloc, &chain(alloc, 60, true)?, size),
+        Shape::Empty => repeat(alloc, &chain(alloc, 1, false)?, size),
+        Shape::Chains => repeat(alloc, &chain(alloc, 60, false)?, size),
+        Shape::OpenChains => repeat(alloc, &chain(alloc, 60, true)?, size),
     }
 }
 

@@ -67,7 +67,7 @@ fn stream_named(word: &str) -> Option<frames::Shape> {
 }
 
 /// What a word names.
-fn named(word: &str) -> Option<Sample> {
+fn sample_named(word: &str) -> Option<Sample> {
     if let Some(unit) = word.strip_prefix("read-") {
         return Some(Sample::Unit(unit_named(unit)?, units::Pass::Read));
     }
@@ -144,7 +144,7 @@ fn run<R: Env + Print + AllocGlobal>(rt: &R) -> Result<()> {
     let (Some(name), Some(size), Some(times)) = (words.next(), words.next(), words.next()) else {
         bail!("usage: bench_readers SAMPLE OCTETS TIMES");
     };
-    let sample = named(name.as_str()).context("no such sample")?;
+    let sample = sample_named(name.as_str()).context("no such sample")?;
     let size = size.as_str().parse::<usize>()?;
     let times = times.as_str().parse::<u32>()?;
     let Ok((octets, parts)) = read(rt.alloc(), sample, size, times) else {

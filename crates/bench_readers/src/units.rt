@@ -91,7 +91,7 @@ fn round(alloc: Global, open: bool, number: u8, inner: &Text) -> Result<Text, Me
 }
 
 /// Octets again and again, at most `size` in all.
-fn repeated(alloc: Global, octets: &[u8], size: usize) -> Result<Text, Memory> {
+fn repeat(alloc: Global, octets: &[u8], size: usize) -> Result<Text, Memory> {
     let mut out = Text::new(alloc);
     for _ in 0..size / octets.len().max(1) {
         out.append(octets)?;
@@ -101,7 +101,7 @@ fn repeated(alloc: Global, octets: &[u8], size: usize) -> Result<Text, Memory> {
 
 /// An operand with about `size` octets of attributes.
 fn operand(alloc: Global, open: bool, size: usize) -> Result<Text, Memory> {
-    let attributes = repeated(alloc, ATTRIBUTE, size)?;
+    let attributes = repeat(alloc, ATTRIBUTE, size)?;
     let mut fields = round(alloc, open, 44, &attributes)?;
     fields.append(TERM)?;
     let fields = round(alloc, open, 102, &fields)?;
@@ -109,7 +109,7 @@ fn operand(alloc: Global, open: bool, size: usize) -> Result<Text, Memory> {
 }
 
 /// Two structures and the operator or.
-fn joined(alloc: Global, open: bool, left: &[u8], right: &[u8]) -> Result<Text, Memory> {
+fn either(alloc: Global, open: bool, left: &[u8], right: &[u8]) -> Result<Text, Memory> {
     let mut parts = Text::copy_of(alloc, left)?;
     parts.append(right)?;
     parts.append(OR)?;
@@ -117,31 +117,31 @@ fn joined(alloc: Global, open: bool, left: &[u8], right: &[u8]) -> Result<Text, 
 }
 
 /// An operand in `levels` structures, one within another.
-fn nested(alloc: Global, open: bool, levels: u32, size: usize) -> Result<Text, Memory> {
+fn nest(alloc: Global, open: bool, levels: u32, size: usize) -> Result<Text, Memory> {
     let mut structure = operand(alloc, open, size)?;
     for _ in 0..levels {
-        structure = joined(alloc, open, structure.as_slice(), OPERAND)?;
+        structure = either(alloc, open, structure.as_slice(), OPERAND)?;
     }
     Ok(structure)
 }
 
 /// Structures that halve a query of at most `size` octets, and of at least half of them.
-fn halved(alloc: Global, size: usize) -> Result<Text, Memory> {
+fn balanced(alloc: Global, size: usize) -> Result<Text, Memory> {
     let mut structure = Text::copy_of(alloc, OPERAND)?;
     for _ in 0..20 {
         if structure.len() >= size / 2 {
             return Ok(structure);
         }
-        structure = joined(alloc, false, structure.as_slice(), structure.as_slice())?;
+        structure = either(alloc, false, structure.as_slice(), structure.as_slice())?;
     }
     Ok(structure)
 }
 
 /// Three such queries, joined, of about `size` octets.
-fn joined_thirds(alloc: Global, size: usize) -> Result<Text, Memory> {
-    let third = halved(alloc, size / 2)?;
-    let right = joined(alloc, false, third.as_slice(), third.as_slice())?;
-    joined(alloc, false, third.as_slice(), right.as_slice())
+fn three_balanced(alloc: Global, size: usize) -> Result<Text, Memory> {
+    let third = balanced(alloc, size / 2)?;
+    let right = either(alloc, false, third.as_slice(), third.as_slice())?;
+    either(alloc, false, third.as_slice(), right.as_slice())
 }
 
 /// A Search with this structure.
@@ -190,7 +190,7 @@ fn entries(alloc: Global, size: usize) -> Result<List<ScanEntry>, Memory> {
 }
 
 /// An answer to a Scan, with these entries.
-fn scanned(alloc: Global, entries: List<ScanEntry>) -> Reply {
+fn scan_reply(alloc: Global, entries: List<ScanEntry>) -> Reply {
     Reply::Scan {
         ref_id: None,
         status: 0,
@@ -207,12 +207,12 @@ fn reply(alloc: Global, shape: Shape, size: usize) -> Result<Reply, Memory> {
     match shape {
         Shape::Records => writes::sample(alloc, writes::Shape::Records, size),
         Shape::Record => writes::sample(alloc, writes::Shape::Record, size),
-        _ => Ok(scanned(alloc, entries(alloc, size)?)),
+        _ => Ok(scan_reply(alloc, entries(alloc, size)?)),
     }
 }
 
 /// The octets of the reply of a shape.
-fn replied(alloc: Global, shape: Shape, size: usize) -> Result<Text, Memory> {
+fn reply_of(alloc: Global, shape: Shape, size: usize) -> Result<Text, Memory> {
     let reply = reply(alloc, shape, size)?;
     write_reply(alloc, &reply)
 }
@@ -221,15 +221,15 @@ fn replied(alloc: Global, shape: Shape, size: usize) -> Result<Text, Memory> {
 fn structure(alloc: Global, shape: Shape, size: usize) -> Result<Text, Memory> {
     match shape {
         Shape::Attributes => operand(alloc, false, size),
-        Shape::Operands => joined_thirds(alloc, size),
-        Shape::Levels => nested(alloc, false, LEVELS, size),
-        Shape::OpenLevels => nested(alloc, true, LEVELS, size),
+        Shape::Operands => three_balanced(alloc, size),
+        Shape::Levels => nest(alloc, false, LEVELS, size),
+        Shape::OpenLevels => nest(alloc, true, LEVELS, size),
         _ => operand(alloc, false, ATTRIBUTE.len()),
     }
 }
 
 /// The octets of the Search of a shape.
-fn searched(alloc: Global, open: bool, shape: Shape, size: usize) -> Result<Text, Memory> {
+fn search_of(alloc: Global, open: bool, shape: Shape, size: usize) -> Result<Text, Memory> {
     let structure = structure(alloc, shape, size)?;
     search(alloc, open, &structure)
 }
@@ -238,9 +238,9 @@ fn searched(alloc: Global, open: bool, shape: Shape, size: usize) -> Result<Text
 fn sample(alloc: Global, shape: Shape, size: usize) -> Result<Text, Memory> {
     match shape {
         Shape::Init => init(alloc),
-        Shape::Records | Shape::Record | Shape::Entries => replied(alloc, shape, size),
-        Shape::OpenLevels => searched(alloc, true, shape, size),
-        _ => searched(alloc, false, shape, size),
+        Shape::Records | Shape::Record | Shape::Entries => reply_of(alloc, shape, size),
+        Shape::OpenLevels => search_of(alloc, true, shape, size),
+        _ => search_of(alloc, false, shape, size),
     }
 }
 

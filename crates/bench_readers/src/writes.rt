@@ -35,7 +35,7 @@ fn records(alloc: Global, count: u32, octets: usize) -> Result<Body, Memory> {
 }
 
 /// The answer to a Present with these records.
-fn presented(body: Body) -> Reply {
+fn present_reply(body: Body) -> Reply {
     Reply::Present {
         ref_id: None,
         returned: 10,
@@ -57,8 +57,8 @@ pub(crate) fn sample(alloc: Global, shape: Shape, size: usize) -> Result<Reply, 
             status: None,
             body: Body::None,
         }),
-        Shape::Records => Ok(presented(records(alloc, 10, size / 10)?)),
-        Shape::Record => Ok(presented(records(alloc, 1, size)?)),
+        Shape::Records => Ok(present_reply(records(alloc, 10, size / 10)?)),
+        Shape::Record => Ok(present_reply(records(alloc, 1, size)?)),
     }
 }
 

@@ -133,7 +133,7 @@ fn a_fault_is_at_the_first_token_that_no_query_has(rt: HostRuntime) -> Result<()
 }
 
 /// A text with `brackets` brackets round a word.
-fn nested(alloc: Global, brackets: usize) -> Result<Vec<u8>, Fail> {
+fn brackets_around(alloc: Global, brackets: usize) -> Result<Vec<u8>, Fail> {
     let mut text = vec![in alloc; b'('; brackets]?;
     text.push(b'a')?;
     let closing = vec![in alloc; b')'; brackets]?;
@@ -142,7 +142,7 @@ fn nested(alloc: Global, brackets: usize) -> Result<Vec<u8>, Fail> {
 }
 
 /// A text of `clauses` clauses.
-fn joined(alloc: Global, clauses: usize) -> Result<Vec<u8>, Fail> {
+fn clauses_of(alloc: Global, clauses: usize) -> Result<Vec<u8>, Fail> {
     let mut text = Vec::new(alloc);
     text.extend_from_slice(b"a")?;
     for _ in 1..clauses {
@@ -154,12 +154,12 @@ fn joined(alloc: Global, clauses: usize) -> Result<Vec<u8>, Fail> {
 #[test]
 fn the_limits_are_48(rt: HostRuntime) -> Result<(), Fail> {
     for (count, wanted) in [(48, None), (49, Some(ParseFault::TooDeep))] {
-        let brackets = nested(rt.alloc(), count)?;
+        let brackets = brackets_around(rt.alloc(), count)?;
         assert_eq!(rt; fault(rt.alloc(), brackets.as_slice())?, wanted);
-        let clauses = joined(rt.alloc(), count)?;
+        let clauses = clauses_of(rt.alloc(), count)?;
         assert_eq!(rt; fault(rt.alloc(), clauses.as_slice())?, wanted);
     }
-    let mut open = nested(rt.alloc(), 60)?;
+    let mut open = brackets_around(rt.alloc(), 60)?;
     open.push(b')')?;
     assert_eq!(rt;
         fault(rt.alloc(), open.as_slice())?,
@@ -183,7 +183,7 @@ fn a_long_query_is_read(rt: HostRuntime) -> Result<(), Fail> {
     text.extend_from_slice(b" = \"a b c\"")?;
     assert_eq!(rt; text.len(), 1_048_576);
     assert_eq!(rt; fault(rt.alloc(), text.as_slice())?, None);
-    let deep = joined(rt.alloc(), 3_200)?;
+    let deep = clauses_of(rt.alloc(), 3_200)?;
     assert_eq!(rt;
         fault(rt.alloc(), deep.as_slice())?,
         Some(ParseFault::TooDeep)

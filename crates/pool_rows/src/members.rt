@@ -1,6 +1,6 @@
 //! The member of fewest sessions, and the address of a session that is out.
 
-use crate::sessions::{holding, key_for};
+use crate::sessions::{key_for, session_holding};
 use crate::targets::Steady;
 use gw_memory::{FakeBackend, FakeSession};
 use load_balance::least;
@@ -39,7 +39,7 @@ fn a_spot_has_the_address_that_it_was_given_last(rt: HostRuntime) -> Result<(), 
 fn pooled_at(alloc: Global, now: u64) -> Result<Pooled<Steady, FakeSession>, Memory> {
     let mut backend = FakeBackend::new(Steady, List::new(alloc));
     let key = key_for(alloc, 3)?;
-    holding(alloc, &mut backend, &Address::Test(0), &key, now)
+    session_holding(alloc, &mut backend, &Address::Test(0), &key, now)
 }
 
 #[test]

@@ -80,7 +80,7 @@ fn search<W: World, B: Backend<W>>(
 
 /// A session at an address that searched for the key, with a table that holds its set, used at a
 /// moment.
-pub(crate) fn holding<W: World, B: Backend<W>>(
+pub(crate) fn session_holding<W: World, B: Backend<W>>(
     alloc: Global,
     backend: &mut B,
     address: &Address,

@@ -4,7 +4,7 @@ ghost use Rattle.std.specs.Prelude.{◌≡◌, ℕ, Some, true, false};
 ghost use Rattle.z_types.specs.declared.key.SetKey.{SetKey};
 ghost use Rattle.pool_sets.specs.Doors.{is_booked, one_more};
 
-use crate::sessions::{holding, key_for};
+use crate::sessions::{key_for, session_holding};
 use crate::targets::Steady;
 use gw_memory::{FakeBackend, FakeSession};
 use pool_core::Pool;
@@ -118,7 +118,7 @@ pub(crate) fn put_back(
 ) -> Result<(), Memory> {
     let key = key_for(alloc, 3)?;
     let address = Address::Test(0);
-    let parts = holding(alloc, &mut trial.backend, &address, &key, used)?.apart();
+    let parts = session_holding(alloc, &mut trial.backend, &address, &key, used)?.apart();
     trial.pool.put(Seat { class: 0, number }, parts, now);
     Ok(())
 }

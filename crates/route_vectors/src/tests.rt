@@ -390,15 +390,15 @@ const REALISTIC: &[u8] = b"[[target]]\nname = \"alpha\"\naddress = \"test:0\"\n\
 [limit]\n";
 
 /// What is told of a configuration.
-fn told(alloc: Global, text: &[u8]) -> Result<Text, Memory> {
+fn words_of(alloc: Global, text: &[u8]) -> Result<Text, Memory> {
     match read_route(alloc, text) {
         Ok(_) => Text::copy_of(alloc, b"ok"),
-        Err(fault) => refused(alloc, &fault),
+        Err(fault) => refusal_words(alloc, &fault),
     }
 }
 
 /// What is told of a refusal.
-fn refused(alloc: Global, fault: &RouteFault) -> Result<Text, Memory> {
+fn refusal_words(alloc: Global, fault: &RouteFault) -> Result<Text, Memory> {
     let number = fault.number();
     let digits = format!(in alloc; "{number} ")?;
     let mut text = Text::copy_of(alloc, digits.as_bytes())?;
@@ -407,32 +407,32 @@ fn refused(alloc: Global, fault: &RouteFault) -> Result<Text, Memory> {
 }
 
 /// Whether this is told of the smallest configuration with more behind it.
-fn added_is(alloc: Global, more: &[u8], wanted: &[u8]) -> Result<bool, Memory> {
+fn are_words_behind(alloc: Global, more: &[u8], wanted: &[u8]) -> Result<bool, Memory> {
     let mut text = Text::copy_of(alloc, SMALLEST_TEXT)?;
     text.append(more)?;
-    Ok(told(alloc, text.as_slice())?.as_slice() == wanted)
+    Ok(words_of(alloc, text.as_slice())?.as_slice() == wanted)
 }
 
 /// Whether this is told of a configuration.
-fn whole_is(alloc: Global, text: &[u8], wanted: &[u8]) -> Result<bool, Memory> {
-    Ok(told(alloc, text)?.as_slice() == wanted)
+fn are_words_of(alloc: Global, text: &[u8], wanted: &[u8]) -> Result<bool, Memory> {
+    Ok(words_of(alloc, text)?.as_slice() == wanted)
 }
 
 /// Whether a number is taken.
 fn is_taken(alloc: Global, lines: &str, number: i64) -> Result<bool, Memory> {
     let text = format!(in alloc; "{lines}{number}\n")?;
-    added_is(alloc, text.as_bytes(), b"ok")
+    are_words_behind(alloc, text.as_bytes(), b"ok")
 }
 
 /// Whether a number is told to be out of its range.
 fn is_out(alloc: Global, lines: &str, path: &str, number: i64) -> Result<bool, Memory> {
     let text = format!(in alloc; "{lines}{number}\n")?;
     let wanted = format!(in alloc; "4 {path} {number}")?;
-    added_is(alloc, text.as_bytes(), wanted.as_bytes())
+    are_words_behind(alloc, text.as_bytes(), wanted.as_bytes())
 }
 
 /// The smallest configuration behind a byte order mark, and with CR LF at the end of each line.
-fn marked(alloc: Global) -> Result<Text, Memory> {
+fn smallest_with_mark(alloc: Global) -> Result<Text, Memory> {
     let mut text = Text::copy_of(alloc, b"\xef\xbb\xbf")?;
     for octet in SMALLEST_TEXT {
         if *octet == b'\n' {
@@ -448,7 +448,7 @@ fn lines_behind_the_smallest_configuration_are_told(rt: HostRuntime) -> Result<(
     let alloc = rt.alloc();
     for (more, wanted) in ADDED {
         assert!(rt;
-            added_is(alloc, more.as_bytes(), wanted.as_bytes())?,
+            are_words_behind(alloc, more.as_bytes(), wanted.as_bytes())?,
             "{more}"
         );
     }
@@ -460,13 +460,13 @@ fn whole_configurations_are_told(rt: HostRuntime) -> Result<(), Fail> {
     let alloc = rt.alloc();
     for (text, wanted) in WHOLE {
         assert!(rt;
-            whole_is(alloc, text.as_bytes(), wanted.as_bytes())?,
+            are_words_of(alloc, text.as_bytes(), wanted.as_bytes())?,
             "{text}"
         );
     }
-    assert!(rt; whole_is(alloc, b"\xff", b"1 toml")?, "no UTF-8");
+    assert!(rt; are_words_of(alloc, b"\xff", b"1 toml")?, "no UTF-8");
     assert!(rt;
-        whole_is(alloc, marked(alloc)?.as_slice(), b"ok")?,
+        are_words_of(alloc, smallest_with_mark(alloc)?.as_slice(), b"ok")?,
         "a mark and CR LF"
     );
     Ok(())
@@ -495,7 +495,7 @@ fn what_toml_spells_in_other_ways_is_told(rt: HostRuntime) -> Result<(), Fail> {
     let alloc = rt.alloc();
     for (more, wanted) in SPELT {
         assert!(rt;
-            added_is(alloc, more.as_bytes(), wanted.as_bytes())?,
+            are_words_behind(alloc, more.as_bytes(), wanted.as_bytes())?,
             "{more}"
         );
     }
@@ -513,7 +513,7 @@ fn items(alloc: Global, item: &str, count: u32) -> Result<String, Memory> {
 }
 
 /// What is told of the smallest configuration with an array of `count` items more behind it.
-fn told_of_items(
+fn words_of_items(
     alloc: Global,
     (before, item, behind): (&str, &str, &str),
     count: u32,
@@ -521,7 +521,7 @@ fn told_of_items(
 ) -> Result<bool, Memory> {
     let items = items(alloc, item, count)?;
     let more = format!(in alloc; "{before}{items}{behind}")?;
-    added_is(alloc, more.as_bytes(), wanted.as_bytes())
+    are_words_behind(alloc, more.as_bytes(), wanted.as_bytes())
 }
 
 #[test]
@@ -533,11 +533,11 @@ fn arrays_are_taken_up_to_their_most_items(rt: HostRuntime) -> Result<(), Fail> 
         let over = most.saturating_add(1);
         let wanted = format!(in alloc; "7 {path} {over}")?;
         assert!(rt;
-            told_of_items(alloc, lines, room, "ok")?,
+            words_of_items(alloc, lines, room, "ok")?,
             "the most of {path}"
         );
         assert!(rt;
-            told_of_items(alloc, lines, room.saturating_add(1), wanted.as_str())?,
+            words_of_items(alloc, lines, room.saturating_add(1), wanted.as_str())?,
             "one more of {path}"
         );
     }
@@ -546,7 +546,7 @@ fn arrays_are_taken_up_to_their_most_items(rt: HostRuntime) -> Result<(), Fail> 
 
 /// What is told of the smallest configuration with a text of `count` octets behind it: `ok`, or
 /// that the text is out of its range.
-fn told_of_text(
+fn words_of_text(
     alloc: Global,
     (before, first, last, behind): (&str, &str, &str, &str),
     count: u32,
@@ -557,9 +557,9 @@ fn told_of_text(
     match path {
         Some(path) => {
             let wanted = format!(in alloc; "4 {path} {first}{octets}{last}")?;
-            added_is(alloc, more.as_bytes(), wanted.as_bytes())
+            are_words_behind(alloc, more.as_bytes(), wanted.as_bytes())
         }
-        None => added_is(alloc, more.as_bytes(), b"ok"),
+        None => are_words_behind(alloc, more.as_bytes(), b"ok"),
     }
 }
 
@@ -568,17 +568,20 @@ fn texts_are_taken_up_to_their_most_octets(rt: HostRuntime) -> Result<(), Fail> 
     let alloc = rt.alloc();
     for (before, first, last, behind, path, most) in TEXTS {
         let lines = (before, first, last, behind);
-        assert!(rt; told_of_text(alloc, lines, 1, None)?, "one octet of {path}");
         assert!(rt;
-            told_of_text(alloc, lines, most, None)?,
+            words_of_text(alloc, lines, 1, None)?,
+            "one octet of {path}"
+        );
+        assert!(rt;
+            words_of_text(alloc, lines, most, None)?,
             "the most of {path}"
         );
         assert!(rt;
-            told_of_text(alloc, lines, 0, Some(path))?,
+            words_of_text(alloc, lines, 0, Some(path))?,
             "none of {path}"
         );
         assert!(rt;
-            told_of_text(alloc, lines, most.saturating_add(1), Some(path))?,
+            words_of_text(alloc, lines, most.saturating_add(1), Some(path))?,
             "one more of {path}"
         );
     }

@@ -52,7 +52,7 @@ fn answer(
 }
 
 /// A refusal, told also with records that there might be.
-fn refused(alloc: Global, diag: SruDiag) -> Result<SruAnswer, Memory> {
+fn refusal_of(alloc: Global, diag: SruDiag) -> Result<SruAnswer, Memory> {
     let mut answer = answer(alloc, false, 1, List::new(alloc))?;
     answer.refused = Some(diag);
     Ok(answer)
@@ -82,9 +82,9 @@ fn no_records_and_no_next_position_where_none_is_asked_for(rt: HostRuntime) -> R
 #[test]
 fn a_refusal_has_no_records_and_its_diagnostic(rt: HostRuntime) -> Result<(), Fail> {
     let alloc = rt.alloc();
-    let missing = refused(alloc, diag(alloc, 7, b"version")?)?;
+    let missing = refusal_of(alloc, diag(alloc, 7, b"version")?)?;
     assert!(rt; tells(alloc, &missing, NO_VERSION)?);
-    let past = refused(alloc, diag(alloc, 61, b"5")?)?;
+    let past = refusal_of(alloc, diag(alloc, 61, b"5")?)?;
     assert!(rt; tells(alloc, &past, PAST_THE_END)?);
     Ok(())
 }
@@ -92,7 +92,7 @@ fn a_refusal_has_no_records_and_its_diagnostic(rt: HostRuntime) -> Result<(), Fa
 #[test]
 fn details_that_are_empty_are_left_out(rt: HostRuntime) -> Result<(), Fail> {
     let alloc = rt.alloc();
-    let mut sorted = refused(alloc, diag(alloc, 80, b"")?)?;
+    let mut sorted = refusal_of(alloc, diag(alloc, 80, b"")?)?;
     sorted.version = Text::copy_of(alloc, b"1.1")?;
     assert!(rt; tells(alloc, &sorted, NO_DETAILS)?);
     Ok(())

@@ -144,7 +144,7 @@ fn schemas(alloc: Global) -> Result<List<Schema>, Memory> {
 }
 
 /// What is answered to a query behind others.
-fn asked(alloc: Global, front: &[u8], behind: &[u8]) -> Result<SruQuery, QueryFault> {
+fn answer_behind(alloc: Global, front: &[u8], behind: &[u8]) -> Result<SruQuery, QueryFault> {
     let mut query = Text::copy_of(alloc, front)?;
     query.append(behind)?;
     let path = Text::new(alloc);
@@ -161,7 +161,7 @@ fn is_refused(
     number: u32,
     details: &[u8],
 ) -> bool {
-    match asked(alloc, front, behind) {
+    match answer_behind(alloc, front, behind) {
         Err(QueryFault::Diag(diag)) => {
             diag.number == number
                 && diag.version.as_slice() == version
@@ -225,7 +225,7 @@ fn the_first_check_that_fails_is_told(rt: HostRuntime) -> Result<(), Fail> {
 
 /// Whether a query behind others is taken so.
 fn is_taken(alloc: Global, behind: &[u8], start: u32, maximum: u32, schema: u32) -> bool {
-    match asked(alloc, WHOLE, behind) {
+    match answer_behind(alloc, WHOLE, behind) {
         Ok(query) => {
             query.query.as_slice() == b"dc.title=a b".as_slice()
                 && query.start == start
@@ -271,7 +271,7 @@ fn what_parameters_choose(rt: HostRuntime) -> Result<(), Fail> {
 
 /// Whether the query that a parameter encodes is this.
 fn is_decoded(alloc: Global, encoded: &[u8], decoded: &[u8]) -> bool {
-    match asked(alloc, FORM, encoded) {
+    match answer_behind(alloc, FORM, encoded) {
         Ok(query) => query.query.as_slice() == decoded,
         _ => false,
     }
@@ -294,7 +294,7 @@ fn a_value_is_decoded_where_its_escapes_are_whole(rt: HostRuntime) -> Result<(),
 
 /// Whether records are asked for as text.
 fn is_escaped(alloc: Global, behind: &[u8]) -> bool {
-    match asked(alloc, WHOLE, behind) {
+    match answer_behind(alloc, WHOLE, behind) {
         Ok(query) => query.escaped,
         _ => false,
     }

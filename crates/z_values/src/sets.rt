@@ -45,7 +45,7 @@ fn query(alloc: Global, root: Rpn) -> Result<RpnQuery, Memory> {
 }
 
 /// A set over the legs 0 and 1.
-fn known(alloc: Global, name: &[u8], query: RpnQuery) -> Result<KnownSet, Memory> {
+fn set_of(alloc: Global, name: &[u8], query: RpnQuery) -> Result<KnownSet, Memory> {
     Ok(KnownSet {
         name: Text::copy_of(alloc, name)?,
         legs: legs(alloc, &[0, 1])?,
@@ -99,25 +99,25 @@ fn sets(alloc: Global) -> Result<List<KnownSet>, Memory> {
     put_set(
         alloc,
         &mut sets,
-        known(alloc, b"n", query(alloc, full(alloc, 11)?)?)?,
+        set_of(alloc, b"n", query(alloc, full(alloc, 11)?)?)?,
     )?;
     put_set(
         alloc,
         &mut sets,
-        known(alloc, b"l", query(alloc, comb(alloc, 47)?)?)?,
+        set_of(alloc, b"l", query(alloc, comb(alloc, 47)?)?)?,
     )?;
     let long = List::new(alloc);
     let term = Term::Words(Text::from_vec(vec![in alloc; 0; 899935]?));
     put_set(
         alloc,
         &mut sets,
-        known(alloc, b"c", query(alloc, Rpn::leaf(long, term))?)?,
+        set_of(alloc, b"c", query(alloc, Rpn::leaf(long, term))?)?,
     )?;
     let other = RpnQuery {
         attr_set: Oid::copy_of(alloc, OTHER)?,
         root: leaf(alloc, None)?,
     };
-    put_set(alloc, &mut sets, known(alloc, b"o", other)?)?;
+    put_set(alloc, &mut sets, set_of(alloc, b"o", other)?)?;
     Ok(sets)
 }
 
@@ -125,7 +125,7 @@ fn sets(alloc: Global) -> Result<List<KnownSet>, Memory> {
 fn keep(alloc: Global, sets: &mut List<KnownSet>, name: &[u8], root: Rpn) -> Result<bool, Memory> {
     match ask(alloc, root, sets) {
         Ok(query) => {
-            put_set(alloc, sets, known(alloc, name, query)?)?;
+            put_set(alloc, sets, set_of(alloc, name, query)?)?;
             Ok(true)
         }
         Err(_) => Ok(false),
@@ -181,7 +181,7 @@ fn pair(alloc: Global, left: &[u8], right: &[u8]) -> Result<Rpn, Memory> {
 fn the_first_operand_that_fails_is_told(rt: HostRuntime) -> Result<(), Fail> {
     let alloc = rt.alloc();
     let mut sets = sets(alloc)?;
-    let mut elsewhere = known(alloc, b"e", query(alloc, bare(alloc, b"a")?)?)?;
+    let mut elsewhere = set_of(alloc, b"e", query(alloc, bare(alloc, b"a")?)?)?;
     elsewhere.legs = legs(alloc, &[1, 0])?;
     put_set(alloc, &mut sets, elsewhere)?;
     let rows: [(&[u8], &[u8], u32); 5] = [

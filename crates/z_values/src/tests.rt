@@ -58,7 +58,7 @@ fn close(reason: u32) -> Close {
 }
 
 /// A PresentResponse of a presentStatus.
-fn presented(status: u32) -> Reply {
+fn present_reply(status: u32) -> Reply {
     Reply::Present {
         ref_id: None,
         returned: 1,
@@ -137,7 +137,7 @@ fn requests_and_replies_equal_their_copies_alone(rt: HostRuntime) -> Result<(), 
     assert!(rt; differ(one, other)?, "requests of a session");
     let (one, other) = (Request::Close(close(0)), Request::Close(close(6)));
     assert!(rt; differ(one, other)?, "closes");
-    assert!(rt; differ(presented(0), presented(5))?, "replies");
+    assert!(rt; differ(present_reply(0), present_reply(5))?, "replies");
     Ok(())
 }
 

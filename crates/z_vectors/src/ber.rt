@@ -414,7 +414,7 @@ fn a_unit_has_1048576_octets_at_most(rt: HostRuntime) -> Result<(), Fail> {
 }
 
 /// A sequence of definite length that holds these elements.
-fn holding(alloc: Global, elements: &Text) -> Result<Text, Memory> {
+fn sequence_of(alloc: Global, elements: &Text) -> Result<Text, Memory> {
     let mut out = Text::new(alloc);
     put_tree(
         &mut out,
@@ -439,10 +439,10 @@ fn what_stands_on_level_65_is_no_element(rt: HostRuntime) {
 fn what_stands_on_level_65_of_definite_lengths_is_no_element(rt: HostRuntime) -> Result<(), Fail> {
     let mut octets = Text::new(rt.alloc());
     for _ in 0..64 {
-        octets = holding(rt.alloc(), &octets)?;
+        octets = sequence_of(rt.alloc(), &octets)?;
     }
     assert!(rt; Element::of_unit(octets.as_slice()).is_ok());
-    let deeper = holding(rt.alloc(), &octets)?;
+    let deeper = sequence_of(rt.alloc(), &octets)?;
     let place = deeper.as_slice().len().saturating_sub(2);
     assert!(rt; matches!(Element::of_unit(deeper.as_slice()), Err(at) if at == place));
     Ok(())

@@ -328,7 +328,7 @@ fn entries(
 }
 
 /// The answer to a Search, which returns no records.
-fn found(
+fn search_reply(
     alloc: Global,
     ref_id: Option<&'static str>,
     count: u32,
@@ -356,7 +356,7 @@ impl ReplyFields {
                 result: true,
             }),
             ReplyFields::Search(ref_id, count, next, ok, body) => {
-                found(alloc, ref_id, count, next, ok, body.body(alloc)?)
+                search_reply(alloc, ref_id, count, next, ok, body.body(alloc)?)
             }
             ReplyFields::Present(returned, next, status, body) => Ok(Reply::Present {
                 ref_id: None,
