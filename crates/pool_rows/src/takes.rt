@@ -1,96 +1,138 @@
 //! What a pool gives, in sessions of few calls.
 
-use crate::trials::{Given, borrow_for, lose, put_back, redial, take_any, take_for, trial_of};
-use pool_core::Pool;
-use route_config::PoolNumbers;
+use crate::trials::Given::{Dialled, Full, Idle, Nothing, Reused};
+use crate::trials::Turn::{self, Borrow, Lose, Put, Redial, TakeAny, TakeFor};
+use crate::trials::{Given, first_other_behind, first_other_of, lends_a_thousand};
 use std::test::Fail;
 
-#[test]
-fn members_are_dialled_in_turn_until_the_class_is_full(rt: HostRuntime) -> Result<(), Fail> {
-    let alloc = rt.alloc();
-    let mut trial = trial_of(alloc, 2, 1)?;
-    for wanted in [
-        Given::Dialled(1, 0),
-        Given::Dialled(2, 1),
-        Given::Full(2),
-        Given::Full(2),
-    ] {
-        assert_eq!(rt; take_any(alloc, &mut trial, 0), wanted);
-    }
-    put_back(alloc, &mut trial, 2, 0, 0)?;
-    assert_eq!(rt; take_any(alloc, &mut trial, 0), Given::Idle(2));
-    Ok(())
-}
+/// The most sessions of a class and the test target of its second member, and what happens.
+const ROWS: [((u32, u32), &[Turn]); 6] = [
+    // members are dialled in turn until the class is full
+    (
+        (2, 1),
+        &[
+            TakeAny(0, Dialled(1, 0)),
+            TakeAny(0, Dialled(2, 1)),
+            TakeAny(0, Full(2)),
+            TakeAny(0, Full(2)),
+            Put(2, 0, 0),
+            TakeAny(0, Idle(2)),
+        ],
+    ),
+    // a seat is spent once, and another changes nothing
+    (
+        (1, 1),
+        &[
+            TakeAny(0, Dialled(1, 0)),
+            Lose(1, 1),
+            TakeAny(0, Full(1)),
+            Lose(0, 2),
+            TakeAny(0, Full(1)),
+            Put(1, 0, 0),
+            Lose(0, 1),
+            TakeAny(0, Idle(1)),
+            Lose(0, 1),
+            TakeAny(0, Dialled(2, 0)),
+        ],
+    ),
+    // a session is dialled again for the member of fewest others
+    (
+        (3, 1),
+        &[
+            TakeAny(0, Dialled(1, 0)),
+            TakeAny(0, Dialled(2, 1)),
+            TakeAny(0, Dialled(3, 0)),
+            Redial(2, 1),
+            Redial(1, 0),
+            Redial(3, 0),
+            Redial(4, 0),
+            Lose(0, 2),
+            Redial(1, 1),
+            Redial(3, 0),
+            Redial(1, 1),
+        ],
+    ),
+    // a set is reused until its time to live after its last use, and a moment below the greatest is no
+    // use at an earlier time
+    (
+        (1, 1),
+        &[
+            TakeAny(0, Dialled(1, 0)),
+            Put(1, 0, 0),
+            Borrow(59, Reused(1)),
+            Borrow(118, Reused(1)),
+            Borrow(90, Reused(1)),
+            Borrow(177, Reused(1)),
+            Borrow(237, Idle(1)),
+        ],
+    ),
+    // a class of one session is full while it is out, and that one is not counted where it is dialled
+    // again
+    (
+        (1, 1),
+        &[
+            TakeAny(0, Dialled(1, 0)),
+            TakeFor(1000, Full(1)),
+            Redial(1, 0),
+            TakeAny(1000, Full(1)),
+        ],
+    ),
+    // two members of one address count by their places, and a tie goes to the first
+    (
+        (4, 0),
+        &[
+            TakeAny(0, Dialled(1, 0)),
+            TakeAny(0, Dialled(2, 1)),
+            TakeAny(0, Dialled(3, 0)),
+            TakeAny(0, Dialled(4, 1)),
+            Lose(0, 2),
+            Redial(3, 0),
+            TakeAny(0, Dialled(5, 1)),
+        ],
+    ),
+];
 
 #[test]
-fn a_seat_is_spent_once_and_another_changes_nothing(rt: HostRuntime) -> Result<(), Fail> {
-    let alloc = rt.alloc();
-    let mut trial = trial_of(alloc, 1, 1)?;
-    take_any(alloc, &mut trial, 0);
-    for (class, number) in [(1, 1), (0, 2)] {
-        lose(&mut trial, class, number);
+fn each_turn_goes_as_it_was_worked_out(rt: HostRuntime) -> Result<(), Fail> {
+    for (class, turns) in ROWS {
         assert_eq!(rt;
-            take_any(alloc, &mut trial, 0),
-            Given::Full(1),
-            "{class} {number}"
+            first_other_of(rt.alloc(), class, turns)?,
+            None,
+            "{class:?}"
         );
     }
-    put_back(alloc, &mut trial, 1, 0, 0)?;
-    lose(&mut trial, 0, 1);
-    assert_eq!(rt;
-        take_any(alloc, &mut trial, 0),
-        Given::Idle(1),
-        "it was put back"
-    );
-    lose(&mut trial, 0, 1);
-    assert_eq!(rt; take_any(alloc, &mut trial, 0), Given::Dialled(2, 0));
     Ok(())
 }
 
-#[test]
-fn a_session_is_dialled_again_for_the_member_of_fewest_others(rt: HostRuntime) -> Result<(), Fail> {
-    let alloc = rt.alloc();
-    let mut trial = trial_of(alloc, 3, 1)?;
-    for _ in 0..3 {
-        take_any(alloc, &mut trial, 0);
-    }
-    for (number, member) in [(2, 1), (1, 0), (3, 0), (4, 0)] {
-        assert_eq!(rt; redial(&mut trial, number), member, "of {number}");
-    }
-    lose(&mut trial, 0, 2);
-    for (number, member) in [(1, 1), (3, 0), (1, 1)] {
-        assert_eq!(rt; redial(&mut trial, number), member, "of {number}");
-    }
-    Ok(())
-}
+/// A set's last use, the moment of the put, that of the take, and what is given.
+const TIMES: [(u64, u64, u64, Given); 13] = [
+    (0, 0, 59, Reused(1)),
+    (0, 0, 60, Idle(1)),
+    (59, 59, 118, Reused(1)),
+    (59, 59, 119, Idle(1)),
+    (0, 0, 299, Idle(1)),
+    (0, 0, 300, Dialled(2, 0)),
+    (0, 300, 599, Idle(1)),
+    (0, 300, 600, Dialled(2, 0)),
+    // clocks that went back
+    (0, 1000, 0, Reused(1)),
+    (1000, 1000, 0, Reused(1)),
+    (1000, 0, 0, Reused(1)),
+    (1000, 0, 299, Reused(1)),
+    (1000, 0, 300, Dialled(2, 0)),
+];
 
 #[test]
 fn sets_and_sessions_are_given_until_their_times_to_live(rt: HostRuntime) -> Result<(), Fail> {
-    let alloc = rt.alloc();
-    let rows = [
-        // the set's last use, the moment of the put, that of the take
-        (0, 0, 59, Given::Reused(1)),
-        (0, 0, 60, Given::Idle(1)),
-        (59, 59, 118, Given::Reused(1)),
-        (59, 59, 119, Given::Idle(1)),
-        (0, 0, 299, Given::Idle(1)),
-        (0, 0, 300, Given::Dialled(2, 0)),
-        (0, 300, 599, Given::Idle(1)),
-        (0, 300, 600, Given::Dialled(2, 0)),
-        // clocks that went back
-        (0, 1000, 0, Given::Reused(1)),
-        (1000, 1000, 0, Given::Reused(1)),
-        (1000, 0, 0, Given::Reused(1)),
-        (1000, 0, 299, Given::Reused(1)),
-        (1000, 0, 300, Given::Dialled(2, 0)),
-    ];
-    for (used, since, now, wanted) in rows {
-        let mut trial = trial_of(alloc, 1, 0)?;
-        take_any(alloc, &mut trial, 0);
-        put_back(alloc, &mut trial, 1, used, since)?;
+    for (used, since, now, given) in TIMES {
+        let turns = [
+            TakeAny(0, Dialled(1, 0)),
+            Put(1, used, since),
+            TakeFor(now, given),
+        ];
         assert_eq!(rt;
-            take_for(alloc, &mut trial, now),
-            wanted,
+            first_other_of(rt.alloc(), (1, 0), &turns)?,
+            None,
             "{used} {since} {now}"
         );
     }
@@ -98,86 +140,14 @@ fn sets_and_sessions_are_given_until_their_times_to_live(rt: HostRuntime) -> Res
 }
 
 #[test]
-fn a_set_is_reused_until_its_time_to_live_after_its_last_use(rt: HostRuntime) -> Result<(), Fail> {
-    let alloc = rt.alloc();
-    let mut trial = trial_of(alloc, 1, 1)?;
-    take_any(alloc, &mut trial, 0);
-    put_back(alloc, &mut trial, 1, 0, 0)?;
-    for (now, wanted) in [
-        (59, Given::Reused(1)),
-        (118, Given::Reused(1)),
-        // a moment below the greatest is no use at an earlier time
-        (90, Given::Reused(1)),
-        (177, Given::Reused(1)),
-        (237, Given::Idle(1)),
-    ] {
-        assert_eq!(rt; borrow_for(alloc, &mut trial, now), wanted, "at {now}");
-    }
-    Ok(())
-}
-
-#[test]
-fn a_class_of_one_session_is_full_while_it_is_out(rt: HostRuntime) -> Result<(), Fail> {
-    let alloc = rt.alloc();
-    let mut trial = trial_of(alloc, 1, 1)?;
-    assert_eq!(rt; take_any(alloc, &mut trial, 0), Given::Dialled(1, 0));
-    assert_eq!(rt; take_for(alloc, &mut trial, 1000), Given::Full(1));
-    assert_eq!(rt; redial(&mut trial, 1), 0, "it counts no longer");
-    assert_eq!(rt; take_any(alloc, &mut trial, 1000), Given::Full(1));
-    Ok(())
-}
-
-#[test]
-fn two_members_of_one_address_count_by_their_places(rt: HostRuntime) -> Result<(), Fail> {
-    let alloc = rt.alloc();
-    let mut trial = trial_of(alloc, 4, 0)?;
-    for (number, member) in [(1, 0), (2, 1), (3, 0), (4, 1)] {
-        assert_eq!(rt;
-            take_any(alloc, &mut trial, 0),
-            Given::Dialled(number, member)
-        );
-    }
-    lose(&mut trial, 0, 2);
-    assert_eq!(rt; redial(&mut trial, 3), 0, "a tie goes to the first");
-    assert_eq!(rt; take_any(alloc, &mut trial, 0), Given::Dialled(5, 1));
-    Ok(())
-}
-
-#[test]
 fn a_thousand_sessions_are_dialled_and_lent_again(rt: HostRuntime) -> Result<(), Fail> {
-    let alloc = rt.alloc();
-    let mut trial = trial_of(alloc, 1000, 1)?;
-    for _ in 0..999 {
-        take_any(alloc, &mut trial, 0);
-    }
-    assert_eq!(rt; take_any(alloc, &mut trial, 0), Given::Dialled(1000, 1));
-    assert_eq!(rt; take_any(alloc, &mut trial, 0), Given::Full(1000));
-    for number in 1..=1000 {
-        put_back(alloc, &mut trial, 1001 - number, 0, 0)?;
-    }
-    assert_eq!(rt;
-        take_for(alloc, &mut trial, 0),
-        Given::Reused(1),
-        "of the least number"
-    );
-    assert_eq!(rt; take_any(alloc, &mut trial, 0), Given::Idle(2));
+    assert!(rt; lends_a_thousand(rt.alloc())?);
     Ok(())
 }
 
 #[test]
 fn after_the_last_number_no_session_is_dialled(rt: HostRuntime) -> Result<(), Fail> {
-    let alloc = rt.alloc();
-    let mut trial = trial_of(alloc, 2, 1)?;
-    let numbers = PoolNumbers {
-        max_sessions: 2,
-        sets_max: 10,
-        session_ttl: 300,
-        set_ttl: 60,
-        repeats: 2,
-        patience: 1000,
-    };
-    trial.pool = Pool::after(alloc, numbers, u64::MAX - 1);
-    assert_eq!(rt; take_any(alloc, &mut trial, 0), Given::Dialled(u64::MAX, 0));
-    assert_eq!(rt; take_any(alloc, &mut trial, 0), Given::Nothing);
+    let turns = [TakeAny(0, Dialled(u64::MAX, 0)), TakeAny(0, Nothing)];
+    assert_eq!(rt; first_other_behind(rt.alloc(), u64::MAX - 1, &turns)?, None);
     Ok(())
 }
