@@ -1,5 +1,6 @@
 //! What the caller of a backend counts of its answers. The counts of the backend itself are for proofs alone.
 
+use crate::words::put_numbers;
 use gw_outside::Heard;
 use std::alloc::Global;
 use z_types::{Ask, Memory, Text};
@@ -55,16 +56,13 @@ impl Counts {
 
     /// Puts the counts behind a line.
     pub(crate) fn put(&self, alloc: Global, line: &mut Text) -> Result<(), Memory> {
-        let Counts {
-            dials,
-            searches,
-            gones,
-            faults,
-            waits,
-        } = self;
-        let words = format!(in alloc;
-            "dials {dials} searches {searches} gones {gones} faults {faults} waits {waits}; "
-        )?;
-        line.append(words.as_bytes())
+        let counts = [
+            ("dials ", self.dials),
+            (" searches ", self.searches),
+            (" gones ", self.gones),
+            (" faults ", self.faults),
+            (" waits ", self.waits),
+        ];
+        put_numbers(alloc, line, &counts)
     }
 }

@@ -5,9 +5,10 @@ use crate::played::PlayedWire;
 use crate::plays::Step::{self, Cut, Look, Open, Present, Scan, Search};
 use crate::replies::{INIT, PRESENT, SCAN, SEARCH, octets};
 use crate::stories::has_words;
+use crate::words::put_numbers;
 use std::alloc::Global;
 use std::test::Fail;
-use z_types::{List, Memory};
+use z_types::{Memory, Text};
 
 /// Steps, and what is told of them.
 const CUTS: [(&[Step], &[u8]); 9] = [
@@ -71,50 +72,52 @@ fn a_call_over_a_link_that_is_cut_fails_and_is_counted(rt: HostRuntime) -> Resul
     Ok(())
 }
 
-/// Replies that arrive whole, the one within which the link is cut, the steps up to the look for it, and
-/// what is told but for the looks that heard no reply.
-type Half<'a> = (&'a [&'a str], &'a str, &'a [Step], &'a str);
+/// Replies that arrive whole, the one within which the link is cut, the steps where no look, one and two
+/// hear no reply before the link is found cut, and what is told but for the number of these looks.
+type Half<'a> = (&'a [&'a str], &'a str, [&'a [Step]; 3], &'a str);
 
 const HALVES: [Half<'static>; 4] = [
     (
         &[],
         INIT,
-        &[Open],
+        [
+            &[Open, Cut, Look],
+            &[Open, Look, Cut, Look],
+            &[Open, Look, Look, Cut, Look],
+        ],
         "failed; dials 1 searches 0 gones 0 faults 1 waits ",
     ),
     (
         &[INIT],
         SEARCH,
-        &[Open, Look, Search],
+        [
+            &[Open, Look, Search, Cut, Look],
+            &[Open, Look, Search, Look, Cut, Look],
+            &[Open, Look, Search, Look, Look, Cut, Look],
+        ],
         "opened; failed; dials 1 searches 1 gones 0 faults 1 waits ",
     ),
     (
         &[INIT, SEARCH],
         PRESENT,
-        &[Open, Look, Search, Look, Present(1)],
+        [
+            &[Open, Look, Search, Look, Present(1), Cut, Look],
+            &[Open, Look, Search, Look, Present(1), Look, Cut, Look],
+            &[Open, Look, Search, Look, Present(1), Look, Look, Cut, Look],
+        ],
         "opened; hits 3; failed; dials 1 searches 1 gones 0 faults 1 waits ",
     ),
     (
         &[INIT],
         SCAN,
-        &[Open, Look, Scan],
+        [
+            &[Open, Look, Scan, Cut, Look],
+            &[Open, Look, Scan, Look, Cut, Look],
+            &[Open, Look, Scan, Look, Look, Cut, Look],
+        ],
         "opened; failed; dials 1 searches 0 gones 0 faults 1 waits ",
     ),
 ];
-
-/// Steps, that many looks that hear no reply, and one that finds the link cut.
-fn looks_behind(alloc: Global, steps: &[Step], waits: u32) -> Result<List<Step>, Memory> {
-    let mut all = List::new(alloc);
-    for step in steps {
-        all.push(*step)?;
-    }
-    for _ in 0..waits {
-        all.push(Look)?;
-    }
-    all.push(Cut)?;
-    all.push(Look)?;
-    Ok(all)
-}
 
 /// A wire that brings replies and all but the last octet of another.
 fn wire_cut_within(alloc: Global, whole: &[&str], digits: &str) -> Result<PlayedWire, Memory> {
@@ -126,25 +129,27 @@ fn wire_cut_within(alloc: Global, whole: &[&str], digits: &str) -> Result<Played
     Ok(wire)
 }
 
-/// Whether a link that is cut within a reply is told of, after that many looks that hear none, and no
-/// octets are kept.
-fn is_no_breach(alloc: Global, half: Half, waits: u32) -> Result<bool, Memory> {
-    let (whole, digits, steps, words) = half;
-    let steps = looks_behind(alloc, steps, waits)?;
+/// Whether this is told of steps over a link that is cut within a reply, and no octets are kept.
+fn is_no_breach(
+    alloc: Global,
+    (whole, digits): (&[&str], &str),
+    steps: &[Step],
+    (words, waits): (&str, u64),
+) -> Result<bool, Memory> {
+    let mut wanted = Text::copy_of(alloc, words.as_bytes())?;
+    put_numbers(alloc, &mut wanted, &[("", waits)])?;
     let wire = wire_cut_within(alloc, whole, digits)?;
-    let (told, last) = words_over(alloc, wire, steps.as_slice())?;
-    let wanted = format!(in alloc; "{words}{waits}; ")?;
-    Ok(told.as_slice() == wanted.as_bytes() && last.is_empty())
+    let (told, last) = words_over(alloc, wire, steps)?;
+    Ok(told == wanted && last.is_empty())
 }
 
 #[test]
 fn a_link_that_is_cut_within_a_reply_fails_and_is_no_breach(rt: HostRuntime) -> Result<(), Fail> {
-    for half in HALVES {
-        for waits in 0..3 {
+    for (whole, digits, [none, one, two], words) in HALVES {
+        for (waits, steps) in [(0, none), (1, one), (2, two)] {
             assert!(rt;
-                is_no_breach(rt.alloc(), half, waits)?,
-                "{} {waits}",
-                half.3
+                is_no_breach(rt.alloc(), (whole, digits), steps, (words, waits))?,
+                "{words} {waits}"
             );
         }
     }

@@ -4,6 +4,7 @@ use crate::far::words_over;
 use crate::played::PlayedWire;
 use crate::plays::Step::{self, Look, Open, Present, Search};
 use crate::replies::{INIT, PRESENT, PRESENT_LONG, RECORD_LONG, SEARCH, octets};
+use crate::words::put_numbers;
 use std::alloc::Global;
 use std::test::Fail;
 use z_types::{Body, Form, Item, List, Memory, NamedRecord, Oid, Reply, Text};
@@ -42,13 +43,11 @@ fn replies_around(alloc: Global, reply: Text) -> Result<List<Text>, Memory> {
 
 /// What is told of an Init, a Search, a Present that hears this record, and a Search again, where `waits`
 /// looks hear no reply.
-fn words_of(alloc: Global, record: &[u8], waits: u32) -> Result<Text, Memory> {
+fn words_around(alloc: Global, record: &[u8], waits: u64) -> Result<Text, Memory> {
     let mut words = Text::copy_of(alloc, b"opened; hits 3; ")?;
     words.append(record)?;
-    let counts = format!(in alloc;
-        "; hits 3; dials 1 searches 2 gones 0 faults 0 waits {waits}; "
-    )?;
-    words.append(counts.as_bytes())?;
+    let counts = "; hits 3; dials 1 searches 2 gones 0 faults 0 waits ";
+    put_numbers(alloc, &mut words, &[(counts, waits)])?;
     Ok(words)
 }
 
@@ -58,7 +57,7 @@ fn are_heard(
     alloc: Global,
     replies: &List<Text>,
     record: &[u8],
-    (size, counts, waits): (usize, [usize; 3], u32),
+    (size, counts, waits): (usize, [usize; 3], u64),
 ) -> Result<bool, Memory> {
     let [init, search, present] = counts;
     let asks = [
@@ -70,12 +69,12 @@ fn are_heard(
     let steps = steps_of(alloc, &asks)?;
     let wire = in_pieces(alloc, replies.as_slice(), size)?;
     let (told, _) = words_over(alloc, wire, steps.as_slice())?;
-    Ok(told == words_of(alloc, record, waits)?)
+    Ok(told == words_around(alloc, record, waits)?)
 }
 
 /// The size of the pieces in which replies of 43, 14, 60 and 14 octets come, the looks that it takes to
 /// hear each of the first three, and all looks that hear no reply.
-const SHORT: [(usize, [usize; 3], u32); 4] = [
+const SHORT: [(usize, [usize; 3], u64); 4] = [
     (1, [43, 14, 60], 127),
     (2, [22, 7, 30], 62),
     (7, [7, 2, 9], 16),
@@ -97,7 +96,7 @@ fn a_reply_in_pieces_is_heard_once_it_is_whole(rt: HostRuntime) -> Result<(), Fa
 }
 
 /// The same where the third reply has 222 octets, in elements of indefinite length.
-const INDEFINITE: [(usize, [usize; 3], u32); 4] = [
+const INDEFINITE: [(usize, [usize; 3], u64); 4] = [
     (1, [43, 14, 222], 289),
     (2, [22, 7, 111], 143),
     (7, [7, 2, 32], 39),
@@ -139,7 +138,7 @@ fn large_reply(alloc: Global) -> Result<Text, Memory> {
 }
 
 /// The same where the third reply has 647 octets.
-const LARGE: [(usize, [usize; 3], u32); 4] = [
+const LARGE: [(usize, [usize; 3], u64); 4] = [
     (1, [43, 14, 647], 714),
     (2, [22, 7, 324], 356),
     (7, [7, 2, 93], 100),

@@ -4,11 +4,29 @@ use gw_outside::Heard;
 use std::alloc::Global;
 use z_types::{Diag, Item, List, Memory, ScanAnswer, ScanEntry, Term, Text};
 
+/// Puts a number behind a line.
+fn put_number(alloc: Global, line: &mut Text, number: u64) -> Result<(), Memory> {
+    line.append(format!(in alloc; "{number}")?.as_bytes())
+}
+
+/// Puts numbers behind a line, each behind its words.
+pub(crate) fn put_numbers(
+    alloc: Global,
+    line: &mut Text,
+    numbers: &[(&str, u64)],
+) -> Result<(), Memory> {
+    for (words, number) in numbers {
+        line.append(words.as_bytes())?;
+        put_number(alloc, line, *number)?;
+    }
+    line.append(b"; ")
+}
+
 /// Puts what is heard behind a line.
 pub(crate) fn put_heard(alloc: Global, line: &mut Text, heard: &Heard) -> Result<(), Memory> {
     match heard {
         Heard::Opened => line.append(b"opened; "),
-        Heard::Hits(hits) => line.append(format!(in alloc; "hits {hits}; ")?.as_bytes()),
+        Heard::Hits(hits) => put_numbers(alloc, line, &[("hits ", u64::from(*hits))]),
         Heard::Refused(diag) => put_diag(alloc, line, diag),
         Heard::Items(items) => put_items(alloc, line, items),
         Heard::Gone => line.append(b"gone; "),
@@ -21,7 +39,9 @@ pub(crate) fn put_heard(alloc: Global, line: &mut Text, heard: &Heard) -> Result
 
 /// Puts a diagnostic behind a line.
 fn put_diag(alloc: Global, line: &mut Text, diag: &Diag) -> Result<(), Memory> {
-    line.append(format!(in alloc; "refused {} ", diag.condition)?.as_bytes())?;
+    line.append(b"refused ")?;
+    put_number(alloc, line, u64::from(diag.condition))?;
+    line.append(b" ")?;
     line.append(diag.addinfo.as_slice())?;
     line.append(b"; ")
 }
@@ -42,10 +62,10 @@ fn put_entry(alloc: Global, line: &mut Text, entry: &ScanEntry) -> Result<(), Me
     if let Term::General(text) = &entry.term {
         line.append(text.as_slice())?;
     }
-    match entry.occurrences {
-        Some(count) => line.append(format!(in alloc; "{count}, ")?.as_bytes()),
-        None => line.append(b", "),
+    if let Some(count) = entry.occurrences {
+        put_number(alloc, line, u64::from(count))?;
     }
+    line.append(b", ")
 }
 
 /// Puts the entries of a scan behind a line, and the place of the asked term.
@@ -54,7 +74,7 @@ fn put_answer(alloc: Global, line: &mut Text, answer: &ScanAnswer) -> Result<(),
         put_entry(alloc, line, entry)?;
     }
     match answer.position {
-        Some(place) => line.append(format!(in alloc; "at {place}; ")?.as_bytes()),
+        Some(place) => put_numbers(alloc, line, &[("at ", u64::from(place))]),
         None => line.append(b"nowhere; "),
     }
 }
