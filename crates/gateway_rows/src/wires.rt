@@ -130,18 +130,23 @@ fn words_heard(alloc: Global, turns: &[Turn]) -> Result<Text, Memory> {
 /// Takes turns.
 fn take_turns(alloc: Global, play: &mut Play, turns: &[Turn]) -> Result<(), Memory> {
     for turn in turns {
-        match turn {
-            Turn::Dial => dial(alloc, play)?,
-            Turn::SendInit(place) => send(alloc, play, *place, &init())?,
-            Turn::SendSearch(place) => send(alloc, play, *place, &search(alloc)?)?,
-            Turn::SendPresent(place) => send(alloc, play, *place, &present(alloc)?)?,
-            Turn::Look(place) => look(alloc, play, *place)?,
-            Turn::Gone(presents) => play.wire.gone(0, *presents)?,
-            Turn::Slow(looks) => play.wire.slow(0, *looks)?,
-            Turn::Cut => play.wire.cut(0)?,
-        }
+        take_turn(alloc, play, *turn)?;
     }
     Ok(())
+}
+
+/// Takes a turn.
+fn take_turn(alloc: Global, play: &mut Play, turn: Turn) -> Result<(), Memory> {
+    match turn {
+        Turn::Dial => dial(alloc, play),
+        Turn::SendInit(place) => send(alloc, play, place, &init()),
+        Turn::SendSearch(place) => send(alloc, play, place, &search(alloc)?),
+        Turn::SendPresent(place) => send(alloc, play, place, &present(alloc)?),
+        Turn::Look(place) => look(alloc, play, place),
+        Turn::Gone(presents) => play.wire.gone(0, presents),
+        Turn::Slow(looks) => play.wire.slow(0, looks),
+        Turn::Cut => play.wire.cut(0),
+    }
 }
 
 /// Makes a link with the target 0.
