@@ -1,7 +1,7 @@
 //! Connections before their first unit: letters, octets that begin no unit, and parts of one. The
 //! Close was worked out by hand from ANSI/NISO Z39.50-2003, appendix A, and X.690.
 
-ghost use Rattle.std.specs.Prelude.{[], Ok, Err, None, refl};
+ghost use Rattle.std.specs.Prelude.{◌≡◌, [], Ok, Err, None, false, refl};
 ghost use Rattle.std.proofs.Math.Nat.{min-le_right};
 ghost use Rattle.z_types.specs.Bib1.{bib1};
 ghost use Rattle.z_types.specs.Bounds.{most_number};
@@ -89,18 +89,6 @@ impl Targets for EmptyWorld {
     }
 }
 
-/// A connection that was fed these octets, and has made one step.
-fn first_step(alloc: Global, octets: &[u8], has_ended: bool) -> Result<Conn, Memory> {
-    let route = Route::smallest(alloc)?;
-    let mut conn = Conn::new(alloc);
-    conn.feed(octets)?;
-    if has_ended {
-        conn.end_input();
-    }
-    conn.step(alloc, &route, &EmptyWorld {});
-    Ok(conn)
-}
-
 /// Whether a connection has ended so, with this output and no mark, and its output can be taken.
 fn is_as(conn: &mut Conn, end: Option<End>, out: &[u8]) -> bool {
     let as_wanted = conn.end() == end && conn.out() == out && conn.marks().is_empty();
@@ -108,23 +96,36 @@ fn is_as(conn: &mut Conn, end: Option<End>, out: &[u8]) -> bool {
     as_wanted && conn.out().is_empty()
 }
 
-/// Whether a connection that was fed these octets ends so, with this output.
-fn ends_so(
+/// Whether a new connection that is fed these octets, and makes one step, ends so, with this output.
+fn steps_so(
     alloc: Global,
-    octets: &[u8],
-    has_ended: bool,
-    end: Option<End>,
-    out: &[u8],
-) -> Result<bool, Memory> {
-    let mut conn = first_step(alloc, octets, has_ended)?;
-    Ok(is_as(&mut conn, end, out))
+    route: &Route,
+    conn: &mut Conn,
+    fed: (&[u8], bool),
+    ended: (Option<End>, &[u8]),
+) -> Result<bool, Memory>
+    requires { conn.old.has_ended ≡ false }
+{
+    conn.feed(fed.0)?;
+    if fed.1 {
+        conn.end_input();
+    }
+    conn.step(alloc, route, &EmptyWorld {});
+    Ok(is_as(conn, ended.0, ended.1))
+}
+
+/// Whether a connection by the smallest route that was fed these octets ends so, with this output.
+fn ends_so(alloc: Global, fed: (&[u8], bool), ended: (Option<End>, &[u8])) -> Result<bool, Memory> {
+    let route = Route::smallest(alloc)?;
+    let mut conn = Conn::new(alloc);
+    steps_so(alloc, &route, &mut conn, fed, ended)
 }
 
 #[test]
 fn what_begins_no_unit_ends_the_connection(rt: HostRuntime) -> Result<(), Fail> {
     for (octets, has_ended, end, out) in CASES {
         assert!(rt;
-            ends_so(rt.alloc(), octets, has_ended, end, out)?,
+            ends_so(rt.alloc(), (octets, has_ended), (end, out))?,
             "{octets:?}"
         );
     }

@@ -5,26 +5,40 @@ use std::alloc::Global;
 use std::test::Fail;
 use z_types::{End, List, Mark, Memory, Text};
 
+/// A client's number, octets, marks and end.
+type Client<'a> = (u32, &'a [u8], &'a [Mark], End);
+
+/// The report of a client.
+fn client_report(
+    alloc: Global,
+    (number, octets, marks, end): Client,
+) -> Result<ClientReport, Memory> {
+    let bytes = Text::copy_of(alloc, octets)?;
+    Ok(ClientReport {
+        number,
+        bytes,
+        marks: List::from_vec(marks.to_vec(alloc)?),
+        end,
+    })
+}
+
 /// A report of these clients.
-fn report(alloc: Global, clients: &[(u32, &[u8], &[Mark], End)]) -> Result<Report, Memory> {
+fn report(alloc: Global, clients: &[Client]) -> Result<Report, Memory> {
     let mut reports = List::new(alloc);
-    for (number, octets, marks, end) in clients {
-        let mut listed = List::new(alloc);
-        for mark in *marks {
-            listed.push(*mark)?;
-        }
-        reports.push(ClientReport {
-            number: *number,
-            bytes: Text::copy_of(alloc, octets)?,
-            marks: listed,
-            end: *end,
-        })?;
+    for client in clients {
+        reports.push(client_report(alloc, *client)?)?;
     }
     Ok(Report { clients: reports })
 }
 
+/// Whether this is printed of these clients.
+fn prints(alloc: Global, clients: &[Client], page: &[u8]) -> Result<bool, Memory> {
+    let report = report(alloc, clients)?;
+    is_printed(alloc, &report, page)
+}
+
 /// Whether this is printed of a report.
-fn prints(alloc: Global, report: &Report, page: &[u8]) -> Result<bool, Memory> {
+fn is_printed(alloc: Global, report: &Report, page: &[u8]) -> Result<bool, Memory> {
     Ok(print(alloc, report)?.as_slice() == page)
 }
 
@@ -46,20 +60,24 @@ client 30\nbytes ff\nmarks Plain\nend Malformed 0\n\
 client 10000\nbytes -\nmarks -\nend Closed\n\
 clients 3 requests 6\n";
 
+/// Clients, and the page of them: no client, one without octets and marks, and three.
+const PAGES: [(&[Client<'static>], &[u8]); 3] = [
+    (&[], b"clients 0 requests 0\n"),
+    (&[(1, &[], &[], End::Finished)], SILENT),
+    (
+        &[
+            (2, &[0, 0xab], MARKS, End::Cut(12)),
+            (30, &[0xff], &[Mark::Plain], End::Malformed(0)),
+            (10000, &[], &[], End::Closed),
+        ],
+        SEVERAL,
+    ),
+];
+
 #[test]
 fn a_page_has_four_lines_for_each_client_and_one_of_sums(rt: HostRuntime) -> Result<(), Fail> {
-    let alloc = rt.alloc();
-    let empty = report(alloc, &[])?;
-    let page = b"clients 0 requests 0\n";
-    assert!(rt; prints(alloc, &empty, page)?, "no client");
-    let silent = report(alloc, &[(1, &[], &[], End::Finished)])?;
-    assert!(rt; prints(alloc, &silent, SILENT)?, "no octets and no marks");
-    let clients: [(u32, &[u8], &[Mark], End); 3] = [
-        (2, &[0, 0xab], MARKS, End::Cut(12)),
-        (30, &[0xff], &[Mark::Plain], End::Malformed(0)),
-        (10000, &[], &[], End::Closed),
-    ];
-    let several = report(alloc, &clients)?;
-    assert!(rt; prints(alloc, &several, SEVERAL)?, "three clients");
+    for (clients, page) in PAGES {
+        assert!(rt; prints(rt.alloc(), clients, page)?, "{page:?}");
+    }
     Ok(())
 }

@@ -139,9 +139,9 @@ fn take_turns(alloc: Global, play: &mut Play, turns: &[Turn]) -> Result<(), Memo
 fn take_turn(alloc: Global, play: &mut Play, turn: Turn) -> Result<(), Memory> {
     match turn {
         Turn::Dial => dial(alloc, play),
-        Turn::SendInit(place) => send(alloc, play, place, &init()),
-        Turn::SendSearch(place) => send(alloc, play, place, &search(alloc)?),
-        Turn::SendPresent(place) => send(alloc, play, place, &present(alloc)?),
+        Turn::SendInit(place) => send_init(alloc, play, place),
+        Turn::SendSearch(place) => send_search(alloc, play, place),
+        Turn::SendPresent(place) => send_present(alloc, play, place),
         Turn::Look(place) => look(alloc, play, place),
         Turn::Gone(presents) => play.wire.gone(0, presents),
         Turn::Slow(looks) => play.wire.slow(0, looks),
@@ -159,6 +159,24 @@ fn dial(alloc: Global, play: &mut Play) -> Result<(), Memory> {
         Dialled::Failed => play.line.append(b"no link;"),
         Dialled::Memory => Err(Memory),
     }
+}
+
+/// Sends an Init over the link of a place.
+fn send_init(alloc: Global, play: &mut Play, place: usize) -> Result<(), Memory> {
+    let request = init();
+    send(alloc, play, place, &request)
+}
+
+/// Sends a Search.
+fn send_search(alloc: Global, play: &mut Play, place: usize) -> Result<(), Memory> {
+    let request = search(alloc)?;
+    send(alloc, play, place, &request)
+}
+
+/// Sends a Present.
+fn send_present(alloc: Global, play: &mut Play, place: usize) -> Result<(), Memory> {
+    let request = present(alloc)?;
+    send(alloc, play, place, &request)
 }
 
 /// Sends a request over the link of a place.

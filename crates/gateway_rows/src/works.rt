@@ -226,15 +226,27 @@ fn put_outcome(alloc: Global, line: &mut Text, outcome: &Outcome) -> Result<(), 
     }
 }
 
-/// What comes of a work, as a line.
-fn line_of(alloc: Global, work: &Work) -> Result<Text, Memory>
+/// Whether an outcome is told so.
+fn says(alloc: Global, outcome: &Outcome, wanted: &str) -> Result<bool, Memory> {
+    let mut line = Text::new(alloc);
+    put_outcome(alloc, &mut line, outcome)?;
+    Ok(line.as_slice() == wanted.as_bytes())
+}
+
+/// Whether a work comes to this by a route.
+fn comes_to_by(alloc: Global, route: &Route, work: &Work, wanted: &str) -> Result<bool, Memory>
+    requires { CanBegin work.now }
+{
+    let outcome = plain_outcome(alloc, route, work, &TestWorld)?;
+    says(alloc, &outcome, wanted)
+}
+
+/// Whether a work comes to this.
+fn comes_to(alloc: Global, work: &Work, wanted: &str) -> Result<bool, Memory>
     requires { CanBegin work.now }
 {
     let route = route(alloc)?;
-    let outcome = plain_outcome(alloc, &route, work, &TestWorld)?;
-    let mut line = Text::new(alloc);
-    put_outcome(alloc, &mut line, &outcome)?;
-    Ok(line)
+    comes_to_by(alloc, &route, work, wanted)
 }
 
 /// Whether a search of these legs comes to this.
@@ -247,8 +259,8 @@ fn finds(
 ) -> Result<bool, Memory>
     requires { length legs.now ≤ 16 }
 {
-    let line = line_of(alloc, &search(alloc, legs, bounds, element)?)?;
-    Ok(line.as_slice() == wanted.as_bytes())
+    let work = search(alloc, legs, bounds, element)?;
+    comes_to(alloc, &work, wanted)
 }
 
 #[test]
@@ -259,32 +271,46 @@ fn records_of_several_legs_go_round_robin(rt: HostRuntime) -> Result<(), Fail> {
     Ok(())
 }
 
+/// The bounds small, large and medium of a search of one leg, the element set name, and what comes of it.
+const BOUNDS: [((u32, u32, u32), Option<&str>, &str); 5] = [
+    // a small set
+    ((3, 4, 0), None, ALL),
+    // small is tested first
+    ((3, 3, 0), None, ALL),
+    // a large set
+    ((2, 3, 5), None, "3 none"),
+    // a medium set
+    (
+        (0, 10, 2),
+        None,
+        "3 one<r>0.Default.4</r>one<r>0.Default.12</r>",
+    ),
+    // no such element set
+    ((0, 10, 2), Some("X"), "3 25 X"),
+];
+
+/// All three records.
+const ALL: &str = "3 one<r>0.Default.4</r>one<r>0.Default.12</r>one<r>0.Default.20</r>";
+
 #[test]
 fn bounds_say_how_many_records_a_search_shows(rt: HostRuntime) -> Result<(), Fail> {
-    let alloc = rt.alloc();
-    let two = "3 one<r>0.Default.4</r>one<r>0.Default.12</r>";
-    let all = "3 one<r>0.Default.4</r>one<r>0.Default.12</r>one<r>0.Default.20</r>";
-    assert!(rt; finds(alloc, &[0], (3, 4, 0), None, all)?, "a small set");
-    assert!(rt;
-        finds(alloc, &[0], (3, 3, 0), None, all)?,
-        "small is tested first"
-    );
-    assert!(rt;
-        finds(alloc, &[0], (2, 3, 5), None, "3 none")?,
-        "a large set"
-    );
-    assert!(rt; finds(alloc, &[0], (0, 10, 2), None, two)?, "a medium set");
-    assert!(rt;
-        finds(alloc, &[0], (0, 10, 2), Some("X"), "3 25 X")?,
-        "no such element set"
-    );
+    for (bounds, element, wanted) in BOUNDS {
+        assert!(rt;
+            finds(rt.alloc(), &[0], bounds, element, wanted)?,
+            "{wanted}"
+        );
+    }
     Ok(())
+}
+
+/// Whether the scan comes to this.
+fn scans(alloc: Global, wanted: &str) -> Result<bool, Memory> {
+    let work = scan(alloc)?;
+    comes_to(alloc, &work, wanted)
 }
 
 #[test]
 fn a_scan_asks_its_leg(rt: HostRuntime) -> Result<(), Fail> {
-    let alloc = rt.alloc();
-    let line = line_of(alloc, &scan(alloc)?)?;
-    assert!(rt; line.as_slice() == b"1 c7 d5 e4 f3 g3 ".as_slice());
+    assert!(rt; scans(rt.alloc(), "1 c7 d5 e4 f3 g3 ")?);
     Ok(())
 }
