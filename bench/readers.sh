@@ -4,8 +4,13 @@ root=$(cd "$(dirname "${BASH_SOURCE[0]}")/.." && pwd) || exit 1
 bench=${bench:-bench_readers}
 program=$root/crates/$bench/out/$bench
 
+# The program is there, and no file of a crate is newer.
+is_built() {
+    [ -x "$program" ] && [ -z "$(find "$root/crates" -name out -prune -o -type f -newer "$program" -print | head -n 1)" ]
+}
+
 # shellcheck disable=SC2086
-(cd "$root/crates/$bench" && rt run -- ${words:-ber-flat 100 1}) >/dev/null 2>&1 || {
+is_built || (cd "$root/crates/$bench" && rt run -- ${words:-ber-flat 100 1}) >/dev/null 2>&1 || {
     echo "$bench was not built" >&2
     exit 1
 }
