@@ -215,7 +215,7 @@ fn look(alloc: Global, play: &mut Play, place: usize) -> Result<(), Memory> {
 }
 
 /// Turns, and what is heard.
-const ROWS: [(&[Turn], &[u8]); 4] = [
+const ROWS: [(&[Turn], &[u8]); 3] = [
     // each reply arrives whole at one look
     (
         &[
@@ -246,15 +246,25 @@ const ROWS: [(&[Turn], &[u8]); 4] = [
         ],
         b"hits 10;refused 30;hits 10;<r>2</r><r>4</r><r>6</r><r>8</r><r>10</r>;",
     ),
-    // replies are late
+    // a reply is late; a link that was made before the cut is cut, and one that is made after it is
+    // not; replies are late no more
     (
-        &[Dial, Slow(2), SendSearch(0), Look(0), Look(0), Look(0)],
-        b"not yet;not yet;hits 10;",
-    ),
-    // a link that was made before the cut is cut, and one that is made after it is not
-    (
-        &[Dial, Cut, Dial, SendInit(0), SendInit(1), Look(0), Look(1)],
-        b"not sent;failed;opened;",
+        &[
+            Dial,
+            Slow(2),
+            SendSearch(0),
+            Look(0),
+            Look(0),
+            Look(0),
+            Cut,
+            Dial,
+            Slow(0),
+            SendInit(0),
+            SendInit(1),
+            Look(0),
+            Look(1),
+        ],
+        b"not yet;not yet;hits 10;not sent;failed;opened;",
     ),
 ];
 

@@ -9,7 +9,7 @@ use Rattle.gw_outside.specs.Asks.{MayAsk}
 use Rattle.gw_outside.specs.Sessions.{Made, made_after, pending_after}
 use Rattle.gw_outside.specs.declared.backends.Heard.{Heard}
 use Rattle.gw_outside.specs.declared.backends.Heard.TheVariants.{Opened, Hits, Refused, Items, Gone, Scanned, NotYet, Failed, Memory}
-use Rattle.link_rows.specs.Stories.{set_name, MayTell, HasHits, IsOwn, IsStage, hits_after, stage_after, awaited}
+use Rattle.link_rows.specs.Stories.{set_name, MayAskOf, HasHits, IsOwn, IsStage, hits_after, stage_after, awaited}
 
 -- ---- what may be asked
 
@@ -18,7 +18,7 @@ pub no_hits : (made : Made) → HasHits made 0
 no_hits made some = absurd (omega (arith, some))
 
 -- a session whose set has `hits` records may be asked
-pub may_ask : (made : Made) (ask : Ask) (hits : ℕ) → HasHits made hits → MayTell hits ask → MayAsk made ask
+pub may_ask : (made : Made) (ask : Ask) (hits : ℕ) → HasHits made hits → MayAskOf hits ask → MayAsk made ask
 may_ask made (Search name key) hits has h = rw h.0 h.1
 may_ask made (Present name first count syntax element) hits has h =
     let set = has (omega (arith, h.1.from_one, h.1.some, h.1.within)) in

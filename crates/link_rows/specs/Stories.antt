@@ -32,10 +32,10 @@ pub record IsWithin (hits first count : ℕ) : Type 0 where
   pub count_number : IsNumber count
 
 -- what may be asked of a session whose set has `hits` records
-abbrev pub MayTell : ℕ → Ask → Type 0
-MayTell hits (Search name key) = (name ≡ set_name) × MaySearch set_name key
-MayTell hits (Present name first count syntax element) = (name ≡ set_name) × IsWithin hits first count × IfSome element IsShort
-MayTell hits (Scan dbs ask) = MayScan dbs ask
+abbrev pub MayAskOf : ℕ → Ask → Type 0
+MayAskOf hits (Search name key) = (name ≡ set_name) × MaySearch set_name key
+MayAskOf hits (Present name first count syntax element) = (name ≡ set_name) × IsWithin hits first count × IfSome element IsShort
+MayAskOf hits (Scan dbs ask) = MayScan dbs ask
 
 -- the set has `hits` records, unless it has none
 abbrev pub HasHits : Made → ℕ → Type 0

@@ -4,7 +4,7 @@
 ghost use Rattle.std.specs.Prelude.{◌≡◌, ◌≤◌, IfOk};
 ghost use Rattle.z_types.specs.Bounds.{most_number};
 ghost use Rattle.gw_outside.specs.Asks.{AreFewShort};
-ghost use Rattle.link_rows.specs.Stories.{IsOneAttribute, MayTell, set_name};
+ghost use Rattle.link_rows.specs.Stories.{IsOneAttribute, MayAskOf, set_name};
 
 use std::alloc::Global;
 use z_types::{Ask, Attr, List, Memory, Oid, Rpn, RpnQuery, ScanAsk, SetKey, Term, Text};
@@ -40,7 +40,7 @@ fn title(alloc: Global) -> Result<List<Attr>, Memory>
 
 /// A search for the word `b` as title.
 pub(crate) fn search(alloc: Global) -> Result<Ask, Memory>
-    ensures { IfOk result (λ ask. MayTell 0 ask) }
+    ensures { IfOk result (λ ask. MayAskOf 0 ask) }
 {
     let attr_set = Oid::copy_of(alloc, &[1, 2, 840, 10003, 3, 1])?;
     let term = Term::General(Text::copy_of(alloc, b"b")?);
@@ -54,11 +54,11 @@ pub(crate) fn search(alloc: Global) -> Result<Ask, Memory>
     })
 }
 
-/// So many records of the set, from the first on.
+/// A Present of `count` records of the set, from the first on.
 pub(crate) fn present(alloc: Global, count: u32) -> Result<Ask, Memory>
     requires some { 1 ≤ count }
     requires number { count ≤ most_number }
-    ensures { IfOk result (λ ask. MayTell count ask) }
+    ensures { IfOk result (λ ask. MayAskOf count ask) }
 {
     Ok(Ask::Present {
         name: set_name(alloc)?,
@@ -71,7 +71,7 @@ pub(crate) fn present(alloc: Global, count: u32) -> Result<Ask, Memory>
 
 /// A scan of titles for three entries from `c` on.
 pub(crate) fn scan(alloc: Global) -> Result<Ask, Memory>
-    ensures { IfOk result (λ ask. MayTell 0 ask) }
+    ensures { IfOk result (λ ask. MayAskOf 0 ask) }
 {
     Ok(Ask::Scan {
         dbs: databases(alloc)?,

@@ -139,8 +139,8 @@ fn is_no_breach(
     let mut wanted = Text::copy_of(alloc, words.as_bytes())?;
     put_numbers(alloc, &mut wanted, &[("", waits)])?;
     let wire = wire_cut_within(alloc, whole, digits)?;
-    let (told, last) = words_over(alloc, wire, steps)?;
-    Ok(told == wanted && last.is_empty())
+    let (said, last) = words_over(alloc, wire, steps)?;
+    Ok(said == wanted && last.is_empty())
 }
 
 #[test]
@@ -159,8 +159,8 @@ fn a_link_that_is_cut_within_a_reply_fails_and_is_no_breach(rt: HostRuntime) -> 
 #[test]
 fn a_link_over_which_no_init_can_be_sent_is_counted(rt: HostRuntime) -> Result<(), Fail> {
     let alloc = rt.alloc();
-    let (told, _) = words_over(alloc, PlayedWire::new(alloc), &[Cut, Open, Look])?;
+    let (said, _) = words_over(alloc, PlayedWire::new(alloc), &[Cut, Open, Look])?;
     let words = b"no session; nothing awaited; dials 1 searches 0 gones 0 faults 1 waits 0; ";
-    assert_eq!(rt; told.as_slice(), words.as_slice());
+    assert_eq!(rt; said.as_slice(), words.as_slice());
     Ok(())
 }

@@ -114,8 +114,8 @@ fn words_of(alloc: Global, before: &[&str], digits: &str, steps: &[Step]) -> Res
 #[test]
 fn replies_of_another_implementation_are_heard(rt: HostRuntime) -> Result<(), Fail> {
     for (before, digits, steps, words) in REPLIES {
-        let told = words_of(rt.alloc(), before, digits, steps)?;
-        assert_eq!(rt; told.as_slice(), words, "{digits}");
+        let said = words_of(rt.alloc(), before, digits, steps)?;
+        assert_eq!(rt; said.as_slice(), words, "{digits}");
     }
     Ok(())
 }

@@ -33,6 +33,6 @@ pub(crate) fn has_words(
     let mut wire = PlayedWire::new(alloc);
     wire.bring_each(alloc, each)?;
     wire.bring_together(alloc, together)?;
-    let (told, last) = words_over(alloc, wire, steps)?;
-    Ok(told.as_slice() == words && last == octets(alloc, kept))
+    let (said, last) = words_over(alloc, wire, steps)?;
+    Ok(said.as_slice() == words && last == octets(alloc, kept))
 }

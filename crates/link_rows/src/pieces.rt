@@ -68,8 +68,8 @@ fn are_heard(
     ];
     let steps = steps_of(alloc, &asks)?;
     let wire = in_pieces(alloc, replies.as_slice(), size)?;
-    let (told, _) = words_over(alloc, wire, steps.as_slice())?;
-    Ok(told == words_around(alloc, record, waits)?)
+    let (said, _) = words_over(alloc, wire, steps.as_slice())?;
+    Ok(said == words_around(alloc, record, waits)?)
 }
 
 /// The size of the pieces in which replies of 43, 14, 60 and 14 octets come, the looks that it takes to

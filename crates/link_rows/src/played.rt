@@ -12,11 +12,12 @@ use z_types::{Address, Memory, Text};
 
 /// A wire whose looks find what is played, in its order, whichever link is looked at, and then nothing.
 /// It gives a link at every host, and none at a test target. Where units are wanted, those alone can be
-/// sent, in their order.
+/// sent, once each and in their order.
 #[derive(Drop)]
 pub(crate) struct PlayedWire {
     finds: Vec<Text>,
     wanted: Vec<Text>,
+    is_watched: bool,
     is_cut: bool,
     faults: u64,
     waits: u64,
@@ -42,6 +43,7 @@ impl PlayedWire {
         PlayedWire {
             finds: Vec::new(alloc),
             wanted: Vec::new(alloc),
+            is_watched: false,
             is_cut: false,
             faults: 0,
             waits: 0,
@@ -92,18 +94,19 @@ impl PlayedWire {
 
     /// A unit in hexadecimal digits is wanted next, behind those that are, and its reply arrives.
     pub(crate) fn want(&mut self, alloc: Global, unit: &str, reply: &str) -> Result<(), Memory> {
+        self.is_watched = true;
         self.wanted.push(octets(alloc, unit))?;
         self.finds.push(octets(alloc, reply))?;
         Ok(())
     }
 
-    /// Whether a unit is the one that is wanted next, if one is.
+    /// Whether a unit can be sent: it is the one that is wanted next, or none was ever wanted.
     fn is_wanted(&mut self, unit: &[u8]) -> bool
         ensures faults { self.new.faults ≡ self.old.faults }
         ensures waits { self.new.waits ≡ self.old.waits }
     {
         if self.wanted.is_empty() {
-            return true;
+            return !self.is_watched;
         }
         self.wanted.remove(0).as_slice() == unit
     }

@@ -2,7 +2,7 @@
 //! not be taken is told and left out.
 
 ghost use Rattle.std.specs.Prelude.{◌≡◌};
-ghost use Rattle.link_rows.specs.Stories.{IsStage, Awaits, IsAtRest, MayTell, found_after, hits_after, stage_after};
+ghost use Rattle.link_rows.specs.Stories.{IsStage, Awaits, IsAtRest, MayAskOf, found_after, hits_after, stage_after};
 
 use crate::asks::{present, scan, search};
 use crate::counts::Counts;
@@ -154,7 +154,7 @@ fn ask<W: World, B: Backend<W>>(
     ask: Ask,
 ) -> Result<(), Memory>
     requires stage { IsStage B.Session.Sitting play.old.stage play.old.hits }
-    requires may { MayTell play.old.hits ask }
+    requires may { MayAskOf play.old.hits ask }
     ensures { IsStage B.Session.Sitting play.new.stage play.new.hits }
 {
     match mem::replace(&mut play.stage, Stage::None) {
@@ -177,7 +177,7 @@ fn start<W: World, B: Backend<W>>(
 ) -> Result<(), Memory>
     requires none { play.old.stage ≡ Stage.None }
     requires rests { IsAtRest B.Session.Sitting session play.old.hits }
-    requires may { MayTell play.old.hits ask }
+    requires may { MayAskOf play.old.hits ask }
     ensures { IsStage B.Session.Sitting play.new.stage play.new.hits }
 {
     match backend.start(alloc, &mut session, &ask) {

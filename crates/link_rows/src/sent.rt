@@ -25,20 +25,22 @@ bf6611bf2c0a30089f7801019f7901049f2d0162",
     ),
 ];
 
-/// What is told where those units alone can be sent.
+/// What is told where those units alone can be sent, and one more is asked for.
 fn words_of_units(alloc: Global) -> Result<Text, Memory> {
     let mut wire = PlayedWire::new(alloc);
     for (unit, reply) in UNITS {
         wire.want(alloc, unit, reply)?;
     }
-    let steps = [Open, Look, Search, Look, Present(1), Look, Scan, Look];
+    let steps = [Open, Look, Search, Look, Present(1), Look, Scan, Look, Scan];
     Ok(words_over(alloc, wire, &steps)?.0)
 }
 
 #[test]
-fn what_is_asked_is_sent_with_no_reference_id(rt: HostRuntime) -> Result<(), Fail> {
-    let words = b"opened; hits 3; <r>0.Default.4</r>; c, d, at 1; \
-dials 1 searches 1 gones 0 faults 0 waits 0; ";
+fn what_is_asked_is_sent_with_no_reference_id_and_nothing_more(
+    rt: HostRuntime,
+) -> Result<(), Fail> {
+    let words = b"opened; hits 3; <r>0.Default.4</r>; c, d, at 1; not sent; \
+dials 1 searches 1 gones 0 faults 1 waits 0; ";
     assert_eq!(rt; words_of_units(rt.alloc())?.as_slice(), words.as_slice());
     Ok(())
 }

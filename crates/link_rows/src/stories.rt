@@ -76,8 +76,8 @@ fn a_scan_is_heard(rt: HostRuntime) -> Result<(), Fail> {
 fn there_is_no_link_with_another_target(rt: HostRuntime) -> Result<(), Fail> {
     let alloc = rt.alloc();
     let address = Address::Tcp(Text::copy_of(alloc, b"far")?, 210);
-    let told = words_at(alloc, &address, &[Open, Look])?;
+    let said = words_at(alloc, &address, &[Open, Look])?;
     let words = b"no session; nothing awaited; dials 0 searches 0 gones 0 faults 1 waits 0; ";
-    assert_eq!(rt; told.as_slice(), words.as_slice());
+    assert_eq!(rt; said.as_slice(), words.as_slice());
     Ok(())
 }
