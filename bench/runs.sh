@@ -4,7 +4,7 @@ program=$here/crates/gateway_program/out/gateway_program
 room=$(mktemp -d) || exit 1
 trap 'rm -rf "$room"' EXIT
 
-"$here/gateway" --version >/dev/null || exit 1
+"$here/gateway" prove || exit 1
 
 # The median of 5 runs of the program by these words, in seconds. Each has to end with the status `wanted`, else 0.
 median() {

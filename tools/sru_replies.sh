@@ -1,5 +1,5 @@
 #!/bin/bash
-# What another reader of XML says of the replies to SRU clients: each that the tests of sru_vectors expect, octet
+# What another reader of XML says of the replies to SRU clients: each that the tests of sru_tests expect, octet
 # for octet, is parted into its head and its body, whose length has to be that of the head. xmllint (Debian's
 # libxml2-utils) reads the body, and holds it against `sru_reply.rng`; what a packed record says is read once more.
 here=$(cd "$(dirname "$0")/.." && pwd) || exit 1
@@ -43,7 +43,7 @@ while IFS= read -r line; do
         echo "wrong: a reply of $length octets"
         cat "$room/said"
     fi
-done < <(grep -o 'b"HTTP/1\.1 .*";$' "$here/crates/sru_vectors/src/replies.rt")
+done < <(grep -o 'b"HTTP/1\.1 .*";$' "$here/crates/sru_tests/src/replies.rt")
 
 echo "$tried replies, $wrong wrong"
 [[ $tried -gt 0 && $wrong -eq 0 ]]

@@ -3,7 +3,7 @@
 # what it prints with what `docs/formats/replay.md` says. Want of memory has a script of its own, `refuse_memory.sh`.
 here=$(cd "$(dirname "$0")/.." && pwd) || exit 1
 program=$here/crates/gateway_program/out/gateway_program
-"$here/gateway" --version >/dev/null || exit 1
+"$here/gateway" prove || exit 1
 room=$(mktemp -d) || exit 1
 trap 'rm -rf "$room"' EXIT
 cd "$room" || exit 1

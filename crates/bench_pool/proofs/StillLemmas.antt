@@ -1,18 +1,28 @@
 -- The sets of the sessions that are timed
-use Rattle.std.proofs.Common.{◌≡◌, ◌==◌, ℕ, true, false, not, All, refl, sym, subst, is_some}
-use Rattle.std.proofs.lemmas.List.Elements.{All-cons, All-filter}
-use Rattle.z_types.specs.declared.key.SetKey.{SetKey}
-use Rattle.pool_sets.specs.Table.{Entry, Table, free_slot, last_slot, moment_of, after_room, after_record}
+use Rattle.std.proofs.Common.{◌≡◌, ℕ, Bool, false, [], Option, None, Some, is_some, option_map, refl, sym, subst, arith}
+use Rattle.std.specs.List.{IsDistinct}
+use Rattle.z_types.specs.declared.address.Address.{Address}
+use Rattle.z_types.specs.declared.address.Address.TheVariants.{Test}
+use Rattle.pool_sets.specs.Kept.{TableKept}
+use Rattle.pool_sets.specs.Table.{Entry, Table, empty_table, same_key, keys_in}
+use Rattle.bench_pool.specs.declared.sessions.Still.{Still}
+use Rattle.bench_pool.specs.contracts.sessions.QuietWorld.TheImpl as quiet
+use Rattle.bench_pool.specs.contracts.sessions.StillSittingQuiet.TheImpl as still
 
--- what holds of each set holds once room was made
-pub all_after_room : (P : Entry → Type 0) (t : Table) → All P t.entries → All P (after_room t).entries
-all_after_room P t a = (elim (is_some (free_slot t)) as (λ b. is_some (free_slot t) ≡ b → All P (after_room t).entries) [
-  | true ↦ λ h. rw h a
-  | false ↦ λ h. rw h (All-filter (λ (e : Entry). not (last_slot t.entries == e.slot)) P t.entries a)
-]) refl
+-- no set was found whose slot was not given
+pub none_held : (set : Option Entry) (slot : Option ℕ) (test : Bool) → slot ≡ option_map (λ e. e.slot) set → test ≡ is_some slot → test ≡ false → set ≡ None
+none_held None slot test held is failed = refl
+none_held (Some e) slot test held is failed = cc
 
--- what holds of each set, and of a new one, holds once that is recorded
-pub all_after_record : (P : Entry → Type 0) (slot : ℕ) (key : SetKey) (hits now : ℕ) (t new : Table) → P (record { slot = slot; key = key; hits = hits; used = moment_of now t }) → All P t.entries → new ≡ after_record slot key hits now t → All P new.entries
-all_after_record P slot key hits now t new p a e =
-    let made : Entry = record { slot = slot; key = key; hits = hits; used = moment_of now t } in
-    subst (λ (x : Table). All P x.entries) (sym e) (All-cons P made t.entries p a)
+none_apart : IsDistinct same_key (keys_in [])
+unfolding IsDistinct
+none_apart = tt
+
+-- a session is kept that holds no set
+pub empty_kept : (session : Still) (most : ℕ) (table : Table) (address : Address) → table ≡ empty_table most → address ≡ Test 0 → TableKept quiet.ghosts still.ghosts (record { session = session; table = table; address = address })
+empty_kept session most table address empty there =
+    subst (λ (t : Table). TableKept quiet.ghosts still.ghosts (record { session = session; table = t; address = address })) (sym empty) (record {
+      same_address = sym there;
+      each = λ k d h. absurd (omega arith);
+      once = none_apart;
+    })

@@ -1,10 +1,10 @@
 //! Sessions that rest, each with ten sets of one query, at targets of which nothing is told.
 
-ghost use Rattle.std.specs.Prelude.{◌≡◌, All, Some, IfOk, OnOk, [], ◌∷◌, refl, decimal};
+ghost use Rattle.std.specs.Prelude.{◌≡◌, Some, IfOk, OnOk, [], ◌∷◌, refl, decimal};
 ghost use Rattle.z_types.specs.Pending.{resting};
 ghost use Rattle.z_types.specs.declared.address.Address.TheVariants.{Test};
 ghost use Rattle.bench_pool.specs.Still.{no_hits, no_record, no_scan, key_in};
-ghost use Rattle.pool_sets.specs.Kept.{IsKept};
+ghost use Rattle.pool_sets.specs.Kept.{TableKept};
 
 use pool_sets::{Parts, Pooled, SetTable};
 use std::alloc::Global;
@@ -81,28 +81,30 @@ pub fn key_of(alloc: Global, number: u32, slot: u32) -> Result<SetKey, Memory>
     key_under(alloc, slot, &query)
 }
 
-/// Makes room for a set of the session's query and records it.
-fn add(alloc: Global, table: &mut SetTable, session: &Still) -> Result<(), Memory>
-    requires kept { All (IsKept ⟦<Quiet as World>⟧ ⟦<Still as Sitting<Quiet>>⟧ session.now)
-        table.old.entries }
-    ensures kept { OnOk result (All (IsKept ⟦<Quiet as World>⟧ ⟦<Still as Sitting<Quiet>>⟧
-        session.now) table.new.entries) }
+/// Makes room for a set of the session's query and records it, unless one stands for its key.
+fn add(alloc: Global, parts: &mut Parts<Still>) -> Result<(), Memory>
+    requires kept { TableKept ⟦<Quiet as World>⟧ ⟦<Still as Sitting<Quiet>>⟧ parts.old }
+    ensures kept { OnOk result (TableKept ⟦<Quiet as World>⟧
+        ⟦<Still as Sitting<Quiet>>⟧ parts.new) }
 {
-    let slot = table.room();
-    let key = key_under(alloc, slot, &session.query)?;
-    table.record_(slot, key, 3, 0)
+    let slot = parts.table.room();
+    let key = key_under(alloc, slot, &parts.session.query)?;
+    if parts.table.holds(&key).is_some() {
+        return Ok(());
+    }
+    parts.table.record_(slot, key, 3, 0)
 }
 
-/// A table of sets of the session's query.
-fn table_of(alloc: Global, session: &Still) -> Result<SetTable, Memory>
-    ensures kept { IfOk result (λ table. All (IsKept ⟦<Quiet as World>⟧
-        ⟦<Still as Sitting<Quiet>>⟧ session.now) table.entries) }
+/// Adds as many sets as a session holds.
+fn fill(alloc: Global, parts: &mut Parts<Still>) -> Result<(), Memory>
+    requires kept { TableKept ⟦<Quiet as World>⟧ ⟦<Still as Sitting<Quiet>>⟧ parts.old }
+    ensures kept { OnOk result (TableKept ⟦<Quiet as World>⟧
+        ⟦<Still as Sitting<Quiet>>⟧ parts.new) }
 {
-    let mut table = SetTable::new(alloc, SETS)?;
     for _ in 0..SETS {
-        add(alloc, &mut table, session)?;
+        add(alloc, parts)?;
     }
-    Ok(table)
+    Ok(())
 }
 
 /// A session with sets of the number's query.
@@ -110,12 +112,11 @@ pub fn session_holding(alloc: Global, number: u32) -> Result<Pooled<Quiet, Still
     ensures { IfOk result (λ pooled. pooled.address ≡ Test 0) }
 {
     let query = query_for(alloc, number)?;
-    let session = Still { query };
-    let table = table_of(alloc, &session)?;
-    let address = Address::Test(0);
-    Ok(Pooled::join(Parts {
-        session,
-        table,
-        address,
-    }))
+    let mut parts = Parts {
+        session: Still { query },
+        table: SetTable::new(alloc, SETS)?,
+        address: Address::Test(0),
+    };
+    fill(alloc, &mut parts)?;
+    Ok(Pooled::join(parts))
 }

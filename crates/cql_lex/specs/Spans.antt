@@ -1,4 +1,4 @@
--- Tokens as spans of a text (this project's own).
+-- For contracts alone: tokens as spans of a text (this project's own).
 use Rattle.std.specs.Prelude.{ℕ, ◌<◌, ◌≤◌}
 use Rattle.cql_lex.specs.declared.token.Token.{Token}
 

@@ -17,7 +17,7 @@ first_front : (xs ys : List MapFault) (e : MapFault) → IsFirst xs e → IsFirs
 first_front [] ys e h = absurd h
 first_front (x ∷ xs) ys e h = h
 
--- a fault in front is printed_detail
+-- a fault in front is told
 pub refusal_front : (xs ys : List MapFault) (e : MapFault) → IsRefusal xs e → IsRefusal (xs ++ ys) e
 refusal_front xs ys e h = ⊎_elim (λ (m : e ≡ fault.Memory). inl m) (λ (f : IsFirst xs e). inr (first_front xs ys e f)) h
 
@@ -53,7 +53,7 @@ pub joined_modifiers : (indexes : List Index) (boolean : List ℕ) (ms : List Mo
 joined_modifiers indexes boolean ms a b o e none found h =
     refusal_behind (faults indexes a) _ e none (refusal_behind (boolean_faults_by boolean (operator_of boolean)) _ e (ap (boolean_faults_by boolean) found) (refusal_front (modifier_faults fault.BooleanModifier ms) (faults indexes b) e h))
 
--- the whole: a sort is printed_detail last
+-- the whole: a sort is told last
 pub all_refused : (indexes : List Index) (q : Tree) (e : MapFault) → IsRefusal (faults indexes q) e → IsRefusal (all_faults indexes q) e
 all_refused indexes q e h = refusal_front (faults indexes q) (sort_faults (has_sort q)) e h
 

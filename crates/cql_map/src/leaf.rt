@@ -25,7 +25,7 @@ fn structure(core: &[Character]) -> Attr
 }
 
 /// Puts the attributes of a row at the end.
-fn put_row(attrs: &mut List<Attr>, row: Row, core: &[Character]) -> Result<(), Memory>
+fn push_row(attrs: &mut List<Attr>, row: Row, core: &[Character]) -> Result<(), Memory>
     ensures { OnOk result (attrs.new ≡ attrs.old ++ row_attributes row core.now) }
 {
     match row {
@@ -51,7 +51,7 @@ fn put_row(attrs: &mut List<Attr>, row: Row, core: &[Character]) -> Result<(), M
 }
 
 /// Puts the attribute of masks at the end, where there are some.
-fn put_truncation(attrs: &mut List<Attr>, left: bool, right: bool) -> Result<(), Memory>
+fn push_truncation(attrs: &mut List<Attr>, left: bool, right: bool) -> Result<(), Memory>
     ensures { OnOk result (attrs.new ≡ attrs.old ++ truncation left right) }
 {
     match (left, right) {
@@ -68,8 +68,8 @@ fn attributes(alloc: Global, value: u32, row: Row, term: &[Character]) -> Result
 {
     let mut attrs = List::new(alloc);
     attrs.push(attribute(bib1::USE, value))?;
-    put_row(&mut attrs, row, core(term))?;
-    put_truncation(&mut attrs, begins_star(term), ends_star(behind_star(term)))?;
+    push_row(&mut attrs, row, core(term))?;
+    push_truncation(&mut attrs, begins_star(term), ends_star(behind_star(term)))?;
     Ok(attrs)
 }
 

@@ -24,7 +24,7 @@ use z_types::{List, Rpn, RpnQuery, Text};
 
 /// The query of type 1 that finds what a query of CQL finds, whatever targets find for its operands:
 /// with the attribute set bib-1, and attributes in the order of the table of relations. Of what is not
-/// mapped the first is printed_detail, from the left, and a sort behind all else. It is for the trees that
+/// mapped the first is told, from the left, and a sort behind all else. It is for the trees that
 /// `cql_parse::parse` gives, of at most 48 levels, since it goes down the tree by recursion, and takes
 /// time linear in the query's octets.
 #[tactic(auto, using(crate::proofs::FaultLemmas::all_steps))]

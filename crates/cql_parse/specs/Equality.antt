@@ -1,4 +1,4 @@
--- The parts of queries, and their trees, are tested and copied exactly (this project's own).
+-- For proofs alone: the parts of queries, and their trees, are tested and copied exactly (this project's own).
 use Rattle.std.specs.Prelude.{◌≡◌, ℕ, refl, Bool, true, false, ◌&&◌, List, Option}
 use Rattle.std.specs.Cmp.{IsEquivalence, IsPartialEquivalence, partial_equiv_from_equiv}
 use Rattle.std.specs.Cmp.Lexicographic.{lists_equiv, options_equiv}

@@ -1,4 +1,4 @@
--- What the parser's parts answer (this project's own).
+-- For contracts alone: what the parser's parts answer (this project's own).
 use Rattle.std.specs.Prelude.{◌≡◌, ℕ, Bool, true, false, List, ◌∷◌, Option, Some, None, Result, Ok, Err}
 use Rattle.std.specs.Borrow.{Bor}
 use Rattle.cql_lex.specs.declared.token.Token.{Token}

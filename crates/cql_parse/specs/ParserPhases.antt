@@ -1,4 +1,4 @@
--- Which token may come next in a query (CQL 1.2, BNF, as an LL(1) table with a counter of open brackets).
+-- For contracts alone: which token may come next in a query (CQL 1.2, BNF, as an LL(1) table with a counter of open brackets).
 use Rattle.std.specs.Prelude.{ℕ, zero, suc, ◌==◌, ◌&&◌, Bool, true, false, List, [], ◌∷◌, Option, Some, None, option_map, if◌then◌else◌}
 use Rattle.cql_parse.specs.declared.lexeme.Class.{Class}
 use Rattle.cql_parse.specs.declared.first_fault.Owner.{Owner}

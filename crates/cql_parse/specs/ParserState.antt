@@ -1,4 +1,4 @@
--- An unfinished query: what is read, what it is within, and which trees the tokens left can make of it (this
+-- For contracts alone: an unfinished query: what is read, what it is within, and which trees the tokens left can make of it (this
 -- project's own).
 use Rattle.std.specs.Prelude.{◌≡◌, ℕ, ◌<◌, ◌≤◌, true, ◌⊎◌, ◌↔◌, List, [], ◌∷◌, option_map, Result, Ok, Err}
 use Rattle.std.specs.Borrow.{Bor}

@@ -1,4 +1,4 @@
--- One step of the parser: what it leaves of the tokens and of the stack makes the same trees (this project's own).
+-- For contracts alone: one step of the parser: what it leaves of the tokens and of the stack makes the same trees (this project's own).
 use Rattle.std.specs.Prelude.{◌≡◌, ◌↔◌, ℕ, ◌+◌, ◌<◌, List, [], ◌∷◌, option_map, Option, MatchOption, Result, IfOk, if◌then◌else◌}
 use Rattle.std.specs.Borrow.{Bor}
 use Rattle.cql_lex.specs.declared.token.Token.{Token}

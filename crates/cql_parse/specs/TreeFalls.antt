@@ -1,4 +1,4 @@
--- Each part of a query has fewer nodes than the query (this project's own).
+-- For proofs alone: each part of a query has fewer nodes than the query (this project's own).
 use Rattle.std.specs.Prelude.{◌≤◌, max}
 use Rattle.std.proofs.Common.{arith}
 use Rattle.cql_parse.specs.Tree.{tree_size}

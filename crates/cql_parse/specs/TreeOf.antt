@@ -1,4 +1,4 @@
--- The tree of a query as it is kept (this project's own).
+-- For contracts alone: the tree of a query as it is kept (this project's own).
 use Rattle.cql_parse.specs.Tree.{Tree, clause, joined, assigned, sorted}
 use Rattle.cql_parse.specs.declared.tree.Node.{Node}
 use Rattle.cql_parse.specs.declared.tree.Node.TheVariants.{Clause, Joined, Prefix, Sorted}

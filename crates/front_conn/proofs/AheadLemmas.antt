@@ -135,6 +135,10 @@ bad-waits state [] at so un = so
 bad-waits state (octet ∷ octets) at (inl so) un = un.0 (so.0, so.2)
 bad-waits state (octet ∷ octets) at (inr so) un = so.0 un.1.1
 
+-- the end of the input waits
+pub busy-ended : (state : ConnectionState) → state.end ≡ None → state.has_ended ≡ true → ¬ IsIdle state
+busy-ended state goes ended = busy state goes (λ nothing. let e : true ≡ false = sym ended ∙ nothing.goes_on in absurd cc)
+
 -- octets that are no unit wait
 pub busy-bad : (state : ConnectionState) (at : ℕ) → state.end ≡ None → BadSo state.at state.left at → ¬ IsIdle state
 busy-bad state at goes so = busy state goes (λ nothing. bad-waits state state.left at so nothing.unfinished)

@@ -1,20 +1,24 @@
 -- A unit that was begun, and whose work was done, is answered.
-use Rattle.std.proofs.Common.{◌≡◌, ℕ, List, ◌++◌, Option, Some, None, refl, sym, ap, ◌∙◌, subst}
+use Rattle.std.proofs.Common.{◌≡◌, ℕ, List, ◌++◌, Option, Some, None, refl, sym, ap, ◌∙◌, subst, Result, Ok, Err, OnOk, OnErr, IfOk}
 use Rattle.std.specs.Prelude.{IfSome}
 use Rattle.std.specs.List.{AllByRecursion}
 use Rattle.z_types.specs.declared.marks.Mark.{Mark}
 use Rattle.z_types.specs.declared.marks.Mark.TheVariants.{Plain}
 use Rattle.z_types.specs.declared.marks.End.{End}
+use Rattle.z_types.specs.declared.marks.End.TheVariants.{Closed, Malformed, Limited}
+use Rattle.z_types.specs.declared.memory.Memory.{Memory}
 use Rattle.z_types.specs.declared.requests.Request.{Request}
 use Rattle.z_types.specs.declared.work.Work.{Work}
 use Rattle.z_types.specs.declared.world.World as world
 use Rattle.route_config.specs.declared.route.Route.{Route}
 use Rattle.unit_forms.specs.Replies.{spell_reply}
 use Rattle.gateway_rules.specs.Asking as asking
-use Rattle.gateway_rules.specs.Asking.{Due, asked, asked_with}
+use Rattle.gateway_rules.specs.Asking.{Asking, asked, asked_with}
 use Rattle.gateway_rules.specs.Course as course
 use Rattle.gateway_rules.specs.Course.{Meeting, met}
 use Rattle.gateway_rules.specs.Marks.{plain}
+use Rattle.gateway_rules.specs.Replies.{bad_unit_reply, limit_reply, close_reply}
+use Rattle.gateway_rules.specs.Statuses.{finished}
 use Rattle.gateway_rules.specs.Outcomes.{plain_outcome}
 use Rattle.gateway_rules.specs.Session.{answer_to}
 use Rattle.gateway_rules.specs.Settling.{Settled}
@@ -24,7 +28,7 @@ use Rattle.front_session.specs.Admitting.{hits_named, counted}
 use Rattle.front_z.specs.Units.{Served, IsBegun, IsDueBegun, IsMetBegun, IsEnded}
 use Rattle.front_z.specs.declared.units.Begun.TheVariants as begun
 use Rattle.front_conn.specs.States.{HasMeantHits}
-use Rattle.front_conn.specs.Answering.{AnswersUnit, IsMetAnswered, IsPlainly, IsSteady}
+use Rattle.front_conn.specs.Answering.{AnswersUnit, IsMetAnswered, IsPlainly, IsSteady, IsWrittenBehind}
 use Rattle.front_conn.specs.declared.answer.UnitAnswer.{UnitAnswer}
 use Rattle.front_conn.proofs.SetLemmas.{asked_with-meant, sets-meant}
 
@@ -43,15 +47,15 @@ told-one mark end e =
 
 -- a request that is due, answered at once
 due-at_once : {W : Type 0} (w : world.Ghosts W) (route : Route) (asks : Request) (old new : Served) (mark : Option Mark)
-    (end : Option End) (due : Due) → due ≡ asked w route (client_of old.session) asks → IsSteady w route old.session
+    (end : Option End) (due : Asking) → due ≡ asked w route (client_of old.session) asks → IsSteady w route old.session
     → IsDueBegun due asks old new (begun.Write mark end)
     → (record { mark = mark; end = end } ≡ told_plainly) × IsPlainly w route asks old new
 due-at_once w route asks old new mark end (asking.at_once reply) e steady h =
-    let to : Due → Settled = λ due. answer_to w route (client_of old.session) asks plain due in (
+    let to : Asking → Settled = λ due. answer_to w route (client_of old.session) asks plain due in (
       told-one mark end h.0,
       record {
-        written = h.1.0 ∙ ap (λ (d : Due). old.out ++ spell_reply (to d).reply) e;
-        client = ap client_of h.1.1 ∙ ap (λ (d : Due). (to d).client) e;
+        written = h.1.0 ∙ ap (λ (d : Asking). old.out ++ spell_reply (to d).reply) e;
+        client = ap client_of h.1.1 ∙ ap (λ (d : Asking). (to d).client) e;
         accepted = ap (λ s. s.accepted) h.1.1;
         units = ap (λ s. s.units) h.1.1;
         waits_not = ap (λ s. s.waiting) h.1.1 ∙ steady.waits_not;
@@ -89,7 +93,7 @@ pub record Waits (asks : Request) (job : Work) (old mid : Served) : Type 0 where
   pub out : mid.out ≡ old.out
   pub session : mid.session ≡ record (counted old.session asks) { waiting = Some (record { request = asks; work = job }) }
 
-due-works : (asks : Request) (old mid : Served) (job : Work) (due : Due) → IsDueBegun due asks old mid (begun.Work job)
+due-works : (asks : Request) (old mid : Served) (job : Work) (due : Asking) → IsDueBegun due asks old mid (begun.Work job)
     → (due ≡ asking.works job) × Waits asks job old mid
 due-works asks old mid job (asking.at_once reply) h = let wrong = h.0 in absurd cc
 due-works asks old mid job (asking.works other) h =
@@ -97,8 +101,8 @@ due-works asks old mid job (asking.works other) h =
       ap asking.works same,
       record {
         can_begin = subst CanBegin same h.1;
-        out = h.2;
-        session = h.3 ∙ ap (λ j. record (counted old.session asks) { waiting = Some (record { request = asks; work = j }) }) same;
+        out = h.3;
+        session = h.4 ∙ ap (λ j. record (counted old.session asks) { waiting = Some (record { request = asks; work = j }) }) same;
       },
     )
 
@@ -137,22 +141,22 @@ waits-plainly : {W : Type 0} (w : world.Ghosts W) (route : Route) (asks : Reques
     → IsPlainly w route asks old new
 waits-plainly w route asks job old mid new e steady waits ended =
     let h = settled-waits w route asks job old mid new waits ended in
-    let to : Due → Settled = λ due. answer_to w route (client_of old.session) asks plain due in
+    let to : Asking → Settled = λ due. answer_to w route (client_of old.session) asks plain due in
     record {
       written = h.written ∙ ap (λ r. old.out ++ spell_reply r) h.settled.reply-is
-          ∙ ap (λ (d : Due). old.out ++ spell_reply (to d).reply) e;
-      client = h.settled.client-is ∙ ap (λ (d : Due). (to d).client) e;
+          ∙ ap (λ (d : Asking). old.out ++ spell_reply (to d).reply) e;
+      client = h.settled.client-is ∙ ap (λ (d : Asking). (to d).client) e;
       accepted = h.settled.accepted;
       units = h.settled.units;
       waits_not = h.settled.waits_no_more;
       sets = sets-meant w route old.session.sets job new.session.sets steady.sets h.settled.hits;
     }
 
-pub work-answers : {W : Type 0} (w : world.Ghosts W) (route : Route) (at : ℕ) (unit : List ℕ) (old mid new : Served)
+work-answered : {W : Type 0} (w : world.Ghosts W) (route : Route) (at : ℕ) (unit : List ℕ) (old mid new : Served)
     (job : Work) → IsBegun route at unit old mid (begun.Work job)
     → IfSome mid.session.waiting (λ waiting. IsEnded mid new waiting (plain_outcome w route job))
     → AnswersUnit w route at unit old new told_plainly
-work-answers w route at unit old mid new job h ended = λ steady.
+work-answered w route at unit old mid new job h ended = λ steady.
     let waits = met-waits (met route (progress_of at old.session) h.read) route at h.read old mid job h.begun in
     let e = sym waits.works ∙ asked_with-meant w route old.session waits.asks steady.sets in
     let plainly = waits-plainly w route waits.asks job old mid new e steady waits.waits ended in
@@ -161,3 +165,67 @@ work-answers w route at unit old mid new job h ended = λ steady.
       reading = h.reading;
       met_so = subst (λ (m : Meeting). IsMetAnswered w m route at h.read old new told_plainly) (sym waits.is_due) (refl, plainly);
     }
+
+pub work-answers : {W : Type 0} (w : world.Ghosts W) (route : Route) (at : ℕ) (unit : List ℕ) (old mid new : Served)
+    (job : Work) (answer : Result UnitAnswer Memory) → IsBegun route at unit old mid (begun.Work job)
+    → OnOk answer (IfSome mid.session.waiting (λ waiting. IsEnded mid new waiting (plain_outcome w route job)))
+    → IfOk answer (λ given. given ≡ told_plainly) → IfOk answer (AnswersUnit w route at unit old new)
+work-answers w route at unit old mid new job (Ok given) h ended plainly =
+    subst (AnswersUnit w route at unit old new) (sym plainly) (work-answered w route at unit old mid new job h ended)
+work-answers w route at unit old mid new job (Err want) h ended plainly = tt
+
+-- ---- what is written behind
+
+-- the answer to a unit that was written at once
+due-behind : (asks : Request) (old new : Served) (mark : Option Mark) (end : Option End) (due : Asking)
+    → IsDueBegun due asks old new (begun.Write mark end) → IsWrittenBehind old.out new.out (record { mark = mark; end = end })
+due-behind asks old new mark end (asking.at_once reply) h =
+    let ended : end ≡ None = let e = h.0 in cc in
+    record { more = spell_reply reply; written = h.1.0; ended = rw ended tt }
+due-behind asks old new mark end (asking.works work) h = let wrong = h.0 in absurd cc
+
+met-behind : (meeting : Meeting) (route : Route) (at : ℕ) (read : Option Request) (old new : Served) (mark : Option Mark)
+    (end : Option End) → IsMetBegun meeting route at read old new (begun.Write mark end)
+    → IsWrittenBehind old.out new.out (record { mark = mark; end = end })
+met-behind course.bad route at read old new mark end h =
+    let ended : end ≡ Some (Malformed at) = let e = h.0 in cc in
+    record { more = spell_reply bad_unit_reply; written = h.1.0; ended = rw ended tt }
+met-behind (course.beyond asks) route at read old new mark end h =
+    let ended : end ≡ Some Limited = let e = h.0 in cc in
+    record { more = spell_reply (limit_reply asks); written = h.1.0; ended = rw ended tt }
+met-behind (course.closing close) route at read old new mark end h =
+    let ended : end ≡ Some Closed = let e = h.0 in cc in
+    record { more = spell_reply (close_reply close.ref_id finished); written = h.1; ended = rw ended tt }
+met-behind (course.due asks) route at read old new mark end h =
+    due-behind asks old new mark end (asked_with (hits_named old.session.sets) route (client_of old.session) asks) h
+
+pub write-behind : (route : Route) (at : ℕ) (unit : List ℕ) (old new : Served) (mark : Option Mark) (end : Option End)
+    → IsBegun route at unit old new (begun.Write mark end) → IsWrittenBehind old.out new.out (record { mark = mark; end = end })
+write-behind route at unit old new mark end h =
+    met-behind (met route (progress_of at old.session) h.read) route at h.read old new mark end h.begun
+
+-- the answer to a unit whose work was ended
+work-written : {W : Type 0} (w : world.Ghosts W) (route : Route) (at : ℕ) (unit : List ℕ) (old mid new : Served) (job : Work)
+    → IsBegun route at unit old mid (begun.Work job)
+    → IfSome mid.session.waiting (λ waiting. IsEnded mid new waiting (plain_outcome w route job))
+    → IsWrittenBehind old.out new.out told_plainly
+work-written w route at unit old mid new job h ended =
+    let waits = met-waits (met route (progress_of at old.session) h.read) route at h.read old mid job h.begun in
+    let settled = settled-waits w route waits.asks job old mid new waits.waits ended in
+    record { more = spell_reply settled.reply; written = settled.written; ended = tt }
+
+pub work-behind : {W : Type 0} (w : world.Ghosts W) (route : Route) (at : ℕ) (unit : List ℕ) (old mid new : Served) (job : Work)
+    (answer : Result UnitAnswer Memory) → IsBegun route at unit old mid (begun.Work job)
+    → OnOk answer (IfSome mid.session.waiting (λ waiting. IsEnded mid new waiting (plain_outcome w route job)))
+    → IfOk answer (λ given. given ≡ told_plainly) → IfOk answer (IsWrittenBehind old.out new.out)
+work-behind w route at unit old mid new job (Ok given) h ended plainly =
+    subst (IsWrittenBehind old.out new.out) (sym plainly) (work-written w route at unit old mid new job h ended)
+work-behind w route at unit old mid new job (Err want) h ended plainly = tt
+
+-- nothing was written where the work could not be ended
+pub work-unwritten : (route : Route) (at : ℕ) (unit : List ℕ) (old mid : Served) (out : List ℕ) (job : Work)
+    (answer : Result UnitAnswer Memory) → IsBegun route at unit old mid (begun.Work job) → OnErr answer (out ≡ mid.out)
+    → OnErr answer (out ≡ old.out)
+work-unwritten route at unit old mid out job (Ok given) h same = tt
+work-unwritten route at unit old mid out job (Err want) h same =
+    same ∙ (met-waits (met route (progress_of at old.session) h.read) route at h.read old mid job h.begun).waits.out

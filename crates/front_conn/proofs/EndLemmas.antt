@@ -18,13 +18,13 @@ use Rattle.gateway_rules.specs.Answers.{Answers, Kind, kind_of, IsReceived, IsOp
 use Rattle.gateway_rules.specs.Course as course
 use Rattle.gateway_rules.specs.Course.{Received, octets_of, ends}
 use Rattle.gateway_rules.specs.OneAnswer.{AreMarksPlain}
-use Rattle.gateway_rules.specs.Parts.{marks_of, written_as}
+use Rattle.gateway_rules.specs.Runs.{marks_of, written_as}
 use Rattle.gateway_rules.specs.Replies.{bad_unit_reply}
 use Rattle.gateway_rules.specs.Session as session
 use Rattle.gateway_rules.specs.Session.{run, stopped}
 use Rattle.gateway_rules.specs.State.{new_client, at_the_start}
 use Rattle.gateway_rules.proofs.OneEnding.{extent-filled}
-use Rattle.gateway_rules.proofs.Parts.{rest-ends}
+use Rattle.gateway_rules.proofs.Runs.{rest-ends}
 use Rattle.front_conn.specs.States.{ConnectionState, StandsBehind, StandsOrEnded, HasEnded, BeginsWithUnits, MayCome}
 use Rattle.front_conn.specs.Steps.{KeepsState}
 use Rattle.front_conn.proofs.StateLemmas.{kind-more, kind-fed}

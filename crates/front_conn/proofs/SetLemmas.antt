@@ -13,7 +13,8 @@ use Rattle.z_types.specs.declared.requests.Request.TheVariants as request
 use Rattle.z_types.specs.declared.work.Work.{Work}
 use Rattle.z_types.specs.declared.work.Work.TheVariants as work
 use Rattle.z_types.specs.declared.world.World as world
-use Rattle.z_sets.specs.Sets.{StoredSet, stored, set_named, is_same}
+use Rattle.z_types.specs.Same.{is_same}
+use Rattle.z_sets.specs.Sets.{StoredSet, stored, set_named}
 use Rattle.route_config.specs.declared.route.Route.{Route}
 use Rattle.gateway_rules.specs.Asking.{asked, asked_with, hits_meant, known_hits, present_due, unless_refused}
 use Rattle.gateway_rules.specs.Outcomes.{plain_outcome, found}

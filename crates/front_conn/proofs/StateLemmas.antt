@@ -22,14 +22,14 @@ use Rattle.gateway_rules.specs.Course as course
 use Rattle.gateway_rules.specs.Course.{Meeting, Received, octets_of, met, met_in_place, is_in_place, after, accepts, leads_to}
 use Rattle.gateway_rules.specs.Marks.{Cause, plain, Taken, IsAllowed}
 use Rattle.gateway_rules.specs.OneAnswer.{AreMarksPlain}
-use Rattle.gateway_rules.specs.Parts.{HasRun, marks_of, written_as}
+use Rattle.gateway_rules.specs.Runs.{HasRun, marks_of, written_as}
 use Rattle.gateway_rules.specs.Replies.{bad_unit_reply, limit_reply, close_reply}
 use Rattle.gateway_rules.specs.Session as session
 use Rattle.gateway_rules.specs.Session.{Run, run, in_front, stopped, answered, reached}
 use Rattle.gateway_rules.specs.State.{Progress, ClientState}
 use Rattle.gateway_rules.specs.Statuses.{finished}
 use Rattle.limit_rules.specs.Limits.{are_units_spent}
-use Rattle.gateway_rules.proofs.Parts.{all-append, runs-go-on, units-end}
+use Rattle.gateway_rules.proofs.Runs.{all-append, runs-go-on, units-end}
 use Rattle.front_session.specs.Sessions.{SessionState, progress_of}
 use Rattle.front_z.specs.Units.{Served}
 use Rattle.front_conn.specs.States.{ConnectionState, StandsBehind, StandsOrEnded, HasEnded, BeginsWithUnits}

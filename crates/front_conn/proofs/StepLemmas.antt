@@ -1,6 +1,6 @@
 -- A step of a connection does what its contract says, by what the connection goes on with.
 use Rattle.std.proofs.Common.{◌≡◌, ℕ, Bool, false, List, ◌++◌, Option, Some, None, Result, Ok, Err, refl, sym, ◌∙◌, subst, inl, inr}
-use Rattle.std.specs.Prelude.{is_some, IsSome, OnOk, option_to_list}
+use Rattle.std.specs.Prelude.{is_some, IsSome, OnOk, OnErr, option_to_list}
 use Rattle.z_types.specs.declared.marks.End.{End}
 use Rattle.z_types.specs.declared.marks.End.TheVariants.{Malformed}
 use Rattle.z_types.specs.declared.marks.Mark.{Mark}
@@ -12,15 +12,15 @@ use Rattle.z_frame.specs.Framing.{Framing}
 use Rattle.gateway_rules.specs.Replies.{bad_unit_reply}
 use Rattle.front_session.specs.Sessions.{SessionState}
 use Rattle.front_conn.specs.States.{ConnectionState}
-use Rattle.front_conn.specs.Steps.{IsIdle, IsStepped, KeepsState, UnlessMemory, IsEndAfter}
+use Rattle.front_conn.specs.Steps.{IsIdle, IsStepped, GoesOn, KeepsState, UnlessMemory, IsEndAfter}
 use Rattle.front_conn.specs.Ahead.{AreAhead}
-use Rattle.front_conn.specs.Answering.{AnswersUnit}
+use Rattle.front_conn.specs.Answering.{AnswersUnit, EndsByUnit}
 use Rattle.front_conn.specs.declared.answer.UnitAnswer.{UnitAnswer}
 use Rattle.front_conn.specs.declared.ahead.Ahead.TheVariants.{Nothing, Ended, Bad, Whole}
 use Rattle.front_conn.specs.declared.stepped.Stepped.{Stepped}
 use Rattle.front_conn.proofs.StateLemmas.{unit-keeps, served}
 use Rattle.front_conn.proofs.EndLemmas.{end-keeps, refuse-keeps, frame-octets}
-use Rattle.front_conn.proofs.AheadLemmas.{ahead-nothing, ahead-ended, ahead-bad, ahead-whole, busy-bad, busy-whole}
+use Rattle.front_conn.proofs.AheadLemmas.{ahead-nothing, ahead-ended, ahead-bad, ahead-whole, busy-bad, busy-ended, busy-whole}
 
 -- the state of a connection with such parts
 abbrev pub state_of : Framing → SessionState → List ℕ → List Mark → Option End → Bool → ConnectionState
@@ -59,23 +59,41 @@ step-ended w route f g session out marks end has_ended old how e goes h =
     (end-keeps w route here new how
     (record { goes = goes; ended = refl; input = a.0; marks = refl; out = refl }) a.1)
 
+pub step-finished : (f g : Framing) (session : SessionState) (out : List ℕ) (marks : List Mark) (end : Option End)
+    (has_ended : Bool) (old : ConnectionState) (how : End) → state_of f session out marks end has_ended ≡ old → end ≡ None
+    → AreAhead f.rest has_ended f g (Ended how)
+    → ¬ IsIdle old × GoesOn old (state_of g session out marks (Some how) has_ended)
+step-finished f g session out marks end has_ended old how e goes h =
+    let here : ConnectionState = state_of f session out marks end has_ended in
+    let new : ConnectionState = state_of g session out marks (Some how) has_ended in
+    let a = ahead-ended f.rest has_ended f g how refl h in
+    subst (λ (o : ConnectionState). ¬ IsIdle o × GoesOn o new) e (
+      busy-ended here goes a.0,
+      (goes, refl, inr (record { left = a.2.stays.rest; at = a.2.stays.place; session = refl; marks = refl; ended = refl })),
+    )
+
 -- ---- octets that are no unit
 
 pub step-bad : (f g : Framing) (session : SessionState) (out new_out : List ℕ) (marks : List Mark)
     (end new_end : Option End) (has_ended : Bool) (old : ConnectionState) (at : ℕ) (done : Result (Unit {0}) memory.Memory)
     (answer : Stepped) → state_of f session out marks end has_ended ≡ old → end ≡ None
     → AreAhead f.rest has_ended f g (Bad at) → IsEndAfter done (Some (Malformed at)) new_end answer
-    → IsStepped old (state_of g session new_out marks new_end has_ended) answer
-step-bad f g session out new_out marks end new_end has_ended old at (Ok nothing) answer e goes h done =
+    → OnErr done (new_out ≡ out) → IsStepped old (state_of g session new_out marks new_end has_ended) answer
+step-bad f g session out new_out marks end new_end has_ended old at (Ok nothing) answer e goes h done none =
     let here : ConnectionState = state_of f session out marks end has_ended in
     let new : ConnectionState = state_of g session new_out marks new_end has_ended in
     let a = ahead-bad f.rest has_ended f g at refl h in
     let some : IsSome new_end = subst (λ (o : Option End). IsSome o) (sym done.0) refl in
     subst (λ (o : ConnectionState). IsStepped o new answer) e
-    (subst (λ (s : Stepped). IsStepped here new s) (sym done.1) (busy-bad here at goes a.0, (goes, refl, inr some)))
-step-bad f g session out new_out marks end new_end has_ended old at (Err want) answer e goes h done =
+    (subst (λ (s : Stepped). IsStepped here new s) (sym done.1) (
+      busy-bad here at goes a.0,
+      (goes, refl, inr (record { left = a.1.rest; at = a.1.place; session = refl; marks = refl; ended = some })),
+    ))
+step-bad f g session out new_out marks end new_end has_ended old at (Err want) answer e goes h done none =
     let new : ConnectionState = state_of g session new_out marks new_end has_ended in
-    subst (λ (s : Stepped). IsStepped old new s) (sym done.1) done.0
+    subst (λ (o : ConnectionState). IsStepped o new answer) e
+    (subst (λ (s : Stepped). IsStepped (state_of f session out marks end has_ended) new s) (sym done.1)
+    (record { ended = done.0; out = none; marks = refl }))
 
 pub keeps-bad : {W : Type 0} (w : world.Ghosts W) (route : Route) (f g : Framing) (session : SessionState)
     (out new_out : List ℕ) (marks : List Mark) (end new_end : Option End) (has_ended : Bool) (old : ConnectionState) (at : ℕ)
@@ -101,9 +119,9 @@ pub step-whole : (f g : Framing) (session new_session : SessionState) (out new_o
     (end new_end ended : Option End) (has_ended : Bool) (old : ConnectionState) (from to : ℕ)
     (done : Result (Unit {0}) memory.Memory) (answer : Stepped)
     → state_of f session out marks end has_ended ≡ old → end ≡ None → AreAhead f.rest has_ended f g (Whole from to)
-    → IsEndAfter done ended new_end answer
+    → IsEndAfter done ended new_end answer → OnOk done (EndsByUnit ended) → OnErr done (new_out ≡ out) → OnErr done (new_marks ≡ marks)
     → IsStepped old (state_of g new_session new_out new_marks new_end has_ended) answer
-step-whole f g session new_session out new_out marks new_marks end new_end ended has_ended old from to (Ok nothing) answer e goes h done =
+step-whole f g session new_session out new_out marks new_marks end new_end ended has_ended old from to (Ok nothing) answer e goes h done by no_out no_marks =
     let here : ConnectionState = state_of f session out marks end has_ended in
     let new : ConnectionState = state_of g new_session new_out new_marks new_end has_ended in
     let a = ahead-whole f.rest has_ended f g from to h in
@@ -118,12 +136,15 @@ step-whole f g session new_session out new_out marks new_marks end new_end ended
           whole = a.given.frame;
           filled = frame-octets g.unit a.given.frame;
           taken = a.given.spelled;
+          ended = subst EndsByUnit (sym done.0) by;
         }),
       ),
     ))
-step-whole f g session new_session out new_out marks new_marks end new_end ended has_ended old from to (Err want) answer e goes h done =
+step-whole f g session new_session out new_out marks new_marks end new_end ended has_ended old from to (Err want) answer e goes h done by no_out no_marks =
     let new : ConnectionState = state_of g new_session new_out new_marks new_end has_ended in
-    subst (λ (s : Stepped). IsStepped old new s) (sym done.1) done.0
+    subst (λ (o : ConnectionState). IsStepped o new answer) e
+    (subst (λ (s : Stepped). IsStepped (state_of f session out marks end has_ended) new s) (sym done.1)
+    (record { ended = done.0; out = no_out; marks = no_marks }))
 
 pub keeps-whole : {W : Type 0} (w : world.Ghosts W) (route : Route) (f g : Framing) (session new_session : SessionState)
     (out new_out : List ℕ) (marks new_marks : List Mark) (end new_end : Option End) (has_ended : Bool) (old : ConnectionState)

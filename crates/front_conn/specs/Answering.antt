@@ -1,12 +1,14 @@
--- How a unit is answered where targets are asked at once (ANSI/NISO Z39.50-2003, 4.2)
+-- Words of contracts alone: how a unit is answered where targets are asked at once (ANSI/NISO Z39.50-2003, 4.2)
 use Rattle.std.specs.Prelude.{◌≡◌, ℕ, ◌+◌, ◌||◌, List, ◌++◌, Option, None, Some}
 use Rattle.std.specs.List.{AllByRecursion}
+use Rattle.z_types.specs.declared.marks.End.{End}
+use Rattle.z_types.specs.declared.marks.End.TheVariants.{Closed, Malformed, Limited}
 use Rattle.z_types.specs.declared.marks.Mark.TheVariants.{Plain}
 use Rattle.z_types.specs.declared.requests.Request.{Request}
 use Rattle.z_types.specs.declared.world.World as world
 use Rattle.route_config.specs.declared.route.Route.{Route}
 use Rattle.unit_forms.specs.Replies.{spell_reply}
-use Rattle.gateway_rules.specs.Answers.{IsReading}
+use Rattle.unit_forms.specs.Reading.Units.{IsReading}
 use Rattle.gateway_rules.specs.Course as course
 use Rattle.gateway_rules.specs.Course.{Meeting, met, accepts}
 use Rattle.gateway_rules.specs.Marks.{plain}
@@ -41,6 +43,20 @@ IsMetAnswered w (course.due request) route at read old new answer =
     (answer ≡ record { mark = Some Plain; end = None }) × IsPlainly w route request old new
 IsMetAnswered w meeting route at read old new answer =
     IsMetBegun meeting route at read old new (begun.Write answer.mark answer.end)
+
+-- a unit ends the connection by itself alone, if it does: it is a Close, none or out of its place, or beyond the last
+abbrev pub EndsByUnit : Option End → Type 0
+EndsByUnit None = Unit {0}
+EndsByUnit (Some Closed) = Unit {0}
+EndsByUnit (Some (Malformed at)) = Unit {0}
+EndsByUnit (Some Limited) = Unit {0}
+EndsByUnit other = ⊥
+
+-- the answer to a unit stands behind what was written, and the connection ends by the unit alone, if it does
+pub record IsWrittenBehind (old new : List ℕ) (answer : UnitAnswer) : Type 0 where
+  pub more : List ℕ
+  pub written : new ≡ old ++ more
+  pub ended : EndsByUnit answer.end
 
 -- what a unit at an offset is read as, and what was answered to it
 pub record IsAnsweredUnit {W : Type 0} (w : world.Ghosts W) (route : Route) (at : ℕ)

@@ -1,4 +1,4 @@
--- Where a connection stands in its session (ANSI/NISO Z39.50-2003, 4.2)
+-- Words of contracts alone: where a connection stands in its session (ANSI/NISO Z39.50-2003, 4.2)
 use Rattle.std.specs.Prelude.{◌≡◌, ℕ, Bool, true, false, List, [], ◌∷◌, ◌++◌, length, Option, None, Some, Ok}
 use Rattle.std.specs.List.{AllByRecursion}
 use Rattle.z_types.specs.declared.known_set.KnownSet.{KnownSet}
@@ -12,7 +12,7 @@ use Rattle.gateway_rules.specs.Answers.{Answers, kind_of}
 use Rattle.gateway_rules.specs.Course.{Received, octets_of}
 use Rattle.gateway_rules.specs.Marks.{Cause}
 use Rattle.gateway_rules.specs.OneAnswer.{AreMarksPlain}
-use Rattle.gateway_rules.specs.Parts.{HasRunSoFar, marks_of, written_as}
+use Rattle.gateway_rules.specs.Runs.{HasRunSoFar, marks_of, written_as}
 use Rattle.gateway_rules.specs.Session as session
 use Rattle.gateway_rules.specs.Session.{Run}
 use Rattle.gateway_rules.specs.Targets.{hits_of}

@@ -1,4 +1,4 @@
--- One step of a connection (this project's own)
+-- Words of contracts alone: one step of a connection (this project's own)
 use Rattle.std.specs.Prelude.{◌≡◌, ◌⊎◌, ℕ, ◌<◌, length, false, List, [], ◌∷◌, ◌++◌, Option, None, Some, Result, Ok, Err, IsTrue, IsSome}
 use Rattle.std.specs.Char.{is_ascii_alphabetic}
 use Rattle.z_types.specs.declared.marks.End.{End}
@@ -8,6 +8,7 @@ use Rattle.z_types.specs.declared.world.World as world
 use Rattle.route_config.specs.declared.route.Route.{Route}
 use Rattle.z_ber.specs.Frames.{IsFrame}
 use Rattle.gateway_rules.specs.Answers.{IsOpen}
+use Rattle.front_conn.specs.Answering.{EndsByUnit}
 use Rattle.front_conn.specs.States.{ConnectionState, IsStateOf}
 use Rattle.front_conn.specs.declared.stepped.Stepped.{Stepped}
 use Rattle.front_conn.specs.declared.stepped.Stepped.TheVariants.{Idle, NotYet, Went, Memory}
@@ -30,26 +31,40 @@ pub record NothingWaits (state : ConnectionState) : Type 0 where
 abbrev pub IsIdle : ConnectionState → Type 0
 IsIdle state = IsSome state.end ⊎ NothingWaits state
 
--- a whole unit was taken
+-- one whole unit was taken, and the connection has ended by it alone, if it has
 pub record TakesUnit (old new : ConnectionState) : Type 0 where
   pub unit : List ℕ
   pub whole : IsFrame unit
   pub filled : 0 < length unit
   pub taken : old.left ≡ unit ++ new.left
+  pub ended : EndsByUnit new.end
 
--- a unit was taken, or the connection has ended now; the input goes on or has ended as before
+-- no unit was taken, and the connection has ended by the end of its input, or by octets that begin no unit
+pub record EndsByRest (old new : ConnectionState) : Type 0 where
+  pub left : new.left ≡ old.left
+  pub at : new.at ≡ old.at
+  pub session : new.session ≡ old.session
+  pub marks : new.marks ≡ old.marks
+  pub ended : IsSome new.end
+
+-- one unit was taken, or the connection has ended by what is left; the input goes on or has ended as before
 abbrev pub GoesOn : ConnectionState → ConnectionState → Type 0
 GoesOn old new =
-    (old.end ≡ None) × (new.has_ended ≡ old.has_ended) × (TakesUnit old new ⊎ IsSome new.end)
+    (old.end ≡ None) × (new.has_ended ≡ old.has_ended) × (TakesUnit old new ⊎ EndsByRest old new)
 
--- what a step answers: it changed nothing, exactly where there is nothing to do; or it took one
--- unit or ended the
--- connection; without memory it ended the connection so
+-- the connection has ended for want of memory: nothing was written, and no mark listed
+pub record IsOutOfMemory (old new : ConnectionState) : Type 0 where
+  pub ended : new.end ≡ Some how.Memory
+  pub out : new.out ≡ old.out
+  pub marks : new.marks ≡ old.marks
+
+-- what a step answers: it changed nothing, exactly where there is nothing to do; or it took one unit or one end; without
+-- memory it ended the connection so
 abbrev pub IsStepped : ConnectionState → ConnectionState → Stepped → Type 0
 IsStepped old new Idle = IsIdle old × (new ≡ old)
 IsStepped old new NotYet = ⊥
 IsStepped old new Went = ¬ IsIdle old × GoesOn old new
-IsStepped old new Memory = new.end ≡ Some how.Memory
+IsStepped old new Memory = IsOutOfMemory old new
 
 -- whatever was fed and written before, the connection stands in the session as before, or has ended
 abbrev pub KeepsState : {W : Type 0} → world.Ghosts W → Route → ConnectionState → ConnectionState → Type 0

@@ -1,6 +1,6 @@
 //! A connection.
 
-ghost use Rattle.std.specs.Prelude.{◌≡◌, ◌++◌, Some, None, false, OnOk, OnErr, option_to_list};
+ghost use Rattle.std.specs.Prelude.{◌≡◌, Some, None, false, OnOk, OnErr};
 ghost use Rattle.front_session.specs.Sessions.{new_session};
 ghost use Rattle.front_conn.specs.States.{nothing_yet};
 ghost use Rattle.front_conn.specs.Feeding.{with_piece, with_end, without_out};
@@ -8,16 +8,28 @@ ghost use Rattle.front_conn.specs.Steps.{IsEndAfter, IsStepped, KeepsState, Unle
 
 use crate::Stepped;
 use crate::ahead::{Ahead, look};
-use crate::answer::{UnitAnswer, answer_unit, put_bad_unit};
+use crate::answer::take_unit;
 use front_session::FrontSession;
+use gateway_rules::bad_unit_reply;
 use gw_outside::Targets;
 use route_config::Route;
 use std::alloc::Global;
 use std::marker::Model;
 use z_frame::Framer;
 use z_types::{End, List, Mark, Memory, Text};
+use z_write::put_reply;
 
 /// A connection of one client: the octets that were not taken yet, its session, and what was answered.
+///
+/// ```text
+/// new    once, first
+/// feed   for each piece that comes, until the input has ended
+/// end_input   once no more will come
+/// step   after each piece, and after the end of the input, again until it is Idle or Memory
+/// out, clear_out   after steps: what is to be written, then cleared once it is written
+/// end    tells whether it has ended: from then on feed and step do nothing
+/// marks, into_parts   last
+/// ```
 #[derive(Drop)]
 pub struct Conn {
     framer: Framer,
@@ -122,8 +134,9 @@ impl Conn {
         (self.out, self.marks)
     }
 
-    /// Answers the next unit of the client, or ends the connection: by its end, or by octets that are
-    /// no unit.
+    /// Answers the next unit of the client, or ends the connection: by the end of its input, or by octets
+    /// that are no unit. One unit or one end is taken in a step. Without memory the connection ends so;
+    /// nothing is written then, and no mark is listed.
     pub fn step<T: Targets>(&mut self, alloc: Global, route: &Route, targets: &T) -> Stepped
         ensures stepped { IsStepped self.old self.new result }
         ensures keeps { UnlessMemory result (KeepsState T.World route.now self.old self.new) }
@@ -138,31 +151,19 @@ impl Conn {
                 Stepped::Went
             }
             Ahead::Bad(at) => {
-                let put = put_bad_unit(&mut self.out);
+                let put = put_reply(&mut self.out, &bad_unit_reply());
                 end_step(&mut self.end, put, Some(End::Malformed(at)))
             }
             Ahead::Whole(start, end) => {
                 let unit = self.framer.unit(start, end);
                 let (session, out) = (&mut self.session, &mut self.out);
-                match answer_unit(alloc, session, route, unit, start, out, targets) {
-                    Ok(answer) => {
-                        let put = put_mark(&mut self.marks, answer.mark);
-                        end_step(&mut self.end, put, answer.end)
-                    }
+                let marks = &mut self.marks;
+                match take_unit(alloc, session, route, unit, start, out, marks, targets) {
+                    Ok(answer) => end_step(&mut self.end, Ok(()), answer.end),
                     Err(memory) => end_step(&mut self.end, Err(memory), None),
                 }
             }
         }
-    }
-}
-
-/// Puts the mark of a request at the end of the marks, where it has one.
-fn put_mark(marks: &mut List<Mark>, mark: Option<Mark>) -> Result<(), Memory>
-    ensures { OnOk result (marks.new ≡ marks.old ++ option_to_list mark) }
-{
-    match mark {
-        Some(mark) => marks.push(mark),
-        None => Ok(()),
     }
 }
 

@@ -9,37 +9,37 @@ use Rattle.virt_db.specs.declared.fault.DbFault.{DbFault}
 use Rattle.virt_db.specs.declared.fault.DbFault.TheVariants.{Unknown, TooMany}
 use Rattle.gateway_rules.specs.Asking as asking
 use Rattle.gateway_rules.specs.Checks.{checked}
-use Rattle.front_session.specs.Refusals.{IsRefusal, FailsWith, first_refusal}
+use Rattle.front_session.specs.Refusals.{IsRefusal, FailsWith, first_diagnostic}
 use Rattle.front_session.specs.declared.refusal.Refusal.{Refusal}
 use Rattle.front_session.specs.declared.refusal.Refusal.TheVariants.{Refused, Memory}
 
 -- the first check refuses
-pub refused : (c : Option Diag) (cs : List (Option Diag)) (e : Refusal) → IsRefusal c e → IsRefusal (first_refusal (c ∷ cs)) e
+pub refused : (c : Option Diag) (cs : List (Option Diag)) (e : Refusal) → IsRefusal c e → IsRefusal (first_diagnostic (c ∷ cs)) e
 refused c cs (Refused diag) h = rw h refl
 refused c cs Memory h = tt
 
 -- the first check passes, and a later one refuses
-pub later : (c : Option Diag) (cs : List (Option Diag)) (e : Refusal) → c ≡ None → IsRefusal (first_refusal cs) e → IsRefusal (first_refusal (c ∷ cs)) e
+pub later : (c : Option Diag) (cs : List (Option Diag)) (e : Refusal) → c ≡ None → IsRefusal (first_diagnostic cs) e → IsRefusal (first_diagnostic (c ∷ cs)) e
 later c cs e none h = rw none h
 
 -- all checks pass
-pub none_first : (c : Option Diag) (cs : List (Option Diag)) → c ≡ None → first_refusal cs ≡ None → first_refusal (c ∷ cs) ≡ None
+pub none_first : (c : Option Diag) (cs : List (Option Diag)) → c ≡ None → first_diagnostic cs ≡ None → first_diagnostic (c ∷ cs) ≡ None
 none_first c cs none h = rw none h
 
 -- where all checks pass, what comes behind them
-pub checked_passes : {A : Type 0} (cs : List (Option Diag)) (behind : Result A Diag) → first_refusal cs ≡ None → checked cs behind ≡ behind
+pub checked_passes : {A : Type 0} (cs : List (Option Diag)) (behind : Result A Diag) → first_diagnostic cs ≡ None → checked cs behind ≡ behind
 checked_passes [] behind h = refl
 checked_passes (None ∷ cs) behind h = checked_passes cs behind h
 checked_passes (Some diag ∷ cs) behind h = cc
 
 -- the first refusal is the answer
-pub checked_first : {A : Type 0} (cs : List (Option Diag)) (behind : Result A Diag) (diag : Diag) → first_refusal cs ≡ Some diag → checked cs behind ≡ Err diag
+pub checked_first : {A : Type 0} (cs : List (Option Diag)) (behind : Result A Diag) (diag : Diag) → first_diagnostic cs ≡ Some diag → checked cs behind ≡ Err diag
 checked_first [] behind diag h = cc
 checked_first (None ∷ cs) behind diag h = checked_first cs behind diag h
 checked_first (Some other ∷ cs) behind diag h = cc
 
 -- the same, of what is due
-pub due_refused : (cs : List (Option Diag)) (behind : Result asking.Due Diag) (e : Refusal) → IsRefusal (first_refusal cs) e → FailsWith (checked cs behind) e
+pub due_refused : (cs : List (Option Diag)) (behind : Result asking.Asking Diag) (e : Refusal) → IsRefusal (first_diagnostic cs) e → FailsWith (checked cs behind) e
 due_refused cs behind (Refused diag) h = checked_first cs behind diag h
 due_refused cs behind Memory h = tt
 

@@ -3,9 +3,9 @@ use Rattle.std.proofs.Common.{◌≡◌, subst, ℕ, Bool, true, false, cond, Li
 use Rattle.std.specs.List.{AllByRecursion}
 use Rattle.std.proofs.lemmas.List.Elements.{recursion_from_All}
 use Rattle.z_types.specs.declared.known_set.KnownSet.{KnownSet}
-use Rattle.z_sets.specs.Sets.{is_same}
+use Rattle.z_types.specs.Same.{is_same}
 use Rattle.front_session.specs.Presents.{IsNamed}
-use Rattle.front_session.specs.Sessions.{HasHitsOfLegs}
+use Rattle.front_session.specs.Sessions.{IsKeptSet}
 
 first_keeps : {X : Type 0} (P : X → Type 0) (b : Bool) (y x : X) (rest : Option X) → P y → (rest ≡ Some x → P x) → cond b (Some y) rest ≡ Some x → P x
 first_keeps P true y x rest here there h = let same : y ≡ x = cc in subst P same here
@@ -18,6 +18,6 @@ found_keeps P test (y ∷ ys) x all h =
     first_keeps P (test y) y x (find test ys) all.0 (found_keeps P test ys x all.1) h
 
 -- the set of a name has its hits
-pub named_keeps : (sets : List KnownSet) (name : List ℕ) (set : KnownSet) → All HasHitsOfLegs sets → IsNamed sets name set → HasHitsOfLegs set
+pub named_keeps : (sets : List KnownSet) (name : List ℕ) (set : KnownSet) → All IsKeptSet sets → IsNamed sets name set → IsKeptSet set
 named_keeps sets name set all h =
-    found_keeps HasHitsOfLegs (λ one. is_same one.name name) sets set (recursion_from_All HasHitsOfLegs sets all) h.known
+    found_keeps IsKeptSet (λ one. is_same one.name name) sets set (recursion_from_All IsKeptSet sets all) h.known

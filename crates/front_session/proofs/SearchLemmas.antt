@@ -1,21 +1,26 @@
 -- What a Search is due, by what its parts answer
-use Rattle.std.proofs.Common.{◌≡◌, ◌∙◌, ap, ℕ, List, None, Result, Ok, Err}
+use Rattle.std.proofs.Common.{◌≡◌, ◌≤◌, ◌<◌, ◌+◌, ◌^◌, ◌∙◌, ap, subst, ℕ, List, length, None, Result, Ok, Err}
+use Rattle.z_types.specs.Bounds.{most_legs}
+use Rattle.z_types.specs.declared.work.Work.{Work}
 use Rattle.z_types.specs.declared.diagnostic.Diag.{Diag}
 use Rattle.z_types.specs.declared.query.RpnQuery.{RpnQuery}
 use Rattle.z_types.specs.declared.requests.Asked.{Asked}
 use Rattle.z_types.specs.declared.requests.Asked.TheVariants.{Good, Bad}
 use Rattle.z_types.specs.declared.requests.Search.{Search}
 use Rattle.route_config.specs.declared.route.Route.{Route}
-use Rattle.limit_rules.specs.Limits.{room}
+use Rattle.limit_rules.specs.Limits.{room, most_records}
 use Rattle.virt_db.specs.Legs.{found_legs, legs_of}
+use Rattle.z_sets.specs.Askable.{IsAskableQuery}
 use Rattle.z_sets.specs.Expansion.{expanded}
 use Rattle.z_sets.specs.declared.fault.ExpandFault.{ExpandFault}
 use Rattle.gateway_rules.specs.Asking as asking
 use Rattle.gateway_rules.specs.Asking.{query_work, search_work as work_due}
 use Rattle.gateway_rules.specs.Checks.{checked, search_checks}
 use Rattle.gateway_rules.specs.State.{ClientState}
-use Rattle.front_session.specs.Refusals.{FailsWith, first_refusal}
-use Rattle.front_session.specs.Searches.{expansion_of, or_fault, search_work}
+use Rattle.gateway_rules.specs.Works.{CanBegin, IsAskable}
+use Rattle.front_session.specs.Refusals.{FailsWith, first_diagnostic}
+use Rattle.front_session.specs.Searches.{PassesChecks, expansion_of, or_fault, search_work}
+use Rattle.front_session.specs.Sessions.{HasRoomFor}
 use Rattle.front_session.specs.declared.refusal.Refusal.{Refusal}
 use Rattle.front_session.specs.declared.refusal.Refusal.TheVariants.{Refused, Memory}
 use Rattle.front_session.proofs.CheckLemmas.{checked_passes, legs_found}
@@ -45,7 +50,7 @@ query_works route client search (Good asked) query h =
 
 -- all checks pass, and the query has no expansion
 pub search_fails : (route : Route) (client : ClientState) (search : Search) (legs : List ℕ) (e : Refusal)
-    → first_refusal (search_checks route client search) ≡ None → found_legs route search.dbs ≡ Ok legs
+    → first_diagnostic (search_checks route client search) ≡ None → found_legs route search.dbs ≡ Ok legs
     → FailsWith (expansion_of search.query legs client.sets) e
     → FailsWith (checked (search_checks route client search) (query_work route client search search.query)) e
 search_fails route client search legs (Refused diag) none found h =
@@ -58,7 +63,7 @@ search_fails route client search legs Memory none found h = tt
 
 -- all checks pass, and the query has an expansion
 pub search_works : (route : Route) (client : ClientState) (search : Search) (legs : List ℕ) (query : RpnQuery)
-    → first_refusal (search_checks route client search) ≡ None → found_legs route search.dbs ≡ Ok legs
+    → first_diagnostic (search_checks route client search) ≡ None → found_legs route search.dbs ≡ Ok legs
     → expansion_of search.query legs client.sets ≡ Ok query
     → checked (search_checks route client search) (query_work route client search search.query)
     ≡ Ok (asking.works (search_work search legs query (room route.limits client.records)))
@@ -69,3 +74,12 @@ search_works route client search legs query none found h =
     checked_passes (search_checks route client search) (query_work route client search search.query) none
     ∙ query_works route client search search.query query expands
     ∙ ap (λ legs. Ok (asking.works (search_work search legs query (room route.limits client.records)))) same
+
+-- a Search that passes its checks, whose query has an expansion, may be asked of its legs
+pub search-ready : (route : Route) (search : Search) (legs : List ℕ) (query : RpnQuery) (most given : ℕ) (work : Work)
+    → work ≡ search_work search legs query most → PassesChecks route search legs → IsAskableQuery query
+    → most ≤ most_records → given + most < 2 ^ 32 → CanBegin work × IsAskable work × HasRoomFor given work
+search-ready route search legs query most given work is passes askable few fits =
+    let found = legs_found route search.dbs legs passes.found in
+    let short : length legs ≤ most_legs = subst (λ (list : List ℕ). length list ≤ most_legs) found.0 found.1 in
+    rw is ((short, few), (askable, passes.elements.0, passes.elements.1), fits)

@@ -15,11 +15,12 @@ use Rattle.z_types.specs.declared.requests.Request.TheVariants as request
 use Rattle.z_types.specs.declared.work.Work.{Work}
 use Rattle.z_types.specs.declared.work.Work.TheVariants as work
 use Rattle.z_sets.specs.Operands.{others_than}
-use Rattle.z_sets.specs.Sets.{stored, is_same, without_set}
+use Rattle.z_types.specs.Same.{is_same}
+use Rattle.z_sets.specs.Sets.{stored, without_set}
 use Rattle.gateway_rules.specs.Given.{returned}
 use Rattle.gateway_rules.specs.Settling.{why_failed, found_hits, fetched_of, sets_after, client_after}
-use Rattle.gateway_rules.specs.Works.{CanBegin, FitsWork}
-use Rattle.front_session.specs.Sessions.{SessionState, Waiting, HasHitsOfLegs, HasRoomFor, IsKept, client_of}
+use Rattle.gateway_rules.specs.Works.{CanBegin, FitsWork, IsAskable}
+use Rattle.front_session.specs.Sessions.{SessionState, Waiting, IsKeptSet, HasRoomFor, IsKept, client_of}
 use Rattle.front_session.specs.Admitting.{HasGivenHits, IsSettled}
 use Rattle.front_session.specs.Settling.{known_after, sets_behind, sets_ended, searches_behind, ended, FitsWaiting, IsSettledWith, IsSettledBy}
 use Rattle.front_session.specs.WaitingOf.{waiting_of}
@@ -76,8 +77,8 @@ pub length-without : (name : List ℕ) (sets : List KnownSet) → length (others
 length-without name sets = length-filter-le (λ set. not (is_same set.name name)) sets
 
 -- each set that is left has its hits
-pub each-without : (name : List ℕ) (sets : List KnownSet) → All HasHitsOfLegs sets → All HasHitsOfLegs (others_than name sets)
-each-without name sets h = All-filter (λ set. not (is_same set.name name)) HasHitsOfLegs sets h
+pub each-without : (name : List ℕ) (sets : List KnownSet) → All IsKeptSet sets → All IsKeptSet (others_than name sets)
+each-without name sets h = All-filter (λ set. not (is_same set.name name)) IsKeptSet sets h
 
 given-there : (sets : List KnownSet) (work : Work) (got : Outcome) → All (HasGivenHits sets work got) sets
 given-there sets work got = All-weaker (Contains sets) (HasGivenHits sets work got) (λ x h. inl h) sets (All-contains_itself sets)
@@ -95,24 +96,24 @@ marked_not_plain (work.Fetch login legs query known first count syntax element) 
 marked_not_plain (work.Scan login leg ask) mark class h = h
 
 -- each set after a Search has its hits
-pub each-after : (name : List ℕ) (work : Work) (got : Outcome) (sets : List KnownSet) → CanBegin work → FitsWork work got → All HasHitsOfLegs sets
-    → All HasHitsOfLegs (known_after (is_none (why_failed got)) name work (found_hits got) sets)
-each-after name work (outcome.Refused diag) sets can fits h = each-without name sets h
-each-after name work (outcome.Marked Plain class) sets can fits h = absurd (marked_not_plain work Plain class fits refl)
-each-after name work (outcome.Marked Link class) sets can fits h = each-without name sets h
-each-after name work (outcome.Marked (Silent looks) class) sets can fits h = each-without name sets h
-each-after name work (outcome.Marked Gone class) sets can fits h = each-without name sets h
-each-after name work (outcome.Marked (Full sessions) class) sets can fits h = each-without name sets h
-each-after name (work.Search login legs query small large medium small_element medium_element syntax room) (outcome.Found hits fetched) sets can fits h =
-    All-push HasHitsOfLegs (others_than name sets) _ (each-without name sets h) (record { few = can.0; each = fits.0 })
-each-after name (work.Search login legs query small large medium small_element medium_element syntax room) (outcome.Fetched fetched) sets can fits h = absurd fits
-each-after name (work.Search login legs query small large medium small_element medium_element syntax room) (outcome.Scanned answer) sets can fits h = absurd fits
-each-after name (work.Fetch login legs query known first count syntax element) (outcome.Found hits fetched) sets can fits h = absurd fits
-each-after name (work.Fetch login legs query known first count syntax element) (outcome.Fetched fetched) sets can fits h = h
-each-after name (work.Fetch login legs query known first count syntax element) (outcome.Scanned answer) sets can fits h = absurd fits
-each-after name (work.Scan login leg ask) (outcome.Found hits fetched) sets can fits h = absurd fits
-each-after name (work.Scan login leg ask) (outcome.Fetched fetched) sets can fits h = absurd fits
-each-after name (work.Scan login leg ask) (outcome.Scanned answer) sets can fits h = h
+pub each-after : (name : List ℕ) (work : Work) (got : Outcome) (sets : List KnownSet) → CanBegin work → IsAskable work → FitsWork work got → All IsKeptSet sets
+    → All IsKeptSet (known_after (is_none (why_failed got)) name work (found_hits got) sets)
+each-after name work (outcome.Refused diag) sets can asks fits h = each-without name sets h
+each-after name work (outcome.Marked Plain class) sets can asks fits h = absurd (marked_not_plain work Plain class fits refl)
+each-after name work (outcome.Marked Link class) sets can asks fits h = each-without name sets h
+each-after name work (outcome.Marked (Silent looks) class) sets can asks fits h = each-without name sets h
+each-after name work (outcome.Marked Gone class) sets can asks fits h = each-without name sets h
+each-after name work (outcome.Marked (Full sessions) class) sets can asks fits h = each-without name sets h
+each-after name (work.Search login legs query small large medium small_element medium_element syntax room) (outcome.Found hits fetched) sets can asks fits h =
+    All-push IsKeptSet (others_than name sets) _ (each-without name sets h) (record { few = can.0; each = fits.0; query = asks.0 })
+each-after name (work.Search login legs query small large medium small_element medium_element syntax room) (outcome.Fetched fetched) sets can asks fits h = absurd fits
+each-after name (work.Search login legs query small large medium small_element medium_element syntax room) (outcome.Scanned answer) sets can asks fits h = absurd fits
+each-after name (work.Fetch login legs query known first count syntax element) (outcome.Found hits fetched) sets can asks fits h = absurd fits
+each-after name (work.Fetch login legs query known first count syntax element) (outcome.Fetched fetched) sets can asks fits h = h
+each-after name (work.Fetch login legs query known first count syntax element) (outcome.Scanned answer) sets can asks fits h = absurd fits
+each-after name (work.Scan login leg ask) (outcome.Found hits fetched) sets can asks fits h = absurd fits
+each-after name (work.Scan login leg ask) (outcome.Fetched fetched) sets can asks fits h = absurd fits
+each-after name (work.Scan login leg ask) (outcome.Scanned answer) sets can asks fits h = h
 
 -- each set after a Search was there, or is the one that was found
 pub given-after : (name : List ℕ) (work : Work) (got : Outcome) (sets : List KnownSet) → FitsWork work got
@@ -147,13 +148,13 @@ length-after true name (work.Scan login leg ask) hits sets = omega arith
 -- ---- all of it
 
 -- the sets behind a request keep their hits
-pub each-behind : (request : Request) (work : Work) (got : Outcome) (sets : List KnownSet) → CanBegin work → FitsWork work got → All HasHitsOfLegs sets
-    → All HasHitsOfLegs (sets_behind request work (is_none (why_failed got)) (found_hits got) sets)
-each-behind (request.Init init) work got sets can fits h = h
-each-behind (request.Search search) work got sets can fits h = each-after search.set_name work got sets can fits h
-each-behind (request.Present present) work got sets can fits h = h
-each-behind (request.Scan scan) work got sets can fits h = h
-each-behind (request.Close close) work got sets can fits h = h
+pub each-behind : (request : Request) (work : Work) (got : Outcome) (sets : List KnownSet) → CanBegin work → IsAskable work → FitsWork work got → All IsKeptSet sets
+    → All IsKeptSet (sets_behind request work (is_none (why_failed got)) (found_hits got) sets)
+each-behind (request.Init init) work got sets can asks fits h = h
+each-behind (request.Search search) work got sets can asks fits h = each-after search.set_name work got sets can asks fits h
+each-behind (request.Present present) work got sets can asks fits h = h
+each-behind (request.Scan scan) work got sets can asks fits h = h
+each-behind (request.Close close) work got sets can asks fits h = h
 
 client-behind : (old : SessionState) (request : Request) (work : Work) (got : Outcome)
     → client_of (ended old (record { request = request; work = work }) (is_none (why_failed got)) (found_hits got) (returned (fetched_of got)))
@@ -216,8 +217,8 @@ length-behind (request.Close close) work is_good hits sets searches h = h
 
 -- behind a request that was settled a session keeps what it keeps
 pub end_kept : (s : SessionState) (pending : Pending) (is_good : Bool) (hits : List ℕ) (given searches : ℕ) (sets : List KnownSet) (r : Result (Unit {0}) Memory)
-    → s.waiting ≡ None → s.searches < s.units → s.units < 2 ^ 32 → given < 2 ^ 32 → length s.sets ≤ s.searches → All HasHitsOfLegs s.sets
-    → All HasHitsOfLegs (sets_ended pending is_good hits s.sets) → searches ≡ searches_behind pending.request s.searches
+    → s.waiting ≡ None → s.searches < s.units → s.units < 2 ^ 32 → given < 2 ^ 32 → length s.sets ≤ s.searches → All IsKeptSet s.sets
+    → All IsKeptSet (sets_ended pending is_good hits s.sets) → searches ≡ searches_behind pending.request s.searches
     → OnOk r (sets ≡ sets_ended pending is_good hits s.sets) → OnErr r (sets ≡ s.sets)
     → IsKept (record s { searches = searches; records = given; sets = sets })
 end_kept s pending is_good hits given searches sets r none spent units fits few each after is ok err =
@@ -227,7 +228,7 @@ end_kept s pending is_good hits given searches sets r none spent units fits few 
     let length' : length (sets_ended pending is_good hits s.sets) ≤ searches =
     rw is (length-behind pending.request pending.work is_good hits s.sets s.searches few) in
     record {
-      sets = either r (All HasHitsOfLegs) sets (sets_ended pending is_good hits s.sets) s.sets ok err after each;
+      sets = either r (All IsKeptSet) sets (sets_ended pending is_good hits s.sets) s.sets ok err after each;
       of_searches = either r (λ some. length some ≤ searches) sets (sets_ended pending is_good hits s.sets) s.sets ok err length' (omega (arith, few, low));
       of_units = omega (arith, high, spent);
       units = units;

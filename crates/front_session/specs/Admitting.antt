@@ -1,4 +1,4 @@
--- How a request is admitted and settled (ANSI/NISO Z39.50-2003, 4.2; this project's own)
+-- Words of contracts alone: how a request is admitted and settled (ANSI/NISO Z39.50-2003, 4.2; this project's own)
 use Rattle.std.specs.Prelude.{◌≡◌, ◌⊎◌, ℕ, Bool, ◌+◌, ◌||◌, List, [], None, Some, option_map, unwrap_or, Contains}
 use Rattle.std.specs.List.{AllByRecursion}
 use Rattle.z_types.specs.declared.known_set.KnownSet.{KnownSet}
@@ -11,15 +11,15 @@ use Rattle.z_types.specs.declared.work.Work.{Work}
 use Rattle.z_types.specs.declared.work.Work.TheVariants as work
 use Rattle.route_config.specs.declared.route.Route.{Route}
 use Rattle.z_sets.specs.Sets.{known_set_named}
-use Rattle.gateway_rules.specs.Asking.{Due, at_once, works, asked_with}
+use Rattle.gateway_rules.specs.Asking.{Asking, at_once, works, asked_with}
 use Rattle.gateway_rules.specs.Course.{Meeting, bad, beyond, closing, due, met, accepts, is_in_place}
 use Rattle.gateway_rules.specs.Replies.{close_reply}
 use Rattle.gateway_rules.specs.Settling.{Settled, settled}
 use Rattle.gateway_rules.specs.Statuses.{finished}
-use Rattle.gateway_rules.specs.Works.{CanBegin}
+use Rattle.gateway_rules.specs.Works.{CanBegin, IsAskable}
 use Rattle.front_session.specs.Sessions.{SessionState, Waiting, client_of, progress_of}
-use Rattle.front_session.specs.declared.due.Due.{Due as Given}
-use Rattle.front_session.specs.declared.due.Due.TheVariants as given
+use Rattle.front_session.specs.declared.asking.Asking.{Asking as Given}
+use Rattle.front_session.specs.declared.asking.Asking.TheVariants as given
 use Rattle.front_session.specs.declared.admitted.Admitted.{Admitted}
 use Rattle.front_session.specs.declared.admitted.Admitted.TheVariants as admitted
 
@@ -35,10 +35,10 @@ counted s request = record s { units = s.units + 1; accepted = s.accepted || acc
 abbrev pub waits : SessionState → Request → Waiting → SessionState
 waits s request waiting = record (counted s request) { waiting = Some waiting }
 
--- a request waits for its work, which can begin
+-- a request waits for its work, which can begin, and which its legs may be asked for
 abbrev pub IsWorkAdmitted : Work → Request → SessionState → SessionState → Admitted → Type 0
 IsWorkAdmitted work request old new (admitted.Work given) =
-    (given ≡ work) × CanBegin work × (new ≡ waits old request (record { request = request; work = work }))
+    (given ≡ work) × CanBegin work × IsAskable work × (new ≡ waits old request (record { request = request; work = work }))
 IsWorkAdmitted work request old new admitted.Memory = Unit {0}
 IsWorkAdmitted work request old new answer = ⊥
 
@@ -49,11 +49,12 @@ IsGivenAdmitted (given.AtOnce reply) request old new (admitted.Reply answer) = (
 IsGivenAdmitted (given.Works work) request old new answer = IsWorkAdmitted work request old new answer
 IsGivenAdmitted other request old new answer = ⊥
 
--- a request that is due is answered at once, or waits for its work, which can begin
-abbrev pub IsDueAdmitted : Due → Request → SessionState → SessionState → Admitted → Type 0
+-- a request that is due is answered at once, or waits for its work, which can begin, and which its legs may be asked for
+abbrev pub IsDueAdmitted : Asking → Request → SessionState → SessionState → Admitted → Type 0
 IsDueAdmitted (at_once reply) request old new (admitted.Reply given) = (given ≡ reply) × (new ≡ counted old request)
 IsDueAdmitted (works work) request old new (admitted.Work given) =
-    (given ≡ work) × CanBegin work × (new ≡ record (counted old request) { waiting = Some (record { request = request; work = work }) })
+    (given ≡ work) × CanBegin work × IsAskable work
+    × (new ≡ record (counted old request) { waiting = Some (record { request = request; work = work }) })
 IsDueAdmitted asked request old new answer = ⊥
 
 -- a request as it is met

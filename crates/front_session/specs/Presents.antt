@@ -1,4 +1,4 @@
--- The parts of what a Present is due (this project's own)
+-- Words of contracts alone: the parts of what a Present is due (this project's own)
 use Rattle.std.specs.Prelude.{◌≡◌, ℕ, false, List, nat_abs, None, Some, Result, Ok, Err}
 use Rattle.std.specs.Borrow.{Bor}
 use Rattle.z_types.specs.MergedOrder.{total}
@@ -13,11 +13,11 @@ use Rattle.limit_rules.specs.Limits.{are_too_many}
 use Rattle.limit_rules.specs.declared.spent.Spent.{Spent}
 use Rattle.z_sets.specs.Sets.{stored, known_set_named, stored_set_named}
 use Rattle.gateway_rules.specs.Asking.{element_of, present_due}
-use Rattle.gateway_rules.specs.Checks.{set_check, is_out_of_range}
+use Rattle.gateway_rules.specs.Checks.{set_check, is_out_of_range, is_too_long}
 use Rattle.front_session.specs.declared.refusal.Refusal.{Refusal}
 use Rattle.front_session.specs.Admitting.{hits_named}
 use Rattle.front_session.specs.Refusals.{AnswersDue, IsRefusal, client_with}
-use Rattle.front_session.specs.declared.due.Due.{Due}
+use Rattle.front_session.specs.declared.asking.Asking.{Asking}
 
 -- the set of a name, with its hits and without them
 pub record IsNamed (sets : List KnownSet) (name : List ℕ) (set : KnownSet) : Type 0 where
@@ -29,11 +29,12 @@ abbrev pub AnswersSet : List KnownSet → List ℕ → Result (Bor KnownSet) Ref
 AnswersSet sets name (Ok set) = (set_check (stored_set_named name sets) name ≡ None) × IsNamed sets name set.now
 AnswersSet sets name (Err refusal) = IsRefusal (set_check (stored_set_named name sets) name) refusal
 
--- the set that a Present names has its records, and they are not too many
+-- the set that a Present names has its records, they are not too many, and the name of their element set is not too long
 pub record MayFetch (limits : Limits) (spent : Spent) (sets : List KnownSet) (present : Present) (set : KnownSet) : Type 0 where
   pub named : IsNamed sets present.set_name set
   pub range : is_out_of_range present (total set.hits) ≡ false
   pub number : are_too_many limits spent.records present.number ≡ false
+  pub element : is_too_long (element_of present.element) ≡ false
 
 -- what a Present asks of its set
 abbrev pub fetch_work : Present → KnownSet → Work
@@ -42,7 +43,7 @@ fetch_work present set =
     (element_of present.element)
 
 -- what a Present is due, where its client has spent so much and has these sets
-abbrev pub AnswersPresent : Route → Spent → List KnownSet → Present → Result Due Refusal → Type 0
+abbrev pub AnswersPresent : Route → Spent → List KnownSet → Present → Result Asking Refusal → Type 0
 AnswersPresent route spent sets present answer =
     AnswersDue
     (present_due route (client_with spent sets) present (stored_set_named present.set_name sets)

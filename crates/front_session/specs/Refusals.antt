@@ -1,4 +1,4 @@
--- How checks answer (this project's own)
+-- Words of contracts alone: how checks answer (this project's own)
 use Rattle.std.specs.Prelude.{◌≡◌, ℕ, List, [], ◌∷◌, map, Option, None, Some, Result, Ok, Err}
 use Rattle.std.specs.Borrow.{Bor}
 use Rattle.z_types.specs.declared.diagnostic.Diag.{Diag}
@@ -14,12 +14,12 @@ use Rattle.gateway_rules.specs.Asking as asking
 use Rattle.gateway_rules.specs.Checks.{not_found, not_served}
 use Rattle.gateway_rules.specs.Replies.{failed}
 use Rattle.gateway_rules.specs.State.{ClientState}
-use Rattle.gateway_rules.specs.Works.{CanBegin}
+use Rattle.gateway_rules.specs.Works.{CanBegin, IsAskable}
 use Rattle.front_session.specs.Sessions.{HasRoomFor}
 use Rattle.front_session.specs.declared.refusal.Refusal.{Refusal}
 use Rattle.front_session.specs.declared.refusal.Refusal.TheVariants.{Refused, Memory}
-use Rattle.front_session.specs.declared.due.Due.{Due}
-use Rattle.front_session.specs.declared.due.Due.TheVariants.{AtOnce, Works}
+use Rattle.front_session.specs.declared.asking.Asking.{Asking}
+use Rattle.front_session.specs.declared.asking.Asking.TheVariants.{AtOnce, Works}
 
 -- a check refuses with its diagnostic; want of memory has no cause
 abbrev pub IsRefusal : Option Diag → Refusal → Type 0
@@ -32,15 +32,15 @@ AnswersCheck check (Ok passed) = check ≡ None
 AnswersCheck check (Err refusal) = IsRefusal check refusal
 
 -- the diagnostic of the first check that refuses
-abbrev pub first_refusal : List (Option Diag) → Option Diag
-first_refusal [] = None
-first_refusal (None ∷ checks) = first_refusal checks
-first_refusal (Some diag ∷ checks) = Some diag
+abbrev pub first_diagnostic : List (Option Diag) → Option Diag
+first_diagnostic [] = None
+first_diagnostic (None ∷ checks) = first_diagnostic checks
+first_diagnostic (Some diag ∷ checks) = Some diag
 
 -- all checks pass, and this is so of what they give; or the first that refuses does so with its diagnostic
 abbrev pub AnswersChecks : {A : Type 0} → List (Option Diag) → (A → Type 0) → Result A Refusal → Type 0
-AnswersChecks checks Gives (Ok x) = (first_refusal checks ≡ None) × Gives x
-AnswersChecks checks Gives (Err refusal) = IsRefusal (first_refusal checks) refusal
+AnswersChecks checks Gives (Ok x) = (first_diagnostic checks ≡ None) × Gives x
+AnswersChecks checks Gives (Err refusal) = IsRefusal (first_diagnostic checks) refusal
 
 -- what is asked for, or the diagnostic of a form that is not served
 abbrev pub AnswersAsked : {A : Type 0} → Asked A → Result (Bor A) Refusal → Type 0
@@ -53,7 +53,7 @@ AnswersLegs route names (Ok legs) = found_legs route names ≡ Ok legs
 AnswersLegs route names (Err refusal) = IsRefusal (not_found (found_legs route names)) refusal
 
 -- what the definitions call what is due
-abbrev pub due_of : Due → asking.Due
+abbrev pub due_of : Asking → asking.Asking
 due_of (AtOnce reply) = asking.at_once reply
 due_of (Works work) = asking.works work
 
@@ -63,7 +63,7 @@ FailsWith wanted (Refused diag) = wanted ≡ Err diag
 FailsWith wanted Memory = Unit {0}
 
 -- what is due, or the diagnostic of a request that fails
-abbrev pub AnswersDue : Result asking.Due Diag → Result Due Refusal → Type 0
+abbrev pub AnswersDue : Result asking.Asking Diag → Result Asking Refusal → Type 0
 AnswersDue due (Ok given) = due ≡ Ok (due_of given)
 AnswersDue due (Err refusal) = FailsWith due refusal
 
@@ -71,13 +71,13 @@ AnswersDue due (Err refusal) = FailsWith due refusal
 abbrev pub client_with : Spent → List KnownSet → ClientState
 client_with spent sets = record { searches = spent.searches; records = spent.records; sets = map stored sets }
 
--- a work can begin, and its records can be spent
-abbrev pub IsReady : Spent → Due → Type 0
+-- a work can begin, its legs may be asked for it, and its records can be spent
+abbrev pub IsReady : Spent → Asking → Type 0
 IsReady spent (AtOnce reply) = Unit {0}
-IsReady spent (Works work) = CanBegin work × HasRoomFor spent.records work
+IsReady spent (Works work) = CanBegin work × IsAskable work × HasRoomFor spent.records work
 
 -- what is given for what is due: a request that a check refuses fails at once
-abbrev pub IsGiven : Request → Result Due Refusal → Due → Type 0
+abbrev pub IsGiven : Request → Result Asking Refusal → Asking → Type 0
 IsGiven request (Ok due) given = given ≡ due
 IsGiven request (Err (Refused diag)) given = given ≡ AtOnce (failed request diag)
 IsGiven request (Err Memory) given = ⊥

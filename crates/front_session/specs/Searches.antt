@@ -1,5 +1,5 @@
--- The parts of what a Search is due (this project's own)
-use Rattle.std.specs.Prelude.{◌≡◌, ℕ, List, None, Result, Ok, Err}
+-- Words of contracts alone: the parts of what a Search is due (this project's own)
+use Rattle.std.specs.Prelude.{◌≡◌, ℕ, List, false, None, Result, Ok, Err}
 use Rattle.z_types.specs.declared.conditions.Condition.TheVariants as condition
 use Rattle.z_types.specs.declared.diagnostic.Diag.{Diag}
 use Rattle.z_types.specs.declared.known_set.KnownSet.{KnownSet}
@@ -11,16 +11,26 @@ use Rattle.z_types.specs.declared.work.Work.{Work}
 use Rattle.z_types.specs.declared.work.Work.TheVariants as work
 use Rattle.limit_rules.specs.declared.spent.Spent.{Spent}
 use Rattle.route_config.specs.declared.route.Route.{Route}
+use Rattle.virt_db.specs.Legs.{found_legs}
 use Rattle.z_sets.specs.Sets.{StoredSet}
 use Rattle.z_sets.specs.Expansion.{expanded}
 use Rattle.z_sets.specs.declared.fault.ExpandFault.{ExpandFault}
 use Rattle.z_sets.specs.declared.fault.ExpandFault.TheVariants as fault
 use Rattle.gateway_rules.specs.Asking.{search_due}
-use Rattle.gateway_rules.specs.Checks.{no_expansion}
+use Rattle.gateway_rules.specs.Checks.{is_too_long, no_expansion}
 use Rattle.front_session.specs.Refusals.{AnswersDue, client_with}
-use Rattle.front_session.specs.declared.due.Due.{Due}
+use Rattle.front_session.specs.declared.asking.Asking.{Asking}
 use Rattle.front_session.specs.declared.refusal.Refusal.{Refusal}
 use Rattle.front_session.specs.declared.refusal.Refusal.TheVariants.{Refused, Memory}
+
+-- no name of an element set of a Search is too long
+abbrev pub HasShortElements : Search → Type 0
+HasShortElements search = (is_too_long search.small_element ≡ false) × (is_too_long search.medium_element ≡ false)
+
+-- no check of a Search refuses: its legs are found, and no name of its element sets is too long
+pub record PassesChecks (route : Route) (search : Search) (legs : List ℕ) : Type 0 where
+  pub found : found_legs route search.dbs ≡ Ok legs
+  pub elements : HasShortElements search
 
 -- an expansion, or the diagnostic of its fault
 abbrev pub or_fault : Result RpnQuery ExpandFault → Result RpnQuery Diag
@@ -44,5 +54,5 @@ search_work search legs query room =
     search.syntax room
 
 -- what a Search is due, where its client has spent so much and has these sets
-abbrev pub AnswersSearch : Route → Spent → List KnownSet → Search → Result Due Refusal → Type 0
+abbrev pub AnswersSearch : Route → Spent → List KnownSet → Search → Result Asking Refusal → Type 0
 AnswersSearch route spent sets search answer = AnswersDue (search_due route (client_with spent sets) search) answer

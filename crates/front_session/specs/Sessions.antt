@@ -1,14 +1,15 @@
--- What is kept of a client between its requests (this project's own)
+-- Words of contracts alone: what is kept of a client between its requests (this project's own)
 use Rattle.std.specs.Prelude.{◌≡◌, ◌<◌, ◌≤◌, ◌+◌, ◌^◌, ℕ, Bool, false, List, [], map, length, All, Option, None, IfSome}
 use Rattle.z_types.specs.declared.known_set.KnownSet.{KnownSet}
 use Rattle.z_types.specs.declared.requests.Request.{Request}
 use Rattle.z_types.specs.declared.work.Work.{Work}
 use Rattle.z_types.specs.declared.work.Work.TheVariants as work
+use Rattle.z_sets.specs.Askable.{IsAskableQuery}
 use Rattle.z_sets.specs.Sets.{stored}
 use Rattle.limit_rules.specs.declared.spent.Spent.{Spent}
 use Rattle.z_types.specs.Bounds.{most_legs}
 use Rattle.gateway_rules.specs.State.{ClientState, Progress}
-use Rattle.gateway_rules.specs.Works.{CanBegin}
+use Rattle.gateway_rules.specs.Works.{CanBegin, IsAskable}
 
 -- a request that waits for what comes of its work
 pub record Waiting : Type 0 where
@@ -42,10 +43,12 @@ spent_of s = record { units = s.units; searches = s.searches; records = s.record
 
 -- ---- what a session keeps
 
--- a set has hits of each of its legs, which are not too many
-pub record HasHitsOfLegs (set : KnownSet) : Type 0 where
+-- A set has hits of each of its legs, which are not too many. Targets may be asked for its query: no operand is a result
+-- set, its numbers are within their range, and it is within the bounds of queries.
+pub record IsKeptSet (set : KnownSet) : Type 0 where
   pub few : length set.legs ≤ most_legs
   pub each : length set.hits ≡ length set.legs
+  pub query : IsAskableQuery set.query
 
 -- after `records` records, those of a work can be counted by a number of 32 bits
 abbrev pub HasRoomFor : ℕ → Work → Type 0
@@ -54,15 +57,16 @@ HasRoomFor records (work.Search login legs query small large medium small_elemen
 HasRoomFor records (work.Fetch login legs query hits first count syntax element) = records + count < 2 ^ 32
 HasRoomFor records (work.Scan login leg ask) = Unit {0}
 
--- a work that waits can begin, a Search that waits can be counted, and so can the records
+-- a work that waits can begin, its legs may be asked for it, a Search that waits can be counted, and so can the records
 pub record CanWait (s : SessionState) (waiting : Waiting) : Type 0 where
   pub begins : CanBegin waiting.work
+  pub asks : IsAskable waiting.work
   pub searches : s.searches < s.units
   pub records : HasRoomFor s.records waiting.work
 
 -- each search took a unit, and each set a search; units and records are numbers of 32 bits
 pub record IsKept (s : SessionState) : Type 0 where
-  pub sets : All HasHitsOfLegs s.sets
+  pub sets : All IsKeptSet s.sets
   pub of_searches : length s.sets ≤ s.searches
   pub of_units : s.searches ≤ s.units
   pub units : s.units < 2 ^ 32

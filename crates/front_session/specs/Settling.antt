@@ -1,4 +1,4 @@
--- The parts of what an outcome leaves (this project's own)
+-- Words of contracts alone: the parts of what an outcome leaves (this project's own)
 use Rattle.std.specs.Prelude.{◌≡◌, ◌+◌, ℕ, Bool, true, false, List, [], ◌∷◌, ◌++◌, is_none, Option, None, Some}
 use Rattle.z_types.specs.declared.diagnostic.Diag.{Diag}
 use Rattle.z_types.specs.declared.known_set.KnownSet.{KnownSet}
@@ -21,7 +21,7 @@ use Rattle.gateway_rules.specs.Works.{FitsWork}
 use Rattle.front_session.specs.Sessions.{SessionState, Waiting}
 use Rattle.front_session.specs.Admitting.{IsSettled}
 use Rattle.front_session.specs.declared.settle.Answer.{Answer}
-use Rattle.front_session.specs.declared.settle.Parts.{Parts}
+use Rattle.front_session.specs.declared.settle.OutcomeParts.{OutcomeParts}
 use Rattle.front_session.specs.declared.settle.Pending.{Pending}
 
 -- a request waits, and the outcome fits its work
@@ -35,7 +35,7 @@ IsSettledBy None old new outcome reply = ⊥
 IsSettledBy (Some waiting) old new outcome reply = IsSettled old new waiting outcome reply
 
 -- the parts of an outcome that is none but why the request fails
-abbrev pub only_why : Option Diag → Parts
+abbrev pub only_why : Option Diag → OutcomeParts
 only_why why = record { why = why; hits = []; fetched = fetched.None; scanned = record { position = None; entries = [] } }
 
 -- the reply to a request that did not fail, by the parts of its outcome
@@ -47,12 +47,12 @@ good_reply_by (request.Scan scan) work hits records scanned = reply.Scan scan.re
 good_reply_by (request.Close close) work hits records scanned = close_reply close.ref_id finished
 
 -- the reply to a request, by the parts of its outcome
-abbrev pub reply_of : Option Diag → Request → Work → Parts → Reply
+abbrev pub reply_of : Option Diag → Request → Work → OutcomeParts → Reply
 reply_of (Some diag) request work parts = failed request diag
 reply_of None request work parts = good_reply_by request work parts.hits parts.fetched parts.scanned
 
 -- the reply to a request that waits
-abbrev pub reply_by_parts : Pending → Parts → Reply
+abbrev pub reply_by_parts : Pending → OutcomeParts → Reply
 reply_by_parts pending parts = reply_of parts.why pending.request pending.work parts
 
 -- the reply to a request that waits and did not fail
@@ -60,7 +60,7 @@ abbrev pub good_reply_to : Pending → List ℕ → Fetched → ScanAnswer → R
 good_reply_to pending hits records scanned = good_reply_by pending.request pending.work hits records scanned
 
 -- the parts of an outcome, each empty where it has no such part
-pub record ArePartsOf (outcome : Outcome) (parts : Parts) : Type 0 where
+pub record ArePartsOf (outcome : Outcome) (parts : OutcomeParts) : Type 0 where
   pub why : parts.why ≡ why_failed outcome
   pub hits : parts.hits ≡ found_hits outcome
   pub fetched : parts.fetched ≡ fetched_of outcome

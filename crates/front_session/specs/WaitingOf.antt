@@ -1,4 +1,4 @@
--- A request that waits, as contracts see it (this project's own)
+-- Words of contracts alone: a request that waits, as contracts see it (this project's own)
 use Rattle.front_session.specs.Sessions.{Waiting}
 use Rattle.front_session.specs.declared.settle.Pending.{Pending}
 

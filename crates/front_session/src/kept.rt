@@ -5,7 +5,7 @@ ghost use Rattle.front_session.specs.Settling.{known_after, set_name_of, sets_en
 
 use crate::settle::Pending;
 use std::alloc::Global;
-use z_sets::{put_set, remove_set};
+use z_sets::{remove_set, store_set};
 use z_types::{KnownSet, List, Memory, Request, Text, Work, copy};
 
 /// The sets behind a request with the hits that it found: a Search changes them. Without memory nothing
@@ -84,7 +84,7 @@ fn keep(
                 query,
                 hits,
             };
-            put_set(alloc, sets, set)
+            store_set(alloc, sets, set)
         }
         _ => Ok(()),
     }

@@ -3,18 +3,16 @@
 #![tactic(auto)]
 
 mod admitted;
+mod asking;
 mod check;
-mod due;
 mod kept;
 mod limited;
 mod present;
 mod refusal;
-mod replies;
 mod scan;
 mod search;
 mod session;
 mod settle;
 
 pub use admitted::Admitted;
-pub use replies::close_reply;
 pub use session::FrontSession;

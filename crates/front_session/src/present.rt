@@ -5,17 +5,17 @@ ghost use Rattle.z_types.specs.MergedOrder as merged_order;
 ghost use Rattle.z_sets.specs.Sets.{stored};
 ghost use Rattle.limit_rules.specs.Limits.{are_too_many};
 ghost use Rattle.gateway_rules.specs.Asking as asking;
-ghost use Rattle.gateway_rules.specs.Checks.{is_out_of_range, number_check, present_checks, range_check};
+ghost use Rattle.gateway_rules.specs.Checks.{element_check, is_out_of_range, is_too_long, number_check, present_checks, range_check};
 ghost use Rattle.front_session.specs.Admitting.{hits_named};
 ghost use Rattle.front_session.specs.Presents.{AnswersPresent, AnswersSet, MayFetch, fetch_work};
 ghost use Rattle.front_session.specs.Refusals.{AnswersCheck, AnswersChecks, IsReady, client_with, due_of};
-ghost use Rattle.front_session.specs.Sessions.{HasHitsOfLegs};
+ghost use Rattle.front_session.specs.Sessions.{IsKeptSet};
 
+use crate::asking::Asking;
 use crate::check::{is_too_long, refuse_where, served_form};
-use crate::due::Due;
 use crate::limited::are_too_many;
 use crate::refusal::Refusal;
-use crate::replies::present_reply;
+use gateway_rules::present_reply;
 use limit_rules::Spent;
 use multi_merge::total;
 use route_config::Route;
@@ -32,8 +32,8 @@ pub(crate) fn present_due(
     spent: &Spent,
     sets: &List<KnownSet>,
     present: &Present,
-) -> Result<Due, Refusal>
-    requires kept { All HasHitsOfLegs sets.now }
+) -> Result<Asking, Refusal>
+    requires kept { All IsKeptSet sets.now }
     ensures due { AnswersPresent route.now spent.now sets.now present.now result }
     ensures ready { IfOk result (IsReady spent.now) }
 {
@@ -54,12 +54,20 @@ fn check_present<'a>(
         (λ set. MayFetch route.now.limits spent.now sets.now present.now set.now) result }
 {
     let element = served_form(&present.element)?;
-    let is_long = is_too_long(element);
-    refuse_where(alloc, is_long, Condition::ElementSetNameNotValid, b"long")?;
+    check_element(alloc, element)?;
     let set = check_set(alloc, sets, &present.set_name)?;
     check_range(alloc, present, set)?;
     check_number(alloc, &route.parts().limits, spent, present)?;
     Ok(set)
+}
+
+/// Refuses where the element set name of a Present is too long.
+fn check_element(alloc: Global, element: &Option<Text>) -> Result<(), Refusal>
+    ensures check { AnswersCheck (element_check (Asked.Good element.now)) result }
+    ensures short { IfOk result (λ passed. is_too_long element.now ≡ false) }
+{
+    let is_long = is_too_long(element);
+    refuse_where(alloc, is_long, Condition::ElementSetNameNotValid, b"long")
 }
 
 /// The set of a name, where there is one.
@@ -114,10 +122,11 @@ fn fetch_due(
     spent: &Spent,
     present: &Present,
     set: &KnownSet,
-) -> Result<Due, Memory>
+) -> Result<Asking, Memory>
     requires range { is_out_of_range present.now (merged_order.total set.now.hits) ≡ false }
     requires number { are_too_many limits.now spent.now.records present.now.number ≡ false }
-    requires each { HasHitsOfLegs set.now }
+    requires each { IsKeptSet set.now }
+    requires element { is_too_long (asking.element_of present.now.element) ≡ false }
     ensures due { IfOk result (λ due. due_of due
         ≡ asking.fetch_work present.now set.now.hits (Some (stored set.now))) }
     ensures ready { IfOk result (IsReady spent.now) }
@@ -126,9 +135,9 @@ fn fetch_due(
     let _given = spent.records;
     if present.number == 0 {
         let reply = present_reply(present, set.hits.as_slice(), Fetched::None)?;
-        return Ok(Due::AtOnce(reply));
+        return Ok(Asking::AtOnce(reply));
     }
-    Ok(Due::Works(fetch_work(present, set)?))
+    Ok(Asking::Works(fetch_work(present, set)?))
 }
 
 /// The work of a Present from its set.

@@ -1,6 +1,7 @@
 //! What a Scan asks, once its checks have passed (ANSI/NISO Z39.50-2003, 3.2.8.1).
 
-ghost use Rattle.std.specs.Prelude.{◌≡◌, IfOk, nat_lt};
+ghost use Rattle.std.specs.Prelude.{◌≡◌, ◌≤◌, IfOk, nat_lt};
+ghost use Rattle.z_types.specs.Numbers.{IfGood, ScanHasNumbers};
 ghost use Rattle.z_types.specs.QueryMeasures.{leaf_cost};
 ghost use Rattle.z_types.specs.Bounds.{most_query_cost};
 ghost use Rattle.gateway_rules.specs.Asking as asking;
@@ -8,8 +9,8 @@ ghost use Rattle.gateway_rules.specs.Checks.{cost_check, scan_checks, terms_chec
 ghost use Rattle.front_session.specs.Refusals.{AnswersCheck, AnswersChecks, AnswersDue};
 ghost use Rattle.front_session.specs.Scans.{IsAskedOf, IsScan};
 
+use crate::asking::Asking;
 use crate::check::{check_databases, refuse_where, served_form};
-use crate::due::Due;
 use crate::refusal::Refusal;
 use route_config::Route;
 use std::alloc::Global;
@@ -19,12 +20,13 @@ use z_types::{Attr, Condition, List, MOST_QUERY_COST, Measures, Scan, ScanAsk, T
 const MOST_TERMS: u32 = 1000;
 
 /// What a Scan asks of its leg, or why it fails.
-pub(crate) fn scan_due(alloc: Global, route: &Route, scan: &Scan) -> Result<Due, Refusal>
+pub(crate) fn scan_due(alloc: Global, route: &Route, scan: &Scan) -> Result<Asking, Refusal>
+    requires numbers { IfGood scan.now.ask ScanHasNumbers }
     ensures due { AnswersDue (asking.scan_due route.now scan.now) result }
     ensures scans { IfOk result IsScan }
 {
     let (ask, leg) = check_scan(alloc, route, scan)?;
-    Ok(Due::Works(Work::Scan {
+    Ok(Asking::Works(Work::Scan {
         login: None,
         leg,
         ask: copy(ask)?,
@@ -37,6 +39,7 @@ fn check_scan<'a>(
     route: &Route,
     scan: &'a Scan,
 ) -> Result<(&'a ScanAsk, u32), Refusal>
+    requires numbers { IfGood scan.now.ask ScanHasNumbers }
     ensures { AnswersChecks (scan_checks route.now scan.now)
         (λ both. IsAskedOf route.now scan.now both.0.now both.1) result }
 {
@@ -64,7 +67,8 @@ fn check_terms(alloc: Global, ask: &ScanAsk) -> Result<(), Refusal>
 
 /// Refuses where the attributes and the term of a Scan cost too much.
 fn check_cost(alloc: Global, ask: &ScanAsk) -> Result<(), Refusal>
-    ensures { AnswersCheck (cost_check ask.now) result }
+    ensures check { AnswersCheck (cost_check ask.now) result }
+    ensures cheap { IfOk result (λ passed. leaf_cost ask.now.attrs ask.now.term ≤ most_query_cost) }
 {
     let is_costly = is_costly(&ask.attrs, &ask.term);
     refuse_where(alloc, is_costly, Condition::ResourcesExhausted, b"query")

@@ -1,15 +1,17 @@
 //! What a Search asks, once its checks have passed (ANSI/NISO Z39.50-2003, 3.2.2.1).
 
-ghost use Rattle.std.specs.Prelude.{◌≡◌, ◌+◌, ◌<◌, ◌^◌, Ok, length, map, IfOk};
-ghost use Rattle.z_sets.specs.Sets.{stored, stored_set_named, without_hits};
+ghost use Rattle.std.specs.Prelude.{◌≡◌, ◌+◌, ◌<◌, ◌≤◌, ◌^◌, length, All, IfOk};
+ghost use Rattle.z_types.specs.Numbers.{IfGood, QueryHasNumbers};
+ghost use Rattle.z_sets.specs.Askable.{IsAskableQuery};
+ghost use Rattle.z_sets.specs.Sets.{stored_set_named, without_hits};
 ghost use Rattle.limit_rules.specs.Limits as limits_of;
-ghost use Rattle.virt_db.specs.Legs.{found_legs};
 ghost use Rattle.gateway_rules.specs.Checks.{elements_check, name_checks, search_checks, searches_check};
 ghost use Rattle.front_session.specs.Refusals.{AnswersCheck, AnswersChecks, AnswersResult, IsReady, Passes, client_with};
-ghost use Rattle.front_session.specs.Searches.{AnswersSearch, IsNoExpansion, expansion_of, search_work};
+ghost use Rattle.front_session.specs.Searches.{AnswersSearch, HasShortElements, IsNoExpansion, PassesChecks, expansion_of, search_work};
+ghost use Rattle.front_session.specs.Sessions.{IsKeptSet};
 
+use crate::asking::Asking;
 use crate::check::{check_databases, is_too_long, refuse_where, served_form};
-use crate::due::Due;
 use crate::limited::{are_searches_spent, are_sets_full};
 use crate::refusal::Refusal;
 use limit_rules::{Spent, room};
@@ -27,15 +29,17 @@ pub(crate) fn search_due(
     spent: &Spent,
     sets: &List<KnownSet>,
     search: &Search,
-) -> Result<Due, Refusal>
+) -> Result<Asking, Refusal>
     requires counted { spent.now.sets ≡ length sets.now }
+    requires kept { All IsKeptSet sets.now }
+    requires numbers { IfGood search.now.query QueryHasNumbers }
     ensures due { AnswersSearch route.now spent.now sets.now search.now result }
     ensures ready { IfOk result (IsReady spent.now) }
 {
     let legs = check_search(alloc, route, spent, sets, search)?;
     let query = expand_query(alloc, &search.query, &legs, sets)?;
     let room = room_left(&route.parts().limits, spent);
-    Ok(Due::Works(search_work(search, legs, query, room)?))
+    Ok(Asking::Works(search_work(search, legs, query, room)?))
 }
 
 /// The legs of a Search, where no check up to its query refuses.
@@ -48,7 +52,7 @@ fn check_search(
 ) -> Result<List<u32>, Refusal>
     requires counted { spent.now.sets ≡ length sets.now }
     ensures { AnswersChecks (search_checks route.now (client_with spent.now sets.now) search.now)
-        (λ legs. found_legs route.now search.now.dbs ≡ Ok legs) result }
+        (PassesChecks route.now search.now) result }
 {
     check_searches(alloc, &route.parts().limits, spent)?;
     let _query = served_form(&search.query)?;
@@ -68,7 +72,8 @@ fn check_searches(alloc: Global, limits: &Limits, spent: &Spent) -> Result<(), R
 
 /// Refuses where an element set name is too long.
 fn check_elements(alloc: Global, search: &Search) -> Result<(), Refusal>
-    ensures { AnswersCheck (elements_check search.now) result }
+    ensures check { AnswersCheck (elements_check search.now) result }
+    ensures short { IfOk result (λ passed. HasShortElements search.now) }
 {
     let is_long = is_too_long(&search.small_element) || is_too_long(&search.medium_element);
     refuse_where(alloc, is_long, Condition::ElementSetNameNotValid, b"long")
@@ -101,7 +106,11 @@ fn expand_query(
     legs: &List<u32>,
     sets: &List<KnownSet>,
 ) -> Result<RpnQuery, Refusal>
-    ensures { AnswersResult (expansion_of query.now legs.now (map stored sets.now)) result }
+    requires kept { All IsKeptSet sets.now }
+    requires numbers { IfGood query.now QueryHasNumbers }
+    ensures expansion { AnswersResult
+        (expansion_of query.now legs.now (without_hits sets.now)) result }
+    ensures askable { IfOk result IsAskableQuery }
 {
     let query = served_form(query)?;
     match expand(alloc, query, legs, sets) {
@@ -129,6 +138,7 @@ fn no_expansion(alloc: Global, fault: ExpandFault) -> Result<Refusal, Memory>
 /// How many records a client may have at its next request.
 fn room_left(limits: &Limits, spent: &Spent) -> u32
     ensures room { result ≡ limits_of.room limits.now spent.now.records }
+    ensures few { result ≤ limits_of.most_records }
     ensures fits { spent.now.records + result < 2 ^ 32 }
 {
     let _most = limits.records;

@@ -1,16 +1,17 @@
 //! A client's session.
 
 ghost use Rattle.std.specs.Prelude.{◌≡◌, ◌+◌, ◌<◌, ◌≤◌, ◌^◌, Some, None, length, All, IfOk, OnOk};
+ghost use Rattle.z_types.specs.Numbers.{HasNumbersInRange};
 ghost use Rattle.gateway_rules.specs.Course.{accepts};
-ghost use Rattle.gateway_rules.specs.Works.{CanBegin, FitsWork};
+ghost use Rattle.gateway_rules.specs.Works.{CanBegin, FitsWork, IsAskable};
 ghost use Rattle.front_session.specs.Admitting.{IsAdmitted, IsGivenAdmitted, IsWorkAdmitted, counted, is_in_place_after, waits};
 ghost use Rattle.front_session.specs.Refusals.{IsReady};
 ghost use Rattle.front_session.specs.WaitingOf.{waiting_of};
-ghost use Rattle.front_session.specs.Sessions.{CanWait, HasHitsOfLegs, HasRoomFor, IsKept, new_session, spent_of};
+ghost use Rattle.front_session.specs.Sessions.{CanWait, IsKeptSet, HasRoomFor, IsKept, new_session, spent_of};
 ghost use Rattle.front_session.specs.Settling.{FitsWaiting, IsSettledBy, IsSettledWith, ended, sets_ended};
 
 use crate::Admitted;
-use crate::due::{Due, due_for};
+use crate::asking::{Asking, due_for};
 use crate::kept::end_sets;
 use crate::limited::are_units_spent;
 use crate::settle::{Pending, answer_to, searches_behind};
@@ -64,8 +65,11 @@ impl FrontSession {
     }
 
     /// What a request is admitted as, after what its client has sent before, under one route for all of
-    /// its calls. It is `Memory` also where a number of 32 bits would not count the units.
+    /// its calls. Its numbers are within their range, as those of a request that was read are; the legs
+    /// of a work that is handed out may be asked for it. It is `Memory` also where a number of 32 bits
+    /// would not count the units.
     pub fn admit(&mut self, alloc: Global, route: &Route, request: &Request) -> Admitted
+        requires { HasNumbersInRange request.now }
         ensures { IsAdmitted route.now request.now self.old self.new result }
     {
         let spent = self.spent();
@@ -104,7 +108,7 @@ impl FrontSession {
     }
 
     /// Admits a request that is in its place.
-    fn admit_due(&mut self, request: &Request, due: Due) -> Admitted
+    fn admit_due(&mut self, request: &Request, due: Asking) -> Admitted
         requires kept { IsKept self.old }
         requires ready { IsReady (spent_of self.old) due }
         ensures { IsGivenAdmitted due request.now self.old self.new result }
@@ -113,11 +117,11 @@ impl FrontSession {
             return Admitted::Memory;
         };
         match due {
-            Due::AtOnce(reply) => {
+            Asking::AtOnce(reply) => {
                 self.count(units, request);
                 Admitted::Reply(reply)
             }
-            Due::Works(work) => self.admit_work(units, request, work),
+            Asking::Works(work) => self.admit_work(units, request, work),
         }
     }
 
@@ -126,6 +130,7 @@ impl FrontSession {
         requires kept { IsKept self.old }
         requires units { units ≡ self.old.units + 1 }
         requires begins { CanBegin work }
+        requires asks { IsAskable work }
         requires records { HasRoomFor self.old.records work }
         ensures { IsWorkAdmitted work request.now self.old self.new result }
     {
@@ -143,11 +148,12 @@ impl FrontSession {
         requires kept { IsKept self.old }
         requires units { units ≡ self.old.units + 1 }
         requires begins { CanBegin pending.work }
+        requires asks { IsAskable pending.work }
         requires records { HasRoomFor self.old.records pending.work }
         ensures { self.new ≡ waits self.old request.now (waiting_of pending) }
     {
         self.count(units, request);
-        put(&mut self.pending, pending);
+        fill(&mut self.pending, pending);
     }
 
     /// What an outcome of the work that waits leaves: the reply to its request, and what is kept of the
@@ -194,8 +200,8 @@ impl FrontSession {
         requires searches { self.old.searches < self.old.units }
         requires records { self.old.records + given < 2 ^ 32 }
         requires sets { length self.old.sets ≤ self.old.searches }
-        requires each { All HasHitsOfLegs self.old.sets }
-        requires after { All HasHitsOfLegs (sets_ended pending is_good hits self.old.sets) }
+        requires each { All IsKeptSet self.old.sets }
+        requires after { All IsKeptSet (sets_ended pending is_good hits self.old.sets) }
         ensures { OnOk result (self.new ≡ ended self.old pending is_good hits given) }
     {
         self.records += given;
@@ -204,8 +210,8 @@ impl FrontSession {
     }
 }
 
-/// Puts what waits in its place.
-fn put(place: &mut Option<Pending>, pending: Pending)
+/// Fills the place of what waits.
+fn fill(place: &mut Option<Pending>, pending: Pending)
     ensures { place.new ≡ Some pending }
 {
     *place = Some(pending);

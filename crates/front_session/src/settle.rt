@@ -8,10 +8,10 @@ ghost use Rattle.gateway_rules.specs.Settling as settling;
 ghost use Rattle.gateway_rules.specs.Works.{CanBegin, FitsWork};
 ghost use Rattle.front_session.specs.Settling.{ArePartsOf, IsAnswered, good_reply_to, only_why, reply_by_parts, searches_behind};
 
-use crate::replies::{
-    FINISHED, close_reply, count_returned, failed_reply, present_reply, scan_reply, search_reply,
+use gateway_rules::{
+    count_returned, failed_reply, finished_reply, init_reply, present_reply, scan_reply,
+    search_reply,
 };
-use gateway_rules::init_reply;
 use std::alloc::Global;
 use z_types::{
     Condition, Diag, Fetched, List, Mark, Memory, Outcome, Reply, Request, ScanAnswer, Text, Work,
@@ -40,7 +40,7 @@ impl Pending {
 
 /// The parts of an outcome, each empty where it has no such part.
 #[derive(Drop)]
-struct Parts {
+struct OutcomeParts {
     /// Why the request fails.
     why: Option<Diag>,
     /// The hits that a Search found.
@@ -87,23 +87,23 @@ pub(crate) fn answer_to(
 }
 
 /// The parts of an outcome.
-fn parts_of(alloc: Global, outcome: Outcome) -> Result<Parts, Memory>
+fn parts_of(alloc: Global, outcome: Outcome) -> Result<OutcomeParts, Memory>
     ensures { IfOk result (ArePartsOf outcome) }
 {
     match outcome {
-        Outcome::Found { hits, fetched } => Ok(Parts {
+        Outcome::Found { hits, fetched } => Ok(OutcomeParts {
             why: None,
             hits,
             fetched,
             scanned: no_entries(alloc),
         }),
-        Outcome::Fetched(fetched) => Ok(Parts {
+        Outcome::Fetched(fetched) => Ok(OutcomeParts {
             why: None,
             hits: List::new(alloc),
             fetched,
             scanned: no_entries(alloc),
         }),
-        Outcome::Scanned(scanned) => Ok(Parts {
+        Outcome::Scanned(scanned) => Ok(OutcomeParts {
             why: None,
             hits: List::new(alloc),
             fetched: Fetched::None,
@@ -115,10 +115,10 @@ fn parts_of(alloc: Global, outcome: Outcome) -> Result<Parts, Memory>
 }
 
 /// The parts of an outcome that is none but why the request fails.
-fn only_why(alloc: Global, why: Option<Diag>) -> Parts
+fn only_why(alloc: Global, why: Option<Diag>) -> OutcomeParts
     ensures { result ≡ only_why why }
 {
-    Parts {
+    OutcomeParts {
         why,
         hits: List::new(alloc),
         fetched: Fetched::None,
@@ -157,12 +157,16 @@ fn marked_diag(alloc: Global, mark: Mark, class: Text) -> Result<Option<Diag>, M
 }
 
 /// The reply to the request that waits, and the hits that a Search found.
-fn reply_to(alloc: Global, pending: &Pending, parts: Parts) -> Result<(Reply, List<u32>), Memory>
+fn reply_to(
+    alloc: Global,
+    pending: &Pending,
+    parts: OutcomeParts,
+) -> Result<(Reply, List<u32>), Memory>
     requires few { returned parts.fetched ≤ most_records }
     ensures reply { IfOk result (λ both. both.0 ≡ reply_by_parts pending.now parts) }
     ensures hits { IfOk result (λ both. both.1 ≡ parts.hits) }
 {
-    let Parts {
+    let OutcomeParts {
         why,
         hits,
         fetched,
@@ -193,7 +197,7 @@ fn good_reply(
             present_reply(present, fetched_from(&pending.work), fetched)
         }
         Request::Scan(scan) => scan_reply(alloc, scan, scanned),
-        Request::Close(close) => close_reply(&close.ref_id, FINISHED),
+        Request::Close(close) => finished_reply(close),
     }
 }
 

@@ -12,7 +12,7 @@ use Rattle.z_types.specs.declared.work.Work.{Work}
 use Rattle.route_config.specs.declared.route.Route.{Route}
 use Rattle.unit_forms.specs.Replies.{spell_reply}
 use Rattle.limit_rules.specs.Limits.{are_units_spent}
-use Rattle.gateway_rules.specs.Asking.{Due, at_once, works, asked_with}
+use Rattle.gateway_rules.specs.Asking.{Asking, at_once, works, asked_with}
 use Rattle.gateway_rules.specs.Course.{Meeting, bad, beyond, met_in_place}
 use Rattle.gateway_rules.specs.Replies.{bad_unit_reply, limit_reply, close_reply}
 use Rattle.gateway_rules.specs.Statuses.{finished}
@@ -32,12 +32,12 @@ abbrev meeting_of : Bool → Bool → Request → Meeting
 meeting_of spent placed asked = if spent then beyond asked else if placed then met_in_place asked else bad
 
 -- what a request that is in its place is due
-abbrev due_of : Route → SessionState → Request → Due
+abbrev due_of : Route → SessionState → Request → Asking
 due_of route old asked = asked_with (hits_named old.sets) route (client_of old) asked
 
 -- ---- a reply at once
 
-due_replied : (due : Due) (asked : Request) (old new : SessionState) (out after : List ℕ) (reply : Reply) (answer : Begun)
+due_replied : (due : Asking) (asked : Request) (old new : SessionState) (out after : List ℕ) (reply : Reply) (answer : Begun)
     → IsDueAdmitted due asked old new (admitted.Reply reply) → answer ≡ begun.Write (Some Plain) None
     → after ≡ out ++ spell_reply reply → IsDueBegun due asked (served old out) (served new after) answer
 due_replied (at_once told) asked old new out after reply answer h a w =
@@ -89,15 +89,15 @@ pub begun-reply : (asked : Request) (route : Route) (at : ℕ) (old new : Sessio
 begun-reply asked route at old new out after reply (begun.Write mark end) h w =
     reply_met asked route at old new out after reply mark end h w.0 w.1
 begun-reply asked route at old new out after reply (begun.Work work) h w = let e = w.0 in absurd cc
-begun-reply asked route at old new out after reply begun.Memory h w = tt
+begun-reply asked route at old new out after reply begun.Memory h w = w
 
 -- ---- a work
 
-due_worked : (due : Due) (asked : Request) (old new : SessionState) (out : List ℕ) (work : Work)
+due_worked : (due : Asking) (asked : Request) (old new : SessionState) (out : List ℕ) (work : Work)
     → IsDueAdmitted due asked old new (admitted.Work work)
     → IsDueBegun due asked (served old out) (served new out) (begun.Work work)
 due_worked (at_once told) asked old new out work h = absurd h
-due_worked (works given) asked old new out work h = (ap begun.Work h.0, h.1, refl, h.2)
+due_worked (works given) asked old new out work h = (ap begun.Work h.0, h.1, h.2, refl, h.3)
 
 work_at : (spent placed : Bool) (asked : Request) (route : Route) (at : ℕ) (old new : SessionState)
     (out : List ℕ) (work : Work)
@@ -132,11 +132,11 @@ begun-work (request.Close close) route at old new out work h =
 
 -- ---- a unit out of its place, or beyond the last
 
-due_not_bad : (due : Due) (asked : Request) (old new : SessionState) → IsDueAdmitted due asked old new admitted.Bad → ⊥
+due_not_bad : (due : Asking) (asked : Request) (old new : SessionState) → IsDueAdmitted due asked old new admitted.Bad → ⊥
 due_not_bad (at_once told) asked old new h = h
 due_not_bad (works work) asked old new h = h
 
-due_not_limited : (due : Due) (asked : Request) (old new : SessionState) → IsDueAdmitted due asked old new admitted.Limited → ⊥
+due_not_limited : (due : Asking) (asked : Request) (old new : SessionState) → IsDueAdmitted due asked old new admitted.Limited → ⊥
 due_not_limited (at_once told) asked old new h = h
 due_not_limited (works work) asked old new h = h
 
@@ -179,7 +179,7 @@ pub begun-bad : (asked : Request) (route : Route) (at : ℕ) (old new : SessionS
     → IsAdmitted route asked old new admitted.Bad
     → IsWritten bad_unit_reply None (Some (Malformed at)) out after answer
     → IsRequestBegun route at asked (served old out) (served new after) answer
-begun-bad asked route at old new out after begun.Memory h w = tt
+begun-bad asked route at old new out after begun.Memory h w = w
 begun-bad asked route at old new out after (begun.Work work) h w = let e = w.0 in absurd cc
 begun-bad (request.Init init) route at old new out after (begun.Write mark end) h w =
     bad_at (are_units_spent route.limits old.units) (not old.accepted) (request.Init init) route at old new out after (begun.Write mark end) h w.0 w.1
@@ -197,7 +197,7 @@ pub begun-limited : (asked : Request) (route : Route) (at : ℕ) (old new : Sess
     → IsAdmitted route asked old new admitted.Limited
     → IsWritten (limit_reply asked) None (Some Limited) out after answer
     → IsRequestBegun route at asked (served old out) (served new after) answer
-begun-limited asked route at old new out after begun.Memory h w = tt
+begun-limited asked route at old new out after begun.Memory h w = w
 begun-limited asked route at old new out after (begun.Work work) h w = let e = w.0 in absurd cc
 begun-limited (request.Init init) route at old new out after (begun.Write mark end) h w =
     limited_at (are_units_spent route.limits old.units) (not old.accepted) (request.Init init) route at old new out after (begun.Write mark end) h w.0 w.1

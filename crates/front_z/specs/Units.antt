@@ -1,4 +1,4 @@
--- How a unit is begun and ended (ANSI/NISO Z39.50-2003, 4.2): octets of one request in, its reply's octets out
+-- Words of contracts alone: how a unit is begun and ended (ANSI/NISO Z39.50-2003, 4.2): octets of one request in, its reply's octets out
 use Rattle.std.specs.Prelude.{◌≡◌, ℕ, List, ◌++◌, Option, None, Some, Result, Ok, Err}
 use Rattle.z_types.specs.declared.marks.Mark.{Mark}
 use Rattle.z_types.specs.declared.marks.Mark.TheVariants.{Plain}
@@ -11,12 +11,12 @@ use Rattle.z_types.specs.declared.requests.Request.TheVariants as request
 use Rattle.z_types.specs.declared.outcome.Outcome.{Outcome}
 use Rattle.route_config.specs.declared.route.Route.{Route}
 use Rattle.unit_forms.specs.Replies.{spell_reply}
-use Rattle.gateway_rules.specs.Answers.{IsReading}
-use Rattle.gateway_rules.specs.Asking.{Due, at_once, works, asked_with}
+use Rattle.unit_forms.specs.Reading.Units.{IsReading}
+use Rattle.gateway_rules.specs.Asking.{Asking, at_once, works, asked_with}
 use Rattle.gateway_rules.specs.Course.{Meeting, bad, beyond, closing, due, met}
 use Rattle.gateway_rules.specs.Replies.{bad_unit_reply, limit_reply, close_reply}
 use Rattle.gateway_rules.specs.Statuses.{finished}
-use Rattle.gateway_rules.specs.Works.{CanBegin}
+use Rattle.gateway_rules.specs.Works.{CanBegin, IsAskable}
 use Rattle.front_session.specs.Sessions.{SessionState, Waiting, client_of, progress_of}
 use Rattle.front_session.specs.Admitting.{hits_named, counted, IsSettled}
 use Rattle.front_z.specs.declared.units.Begun.{Begun}
@@ -32,11 +32,11 @@ abbrev pub Writes : Served → Served → Reply → SessionState → Type 0
 Writes old new reply session = (new.out ≡ old.out ++ spell_reply reply) × (new.session ≡ session)
 
 -- a request that is due was answered at once under the mark Plain, or waits for its work
-abbrev pub IsDueBegun : Due → Request → Served → Served → Begun → Type 0
+abbrev pub IsDueBegun : Asking → Request → Served → Served → Begun → Type 0
 IsDueBegun (at_once reply) request old new answer =
     (answer ≡ begun.Write (Some Plain) None) × Writes old new reply (counted old.session request)
 IsDueBegun (works work) request old new answer =
-    (answer ≡ begun.Work work) × CanBegin work × (new.out ≡ old.out)
+    (answer ≡ begun.Work work) × CanBegin work × IsAskable work × (new.out ≡ old.out)
     × (new.session ≡ record (counted old.session request) { waiting = Some (record { request = request; work = work }) })
 
 -- what was written and kept of a unit at an offset that is met so; a bad unit, and one beyond the last, have no mark
@@ -55,9 +55,9 @@ abbrev pub end_behind : Request → Option End
 end_behind (request.Close close) = Some Closed
 end_behind other = None
 
--- a request at an offset was begun; want of memory has no cause
+-- a request at an offset was begun; want of memory has no cause, and nothing is written then
 abbrev pub IsRequestBegun : Route → ℕ → Request → Served → Served → Begun → Type 0
-IsRequestBegun route at request old new begun.Memory = Unit {0}
+IsRequestBegun route at request old new begun.Memory = new.out ≡ old.out
 IsRequestBegun route at request old new answer =
     IsMetBegun (met route (progress_of at old.session) (Some request)) route at (Some request) old new answer
 
@@ -66,9 +66,10 @@ abbrev pub IsPut : Result Unit NoMemory → Option Mark → Option End → Begun
 IsPut (Ok done) mark end answer = answer ≡ begun.Write mark end
 IsPut (Err memory) mark end answer = answer ≡ begun.Memory
 
--- a reply was written under a mark, and the connection has ended so; want of memory has no cause
+-- a reply was written under a mark, and the connection has ended so; want of memory has no cause, and nothing is written
+-- then
 abbrev pub IsWritten : Reply → Option Mark → Option End → List ℕ → List ℕ → Begun → Type 0
-IsWritten reply mark end old new begun.Memory = Unit {0}
+IsWritten reply mark end old new begun.Memory = new ≡ old
 IsWritten reply mark end old new answer = (answer ≡ begun.Write mark end) × (new ≡ old ++ spell_reply reply)
 
 -- what a unit is read as, and what is written and kept of it
@@ -77,9 +78,9 @@ pub record IsRead (route : Route) (at : ℕ) (unit : List ℕ) (old new : Served
   pub reading : IsReading unit read
   pub begun : IsMetBegun (met route (progress_of at old.session) read) route at read old new answer
 
--- a unit at an offset was begun; want of memory has no cause
+-- a unit at an offset was begun; want of memory has no cause, and nothing is written then
 abbrev pub IsBegun : Route → ℕ → List ℕ → Served → Served → Begun → Type 0
-IsBegun route at unit old new begun.Memory = Unit {0}
+IsBegun route at unit old new begun.Memory = new.out ≡ old.out
 IsBegun route at unit old new answer = IsRead route at unit old new answer
 
 -- what came of the work of the request that waited is written

@@ -1,25 +1,20 @@
 //! One unit of a client, begun and ended.
 
-ghost use Rattle.std.specs.Prelude.{◌≡◌, Some, None, IsSome, IfSome, IfOk, OnOk};
+ghost use Rattle.std.specs.Prelude.{◌≡◌, Some, None, IsSome, IfSome, OnOk, OnErr};
+ghost use Rattle.z_types.specs.Numbers.{HasNumbersInRange};
 ghost use Rattle.z_types.specs.declared.marks.Mark.TheVariants.{Plain};
 ghost use Rattle.z_types.specs.declared.marks.End.TheVariants.{Malformed, Limited};
-ghost use Rattle.gateway_rules.specs.Answers.{IsReading};
-ghost use Rattle.gateway_rules.specs.Replies.{bad_unit_reply, limit_reply, close_reply, ref_id_of};
+ghost use Rattle.gateway_rules.specs.Replies.{bad_unit_reply, limit_reply};
 ghost use Rattle.gateway_rules.specs.Works.{FitsWork};
 ghost use Rattle.front_z.specs.Units.{IsBegun, IsEnded, IsRequestBegun, IsWritten, IsPut, end_behind};
 
 use front_session::{Admitted, FrontSession};
+use gateway_rules::{bad_unit_reply, limit_reply};
 use route_config::Route;
 use std::alloc::Global;
-use z_read::{ReadFault, one_answer, read_request};
-use z_types::{Close, End, Mark, Memory, Outcome, Reply, Request, Text, Work, copy};
+use z_read::read_unit;
+use z_types::{End, Mark, Memory, Outcome, Reply, Request, Text, Work};
 use z_write::put_reply;
-
-/// CloseReason: resources.
-const RESOURCES: u32 = 4;
-
-/// CloseReason: protocolError.
-const PROTOCOL_ERROR: u32 = 6;
 
 /// What became of a unit.
 #[derive(Drop)]
@@ -34,7 +29,7 @@ pub enum Begun {
 }
 
 /// Begins a unit of a client, whose first octet is at this offset: its reply is written behind the
-/// text, or its request waits for its work.
+/// text, or its request waits for its work. Without memory nothing is written.
 pub fn begin_unit(
     alloc: Global,
     session: &mut FrontSession,
@@ -53,7 +48,8 @@ pub fn begin_unit(
     }
 }
 
-/// Ends the request that waits, by what came of its work: its reply is written behind the text.
+/// Ends the request that waits, by what came of its work: its reply is written behind the text. Without
+/// memory nothing is written.
 pub fn end_unit(
     alloc: Global,
     session: &mut FrontSession,
@@ -62,28 +58,13 @@ pub fn end_unit(
 ) -> Result<(), Memory>
     requires waits { IsSome session.old.waiting }
     requires fits { IfSome session.old.waiting (λ waiting. FitsWork waiting.work outcome) }
-    ensures { OnOk result (IfSome session.old.waiting (λ waiting.
+    ensures err { OnErr result (out.new ≡ out.old) }
+    ensures ended { OnOk result (IfSome session.old.waiting (λ waiting.
         IsEnded (record { session = session.old; out = out.old })
         (record { session = session.new; out = out.new }) waiting outcome)) }
 {
     let reply = session.settle(alloc, outcome)?;
     put_reply(out, &reply)
-}
-
-/// What a unit is read as.
-fn read_unit(alloc: Global, unit: &[u8]) -> Result<Option<Request>, Memory>
-    ensures { IfOk result (IsReading unit.now) }
-{
-    one_answer();
-    match read_request(alloc, unit) {
-        Ok(request) => Ok(Some(request)),
-        Err(ReadFault::Ber(_)) => Ok(None),
-        Err(ReadFault::UnknownUnit(_)) => Ok(None),
-        Err(ReadFault::Missing(_)) => Ok(None),
-        Err(ReadFault::BadValue(_)) => Ok(None),
-        Err(ReadFault::LeftOut(_)) => Ok(None),
-        Err(ReadFault::Memory) => Err(Memory),
-    }
 }
 
 /// Begins a request.
@@ -95,6 +76,7 @@ fn begin_request(
     at: u64,
     out: &mut Text,
 ) -> Begun
+    requires { HasNumbersInRange request.now }
     ensures { IsRequestBegun route.now at request.now
         (record { session = session.old; out = out.old })
         (record { session = session.new; out = out.new }) result }
@@ -129,43 +111,21 @@ fn put_plain(reply: &Reply, end: Option<End>, out: &mut Text) -> Begun
 fn put_bad(at: u64, out: &mut Text) -> Begun
     ensures { IsWritten bad_unit_reply None (Some (Malformed at)) out.old out.new result }
 {
-    let reply = close(None, PROTOCOL_ERROR);
-    written(put_reply(out, &reply), None, Some(End::Malformed(at)))
+    written(
+        put_reply(out, &bad_unit_reply()),
+        None,
+        Some(End::Malformed(at)),
+    )
 }
 
 /// Writes the answer to a unit beyond the last that the connection may send.
 fn put_limited(request: &Request, out: &mut Text) -> Begun
     ensures { IsWritten (limit_reply request.now) None (Some Limited) out.old out.new result }
 {
-    let Ok(ref_id) = copy(ref_id_of(request)) else {
+    let Ok(reply) = limit_reply(request) else {
         return Begun::Memory;
     };
-    let reply = close(ref_id, RESOURCES);
     written(put_reply(out, &reply), None, Some(End::Limited))
-}
-
-/// The referenceId of a request.
-fn ref_id_of(request: &Request) -> &Option<Text>
-    ensures { result.now ≡ ref_id_of request.now }
-{
-    match request {
-        Request::Init(init) => &init.ref_id,
-        Request::Search(search) => &search.ref_id,
-        Request::Present(present) => &present.ref_id,
-        Request::Scan(scan) => &scan.ref_id,
-        Request::Close(close) => &close.ref_id,
-    }
-}
-
-/// A Close of this reason.
-fn close(ref_id: Option<Text>, reason: u32) -> Reply
-    ensures { result ≡ close_reply ref_id reason }
-{
-    Reply::Close(Close {
-        ref_id,
-        reason,
-        info: None,
-    })
 }
 
 /// What became of a unit whose reply was put, or not for want of memory.

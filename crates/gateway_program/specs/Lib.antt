@@ -1,9 +1,0 @@
-pub mod Statuses
-pub mod Outside
-pub mod Command
-pub mod Lines
-pub mod Configs
-pub mod ConfigRead
-pub mod Outcome
-pub mod Headline
-pub mod Itself

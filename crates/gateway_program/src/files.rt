@@ -1,7 +1,7 @@
 //! The files of the system. No octets are told of them: what a file gives is taken as it comes.
 
 ghost use Rattle.std.specs.Prelude.{◌≡◌, ◌≢◌, ◌≤◌, None, IfSome};
-ghost use Rattle.gw_outside.specs.Counts.{Rose};
+ghost use Rattle.z_types.specs.Counts.{Rose};
 ghost use Rattle.gw_outside.specs.Files.{FileFits};
 
 use crate::descriptors::OpenedFile;

@@ -6,7 +6,8 @@ use Rattle.gateway_rules.specs.Course as at
 use Rattle.gateway_rules.specs.Course.{Course, Meeting, Received, course, followed, leads_to, met, after}
 use Rattle.gateway_rules.specs.Marks.{Cause, Taken}
 use Rattle.gateway_rules.specs.Session as session
-use Rattle.gateway_rules.specs.Session.{Run, Stop, run, answered, reached, in_front, goes_on, joined}
+use Rattle.gateway_rules.specs.Session.{Run, Stop, run, answered, reached, in_front}
+use Rattle.gateway_rules.proofs.Joined.{goes_on, joined}
 use Rattle.gateway_rules.specs.State.{Progress, ClientState}
 use Rattle.z_types.specs.declared.replies.Reply.{Reply}
 

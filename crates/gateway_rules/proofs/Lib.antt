@@ -2,5 +2,7 @@ pub mod OneReading
 pub mod Composition
 pub mod OneEnding
 pub mod OneAnswer
-pub mod Parts
+pub mod Runs
 pub mod SomeAnswer
+mod FairLegs
+pub mod Joined

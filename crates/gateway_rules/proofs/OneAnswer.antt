@@ -9,7 +9,7 @@ use Rattle.z_types.specs.declared.world.World as world
 use Rattle.route_config.specs.declared.route.Route.{Route}
 use Rattle.unit_forms.specs.Replies.{spell_reply}
 use Rattle.gateway_rules.specs.Asking as asking
-use Rattle.gateway_rules.specs.Asking.{Due, asked}
+use Rattle.gateway_rules.specs.Asking.{Asking, asked}
 use Rattle.gateway_rules.specs.Course as at
 use Rattle.gateway_rules.specs.Course.{Course, end_of}
 use Rattle.gateway_rules.specs.Marks.{Cause}
@@ -27,7 +27,7 @@ IsAllPlain causes = AllByRecursion (λ cause. cause.mark ≡ Plain) causes
 
 -- what is answered under a Plain mark does not ask for a class
 due-plain : {W : Type 0} (w : world.Ghosts W) (route : Route) (client : ClientState) (request : Request) (c d : Cause)
-    (due : Due) → c.mark ≡ Plain → d.mark ≡ Plain
+    (due : Asking) → c.mark ≡ Plain → d.mark ≡ Plain
     → answer_to w route client request c due ≡ answer_to w route client request d due
 due-plain w route client request c d (asking.at_once reply) e f = refl
 due-plain w route client request c d (asking.works work) e f =

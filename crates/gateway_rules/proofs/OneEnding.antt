@@ -12,7 +12,8 @@ use Rattle.z_ber.specs.Written.{tag_octets}
 use Rattle.z_ber.specs.declared.tag.Tag.{Tag}
 use Rattle.z_ber.proofs.LendLaws.{extent-one}
 use Rattle.route_config.specs.declared.route.Route.{Route}
-use Rattle.gateway_rules.specs.Answers.{IsReading, IsReceived, IsCourse, IsCourseOf, IsConnection, RestLeadsTo, Ending}
+use Rattle.gateway_rules.specs.Answers.{IsReceived, IsCourse, IsCourseOf, IsConnection, RestLeadsTo, Ending}
+use Rattle.unit_forms.specs.Reading.Units.{IsReading}
 use Rattle.gateway_rules.specs.Answers.{Kind, empty, letter, unit, kind_of}
 use Rattle.gateway_rules.specs.Course as at
 use Rattle.gateway_rules.specs.Course.{Course, Meeting, Received, octets_of, course, followed, leads_to, met, after}

@@ -16,7 +16,8 @@ use Rattle.z_ber.specs.Place.{IsUnit}
 use Rattle.route_config.specs.declared.route.Route.{Route}
 use Rattle.unit_forms.specs.Reading.Units.{request_in}
 use Rattle.unit_forms.specs.Replies.{spell_reply}
-use Rattle.gateway_rules.specs.Answers.{IsReading, IsReceived, IsCourse, IsCourseOf, IsConnection, RestLeadsTo, Answers}
+use Rattle.gateway_rules.specs.Answers.{IsReceived, IsCourse, IsCourseOf, IsConnection, RestLeadsTo, Answers}
+use Rattle.unit_forms.specs.Reading.Units.{IsReading}
 use Rattle.gateway_rules.specs.Answers.{Kind, empty, letter, unit, kind_of}
 use Rattle.gateway_rules.specs.Course as at
 use Rattle.gateway_rules.specs.Course.{Course, Received, octets_of, course, ends, followed, stands_at, end_of}

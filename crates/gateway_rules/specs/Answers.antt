@@ -1,6 +1,6 @@
 -- The answers to a client's octets (ANSI/NISO Z39.50-2003, 4.2; X.690:2021, 8.1): those of a route with private sessions and
 -- no pool, under the marks that are listed; and how the connection ends, whatever the marks
-use Rattle.std.specs.Prelude.{◌≡◌, ◌⊎◌, ℕ, List, [], ◌∷◌, ◌++◌, length, Option, None, Some, Ok, map, flat_map}
+use Rattle.std.specs.Prelude.{◌≡◌, ◌⊎◌, ℕ, List, [], ◌∷◌, ◌++◌, length, Option, None, Some, map, flat_map}
 use Rattle.std.specs.Prelude.{if◌then◌else◌, IfSome}
 use Rattle.std.specs.Char.{is_ascii_alphabetic}
 use Rattle.std.specs.List.{AllByRecursion}
@@ -9,10 +9,8 @@ use Rattle.z_types.specs.declared.marks.End.{End}
 use Rattle.z_types.specs.declared.marks.End.TheVariants.{Finished, Malformed, Cut}
 use Rattle.z_types.specs.declared.world.World as world
 use Rattle.z_ber.specs.Frames.{IsFrame}
-use Rattle.z_ber.specs.Element.{Forest}
 use Rattle.z_ber.specs.Header.{IsBadFor, IsOpenFor}
-use Rattle.z_ber.specs.Place.{IsUnit}
-use Rattle.unit_forms.specs.Reading.Units.{request_in}
+use Rattle.unit_forms.specs.Reading.Units.{IsReading}
 use Rattle.unit_forms.specs.Replies.{spell_reply}
 use Rattle.z_types.specs.Bounds.{within64}
 use Rattle.route_config.specs.declared.route.Route.{Route}
@@ -21,12 +19,6 @@ use Rattle.gateway_rules.specs.Marks.{Cause, IsAllowed}
 use Rattle.gateway_rules.specs.Replies.{bad_unit_reply}
 use Rattle.gateway_rules.specs.Session.{run, Fits}
 use Rattle.gateway_rules.specs.State.{Progress, ClientState, at_the_start, new_client}
-use Rattle.z_types.specs.declared.requests.Request.{Request}
-
--- a unit is read as this request by the table of its tag, or as none
-abbrev pub IsReading : List ℕ → Option Request → Type 0
-IsReading unit (Some request) = (tree : Forest) × IsUnit unit tree × (request_in tree ≡ Ok request)
-IsReading unit None = (tree : Forest) (request : Request) → IsUnit unit tree → request_in tree ≡ Ok request → ⊥
 
 -- ---- octets as a course
 

@@ -32,32 +32,32 @@ use Rattle.z_types.specs.declared.work.Work.TheVariants as work
 use Rattle.z_types.specs.declared.work.Work.{Work}
 
 -- a reply at once, or what is asked of the targets first
-pub data Due : Type 0 where
-  at_once : Reply → Due
-  works : Work → Due
+pub data Asking : Type 0 where
+  at_once : Reply → Asking
+  works : Work → Asking
 
 -- a request that a check refuses fails at once
-abbrev pub unless_refused : Request → Result Due Diag → Due
+abbrev pub unless_refused : Request → Result Asking Diag → Asking
 unless_refused request (Err diag) = at_once (failed request diag)
 unless_refused request (Ok due) = due
 
 -- ---- Search
 
 -- what a Search asks, once its query stands without operand sets
-abbrev pub search_work : Route → ClientState → Search → Result RpnQuery ExpandFault → Result Due Diag
+abbrev pub search_work : Route → ClientState → Search → Result RpnQuery ExpandFault → Result Asking Diag
 search_work route client search (Err fault) = Err (no_expansion fault)
 search_work route client search (Ok query) =
     Ok (works (work.Search None (legs_of route search.dbs) query search.small search.large search.medium
     search.small_element search.medium_element search.syntax (room route.limits client.records)))
 
 -- the query of a Search without operand sets
-abbrev pub query_work : Route → ClientState → Search → Asked RpnQuery → Result Due Diag
+abbrev pub query_work : Route → ClientState → Search → Asked RpnQuery → Result Asking Diag
 query_work route client search (Bad diag) = Err diag
 query_work route client search (Good query) =
     search_work route client search (expanded query (legs_of route search.dbs) client.sets)
 
 -- a Search: its checks, the last of them that its query has an expansion
-abbrev pub search_due : Route → ClientState → Search → Result Due Diag
+abbrev pub search_due : Route → ClientState → Search → Result Asking Diag
 search_due route client search =
     checked (search_checks route client search) (query_work route client search search.query)
 
@@ -79,7 +79,7 @@ element_of (Good element) = element
 element_of (Bad diag) = None
 
 -- what a Present asks of a set; where it asks for no record it is answered at once
-abbrev pub fetch_work : Present → List ℕ → Option StoredSet → Due
+abbrev pub fetch_work : Present → List ℕ → Option StoredSet → Asking
 fetch_work present hits None = at_once (present_reply present hits fetched.None)
 fetch_work present hits (Some set) =
     if present.number == 0 then at_once (present_reply present hits fetched.None)
@@ -87,30 +87,30 @@ fetch_work present hits (Some set) =
     (element_of present.element))
 
 -- a Present: its checks
-abbrev pub present_due : Route → ClientState → Present → Option StoredSet → List ℕ → Result Due Diag
+abbrev pub present_due : Route → ClientState → Present → Option StoredSet → List ℕ → Result Asking Diag
 present_due route client present set hits =
     checked (present_checks route client present hits) (Ok (fetch_work present hits set))
 
 -- ---- Scan
 
 -- what a Scan asks of its leg
-abbrev pub leg_work : ScanAsk → Option ℕ → Result Due Diag
+abbrev pub leg_work : ScanAsk → Option ℕ → Result Asking Diag
 leg_work ask None = Err (bib1 CombinationOfDatabasesNotSupported [])
 leg_work ask (Some leg) = Ok (works (work.Scan None leg ask))
 
 -- what a Scan asks
-abbrev pub scan_work : Asked ScanAsk → Option ℕ → Result Due Diag
+abbrev pub scan_work : Asked ScanAsk → Option ℕ → Result Asking Diag
 scan_work (Bad diag) leg = Err diag
 scan_work (Good ask) leg = leg_work ask leg
 
 -- a Scan: its checks
-abbrev pub scan_due : Route → Scan → Result Due Diag
+abbrev pub scan_due : Route → Scan → Result Asking Diag
 scan_due route scan = checked (scan_checks route scan) (scan_work scan.ask (slice_get (legs_of route scan.dbs) 0))
 
 -- ---- any request
 
 -- what a request in its place is due, where the client's set of a name has these hits; a Work will have its login
-abbrev pub asked_with : (hits_of_set : List ℕ → List ℕ) → Route → ClientState → Request → Due
+abbrev pub asked_with : (hits_of_set : List ℕ → List ℕ) → Route → ClientState → Request → Asking
 asked_with hits_of_set route client (request.Init init) = at_once (init_reply init)
 asked_with hits_of_set route client (request.Search search) =
     unless_refused (request.Search search) (search_due route client search)
@@ -121,5 +121,5 @@ asked_with hits_of_set route client (request.Scan scan) = unless_refused (reques
 asked_with hits_of_set route client (request.Close close) = at_once (close_reply close.ref_id finished)
 
 -- what a request in its place is due, where each set has the hits that the targets mean
-abbrev pub asked : {W : Type 0} → world.Ghosts W → Route → ClientState → Request → Due
+abbrev pub asked : {W : Type 0} → world.Ghosts W → Route → ClientState → Request → Asking
 asked w route client = asked_with (λ name. hits_meant w route (set_named name client.sets)) route client

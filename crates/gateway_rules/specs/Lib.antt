@@ -10,7 +10,8 @@ pub mod Outcomes
 pub mod Settling
 pub mod Course
 pub mod Works
+pub mod Fair
 pub mod Session
 pub mod Answers
 pub mod OneAnswer
-pub mod Parts
+pub mod Runs

@@ -6,7 +6,8 @@ use Rattle.z_types.specs.declared.marks.Mark.{Mark}
 use Rattle.z_types.specs.declared.marks.Mark.TheVariants.{Plain}
 use Rattle.z_types.specs.declared.world.World as world
 use Rattle.route_config.specs.declared.route.Route.{Route}
-use Rattle.gateway_rules.specs.Answers.{IsReading, Answers}
+use Rattle.gateway_rules.specs.Answers.{Answers}
+use Rattle.unit_forms.specs.Reading.Units.{IsReading}
 use Rattle.z_types.specs.declared.requests.Request.{Request}
 
 -- octets are read as one request, or as none

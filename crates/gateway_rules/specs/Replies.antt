@@ -1,5 +1,6 @@
 -- Replies that the gateway gives by itself (ANSI/NISO Z39.50-2003, 3.2.1.1, 3.2.2.1, 3.2.3.1, 3.2.8.1 and 3.2.11.1)
-use Rattle.std.specs.Prelude.{ℕ, ◌+◌, ◌^◌, ◌==◌, Bool, false, not, bit_and, min, List, [], ◌∷◌, Option, None}
+use Rattle.z_types.specs.Services.{own_versions, own_options}
+use Rattle.std.specs.Prelude.{ℕ, ◌==◌, Bool, false, not, bit_and, min, List, [], ◌∷◌, Option, None}
 use Rattle.z_types.specs.declared.diagnostic.Diag.{Diag}
 use Rattle.z_types.specs.Bounds.{most_unit_octets}
 use Rattle.z_types.specs.declared.requests.Init.{Init}
@@ -17,14 +18,6 @@ ref_id_of (request.Search search) = search.ref_id
 ref_id_of (request.Present present) = present.ref_id
 ref_id_of (request.Scan scan) = scan.ref_id
 ref_id_of (request.Close close) = close.ref_id
-
--- 3.2.1.1: versions 1 to 3
-abbrev pub own_versions : ℕ
-own_versions = 2 ^ 0 + 2 ^ 1 + 2 ^ 2
-
--- 3.2.1.1: search, present, scan and named result sets
-abbrev pub own_options : ℕ
-own_options = 2 ^ 0 + 2 ^ 1 + 2 ^ 7 + 2 ^ 14
 
 -- 3.2.1.1: the most octets of a message and of a record
 abbrev pub own_size : ℕ

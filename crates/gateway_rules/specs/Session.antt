@@ -6,7 +6,7 @@ use Rattle.z_types.specs.declared.marks.End.{End}
 use Rattle.z_types.specs.declared.world.World as world
 use Rattle.route_config.specs.declared.route.Route.{Route}
 use Rattle.gateway_rules.specs.Asking as asking
-use Rattle.gateway_rules.specs.Asking.{Due, asked}
+use Rattle.gateway_rules.specs.Asking.{Asking, asked}
 use Rattle.gateway_rules.specs.Course as course
 use Rattle.gateway_rules.specs.Course.{Course}
 use Rattle.gateway_rules.specs.Marks.{Cause, Taken, IsAllowed}
@@ -19,13 +19,13 @@ use Rattle.z_types.specs.declared.requests.Request.{Request}
 -- ---- one request
 
 -- what a request is answered, where this is due: a reply at once leaves the client as it was
-abbrev pub answer_to : {W : Type 0} → world.Ghosts W → Route → ClientState → Request → Cause → Due → Settled
+abbrev pub answer_to : {W : Type 0} → world.Ghosts W → Route → ClientState → Request → Cause → Asking → Settled
 answer_to w route client request cause (asking.at_once reply) = record { reply = reply; client = client }
 answer_to w route client request cause (asking.works work) =
     settled client request work (outcome_of w route work cause)
 
 -- the classes that are asked, where this is due
-abbrev pub classes_of : Route → Due → List (List ℕ)
+abbrev pub classes_of : Route → Asking → List (List ℕ)
 classes_of route (asking.at_once reply) = []
 classes_of route (asking.works work) = classes_asked route work
 
@@ -70,16 +70,6 @@ run w route client (course.answers request more) (cause ∷ causes) =
     in_front ((answered w route client request cause).reply ∷ [])
     ((record { classes = reached w route client request; cause = cause }) ∷ [])
     (run w route (answered w route client request cause).client more causes)
-
--- a run that goes on by another where it stands, with the client and the causes that it leaves, and else is the whole
-abbrev pub goes_on : Stop → Run → (Progress → ClientState → List Cause → Run) → Run
-goes_on (standing here) first next = in_front first.replies first.taken (next here first.client first.left)
-goes_on (over end) first next = first
-goes_on wanting first next = first
-
--- two runs, one behind another
-abbrev pub joined : Run → (Progress → ClientState → List Cause → Run) → Run
-joined first next = goes_on first.stop first next
 
 -- ---- the causes of a run
 

@@ -3,13 +3,7 @@
 ghost use Rattle.std.specs.Prelude.{◌≡◌, IfOk};
 ghost use Rattle.gateway_rules.specs.Replies.{init_reply, is_accepted};
 
-use z_types::{Init, MOST_UNIT_OCTETS, Memory, Reply, copy};
-
-/// Versions 1 to 3.
-const OWN_VERSIONS: u32 = 0b111;
-
-/// Search, present, scan and named result sets.
-const OWN_OPTIONS: u32 = 1 << 0 | 1 << 1 | 1 << 7 | 1 << 14;
+use z_types::{Init, MOST_UNIT_OCTETS, Memory, OWN_OPTIONS, OWN_VERSIONS, Reply, copy};
 
 /// The most octets of a message and of a record.
 const OWN_SIZE: u32 = MOST_UNIT_OCTETS;

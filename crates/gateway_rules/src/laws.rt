@@ -1,7 +1,8 @@
 //! What is true of every answer. These functions do nothing; what they ensure is the law.
 
+ghost use Rattle.gateway_rules.specs.Fair.{MembersAnswer};
 ghost use Rattle.gateway_rules.specs.OneAnswer.{HasOneReading, HasSomeAnswer, HasOneAnswer, HasOneEnd};
-ghost use Rattle.gateway_rules.specs.Parts.{RunsGoOn, UnitsEndIt, RestEndsIt};
+ghost use Rattle.gateway_rules.specs.Runs.{RunsGoOn, UnitsEndIt, RestEndsIt};
 
 use z_types::World;
 
@@ -41,4 +42,10 @@ pub fn units_end<W: World>()
 /// connection: the replies so far, and the last one if there is any.
 pub fn rest_ends<W: World>()
     ensures { RestEndsIt W.World }
+{}
+
+/// On a fair route, every member of the class that a leg goes to is told, and means what the leg's
+/// first member means.
+pub fn fair_legs<W: World>()
+    ensures { MembersAnswer W.World }
 {}

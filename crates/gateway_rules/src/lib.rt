@@ -1,12 +1,20 @@
 //! What the gateway answers: the rules of a client's session, as definitions, the plain ones of
-//! them as functions, and the laws that octets have an answer, one answer and one end.
+//! them as functions, the replies among them, and the laws that octets have an answer, one answer
+//! and one end.
 #![tactic(auto)]
 
+mod given;
 mod init;
 mod laws;
+mod replies;
+mod statuses;
 
+pub use given::{count_returned, present_reply, scan_reply, search_reply};
 pub use init::{init_reply, is_accepted};
-pub use laws::{one_answer, one_end, one_reading, rest_ends, runs_go_on, some_answer, units_end};
+pub use laws::{
+    fair_legs, one_answer, one_end, one_reading, rest_ends, runs_go_on, some_answer, units_end,
+};
+pub use replies::{bad_unit_reply, failed_reply, finished_reply, limit_reply};
 
 #[cfg(test)]
 mod tests;

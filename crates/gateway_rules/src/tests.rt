@@ -92,5 +92,6 @@ fn the_laws_hold_at_a_world_that_is_empty(_: HostRuntime) -> Result<(), Fail> {
     runs_go_on::<EmptyWorld>();
     units_end::<EmptyWorld>();
     rest_ends::<EmptyWorld>();
+    fair_legs::<EmptyWorld>();
     Ok(())
 }

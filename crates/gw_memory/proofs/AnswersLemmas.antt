@@ -8,12 +8,12 @@ use Rattle.z_types.specs.declared.key.SetKey.{SetKey}
 use Rattle.z_types.specs.declared.world.World as world
 use Rattle.gw_outside.specs.declared.backends.Heard.{Heard}
 use Rattle.gw_outside.specs.declared.backends.Heard.TheVariants.{Opened, Hits, Refused, Items, Gone, Scanned, NotYet, Failed, Memory}
-use Rattle.gw_outside.specs.Sessions.{Made, Fits, IsWorlds, RecordsOf, is_not_yet}
+use Rattle.gw_outside.specs.Sessions.{Made, Fits, IsWorlds, RecordsOf, heard_counted}
 use Rattle.gw_memory.specs.FakeSessions.{Answers}
 
 module _ {W : Type 0} (w : world.Ghosts W) (address : Address) (made : Made) where
   -- it is ready
-  pub answers_ready : (ask : Ask) (heard : Heard) → Answers w address made ask heard → is_not_yet heard ≡ false
+  pub answers_ready : (ask : Ask) (heard : Heard) → Answers w address made ask heard → (heard_counted heard).wait ≡ false
   answers_ready ask Opened h = refl
   answers_ready ask (Hits hits) h = refl
   answers_ready ask (Refused diag) h = refl
@@ -58,13 +58,13 @@ module _ {W : Type 0} (w : world.Ghosts W) (address : Address) (made : Made) whe
   answers_worlds ask Memory h = nothing_heard ask
 
   -- it is no failure
-  pub answers_not_failed : (ask : Ask) (heard : Heard) → Answers w address made ask heard → heard ≡ Failed → ⊥
-  answers_not_failed ask Opened h e = cc
-  answers_not_failed ask (Hits hits) h e = cc
-  answers_not_failed ask (Refused diag) h e = cc
-  answers_not_failed ask (Items items) h e = cc
-  answers_not_failed ask Gone h e = cc
-  answers_not_failed ask (Scanned answer) h e = cc
-  answers_not_failed ask NotYet h e = cc
-  answers_not_failed ask Failed h e = h.0
-  answers_not_failed ask Memory h e = cc
+  pub answers_not_failed : (ask : Ask) (heard : Heard) → Answers w address made ask heard → (heard_counted heard).fault ≡ false
+  answers_not_failed ask Opened h = refl
+  answers_not_failed ask (Hits hits) h = refl
+  answers_not_failed ask (Refused diag) h = refl
+  answers_not_failed ask (Items items) h = refl
+  answers_not_failed ask Gone h = refl
+  answers_not_failed ask (Scanned answer) h = refl
+  answers_not_failed ask NotYet h = refl
+  answers_not_failed ask Failed h = absurd h.0
+  answers_not_failed ask Memory h = refl

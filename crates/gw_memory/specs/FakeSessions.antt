@@ -10,7 +10,8 @@ use Rattle.z_types.specs.declared.key.SetKey.{SetKey}
 use Rattle.z_types.specs.declared.world.World as world
 use Rattle.gw_outside.specs.declared.backends.Heard.{Heard}
 use Rattle.gw_outside.specs.declared.backends.Heard.TheVariants.{Refused, Items, Gone, Scanned, NotYet, Failed, Memory}
-use Rattle.gw_outside.specs.Peers.{is_named, AreRecords}
+use Rattle.z_types.specs.Same.{is_same}
+use Rattle.gw_outside.specs.Peers.{AreRecords}
 use Rattle.gw_outside.specs.Sessions.{Made, AnswerFits, IsWorlds}
 use Rattle.gw_memory.specs.declared.sessions.Waiting.{Waiting}
 use Rattle.gw_memory.specs.declared.sessions.Waiting.TheVariants as waiting
@@ -25,7 +26,7 @@ pending_of waiting.Broken = broken
 -- the answer to the last search under a name, of all answers with the last first
 abbrev pub made_in : List (List ℕ × Option (SetKey × ℕ)) → Made
 made_in [] name = None
-made_in (answer ∷ earlier) name = if is_named answer.0 name then answer.1 else made_in earlier name
+made_in (answer ∷ earlier) name = if is_same answer.0 name then answer.1 else made_in earlier name
 
 -- some of the records asked for, from the first on
 pub record AreHeard (record_at : ℕ → Result Item Diag) (first count : ℕ) (items : List Item) : Type 0 where

@@ -1,8 +1,8 @@
 //! Files in memory.
 
 ghost use Rattle.std.specs.Prelude.{◌≡◌, ◌≢◌, ◌≤◌, ℕ, List, IfSome, Some};
-ghost use Rattle.gw_outside.specs.Counts.{Rose};
-ghost use Rattle.gw_memory.specs.Planned.{after_call};
+ghost use Rattle.z_types.specs.Counts.{Rose, one_more};
+ghost use Rattle.gw_memory.specs.Planned.{new_calls, after_call, read_fails, is_failed_read, IsPlannedRead};
 ghost use Rattle.std.specs.Option.{option_copied};
 ghost use Rattle.gw_outside.specs.Files.{FileFits};
 ghost use Rattle.gw_memory.specs.Named.{file_named, octets_named};
@@ -27,6 +27,7 @@ impl MemoryFiles {
     pub fn new(files: List<(Text, Text)>, failing: List<u64>) -> MemoryFiles
         ensures contents { ⟦<MemoryFiles as Files>⟧.contents result ≡ octets_named files }
         ensures faults { ⟦<MemoryFiles as Files>⟧.faults result ≡ 0 }
+        ensures calls { result.calls ≡ new_calls failing }
     {
         MemoryFiles {
             files,
@@ -47,13 +48,18 @@ impl Files for MemoryFiles {
     fn read_all(&mut self, _: Global, name: &Text, limit: usize) -> FileGot
         ensures fits { FileFits (octets_named self.old.files name.now) limit result }
         ensures failed { result ≡ FileGot.Failed → Rose self.old.faults self.new.faults }
-        ensures named { result ≡ FileGot.Failed →
-            IfSome self.new.last_failed (λ last. last ≡ name.now) }
+        ensures named { result ≡ FileGot.Failed → self.new.last_failed ≡ Some name.now }
         ensures kept { result ≢ FileGot.Failed → self.new.last_failed ≡ self.old.last_failed }
         ensures contents { (other : List ℕ) →
             octets_named self.new.files other ≡ octets_named self.old.files other }
         ensures faults { self.old.faults ≤ self.new.faults }
-        ensures counted { self.new.calls ≡ after_call self.old.calls }
+        ensures planned { IsPlannedRead
+            (read_fails self.old.calls (octets_named self.old.files name.now)) result }
+        ensures counted { self.new ≡ record self.old {
+          calls = after_call self.old.calls;
+          faults = one_more (is_failed_read result) self.old.faults;
+          last_failed = self.new.last_failed;
+        } }
     {
         if !self.calls.next_fails() {
             if let Some(file) = file_named(self.files.as_slice(), name) {

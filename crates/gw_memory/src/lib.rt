@@ -1,7 +1,8 @@
-//! The outside in memory, for tests and trials: files, sinks, sources and clocks with stated contents,
-//! which they tell, and with the calls that are to fail.
+//! The outside in memory, for tests and trials: files, sinks, sources, clocks, connections and sessions
+//! with targets, of stated contents, which they tell, and with the calls that are to fail.
 #![tactic(auto)]
 
+mod accepts;
 mod calls;
 mod clocks;
 mod files;
@@ -11,6 +12,7 @@ mod sources;
 #[cfg(test)]
 mod tests;
 
+pub use accepts::MemoryAccept;
 pub use clocks::MemoryClock;
 pub use files::MemoryFiles;
 pub use sessions::{FakeBackend, FakeSession, Waiting};

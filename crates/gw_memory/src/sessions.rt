@@ -1,16 +1,22 @@
 //! Sessions with targets that are asked directly.
 
-ghost use Rattle.std.specs.Prelude.{◌≡◌, ◌≤◌, ℕ, List, Ok, IfOk, false};
+ghost use Rattle.std.specs.Prelude.{◌≡◌, ◌≤◌, ℕ, List, Ok, IfOk, true, false};
 ghost use Rattle.std.specs.Option.{option_copied};
-ghost use Rattle.gw_outside.specs.Counts.{one_more};
+ghost use Rattle.z_types.specs.Counts.{one_more};
 ghost use Rattle.z_types.specs.Pending.{Pending, asked};
 ghost use Rattle.z_types.specs.declared.ask.Ask.TheVariants as Asks;
-ghost use Rattle.gw_outside.specs.Sessions.{made_after, pending_after, is_search, is_gone, is_not_yet};
+ghost use Rattle.z_types.specs.Pending.{resting, IsPending};
+ghost use Rattle.gw_outside.specs.Asks.{MayAsk};
+ghost use Rattle.gw_outside.specs.Counts.{BackendCounts, no_counts};
+ghost use Rattle.gw_outside.specs.Happened.{AreSame, AreLess};
+ghost use Rattle.gw_outside.specs.Sessions.{IfSession, IsNewSession, OpenHappens, OpenCounts, LookCounts, Fits, IsWorlds, pending_from, pending_after, made_after, is_search, open_counted, start_counted, heard_counted};
 ghost use Rattle.gw_outside.specs.Targets.{AnswersAs};
+ghost use Rattle.gw_memory.specs.FakeCounts.{counts_of, never_steady};
+ghost use Rattle.gw_memory.specs.Planned.{new_calls, fails_next, after_call};
 ghost use Rattle.gw_memory.specs.FakeSessions.{pending_of, made_in, Answers, IsHeardOf, IsHeardScan, AreHeard};
 
 use crate::calls::Calls;
-use gw_outside::{Backend, Began, Heard, Opening, TargetAnswer, Targets};
+use gw_outside::{Backend, Began, Heard, Opening, TargetAnswer, Targets, Watched};
 use std::alloc::Global;
 use std::mem;
 use z_types::{Address, Ask, Item, List, Memory, Oid, ScanAsk, SetKey, Sitting, Text, World, copy};
@@ -91,10 +97,8 @@ pub struct FakeBackend<T> {
 impl<T: Targets> FakeBackend<T> {
     /// A backend over these targets; the calls of these numbers, counted from 1, fail.
     pub fn new(targets: T, failing: List<u64>) -> FakeBackend<T>
-        ensures faults { ⟦<FakeBackend<T> as Backend<T>>⟧.faults result ≡ 0 }
-        ensures dials { ⟦<FakeBackend<T> as Backend<T>>⟧.dials result ≡ 0 }
-        ensures searches { ⟦<FakeBackend<T> as Backend<T>>⟧.searches result ≡ 0 }
-        ensures gones { ⟦<FakeBackend<T> as Backend<T>>⟧.gones result ≡ 0 }
+        ensures counts { ⟦<FakeBackend<T> as Watched>⟧.counts result ≡ no_counts }
+        ensures calls { result.calls ≡ new_calls failing }
     {
         FakeBackend {
             targets,
@@ -107,20 +111,26 @@ impl<T: Targets> FakeBackend<T> {
     }
 }
 
+impl<T: Targets> Watched for FakeBackend<T> {
+    ghost counts = { counts_of };
+
+    ghost exact = { true };
+
+    ghost happened = { λ _. never_steady };
+}
+
 impl<T: Targets> Backend<T> for FakeBackend<T> {
     type Session = FakeSession;
 
-    ghost faults = { λ backend. backend.faults };
-
-    ghost waits = { λ _. 0 };
-
-    ghost gones = { λ backend. backend.gones };
-
-    ghost searches = { λ backend. backend.searches };
-
-    ghost dials = { λ backend. backend.dials };
-
-    fn open_(&mut self, alloc: Global, address: &Address) -> Opening<FakeSession> {
+    fn open_(&mut self, alloc: Global, address: &Address) -> Opening<FakeSession>
+        ensures session { IfSession result
+            (IsNewSession ⟦<FakeSession as Sitting<T>>⟧ address.now) }
+        ensures happened { OpenHappens result never_steady never_steady }
+        ensures counts { OpenCounts true result (counts_of self.old) (counts_of self.new) }
+        ensures planned { (open_counted result).fault ≡ fails_next self.old.calls }
+        ensures unlinked { ¬ (result ≡ Opening.Failed true) }
+        ensures counted { self.new.calls ≡ after_call self.old.calls }
+    {
         if self.calls.next_fails() {
             self.faults = self.faults.saturating_add(1);
             return Opening::Failed { linked: false };
@@ -136,7 +146,19 @@ impl<T: Targets> Backend<T> for FakeBackend<T> {
         })
     }
 
-    fn start(&mut self, _: Global, session: &mut FakeSession, ask: &Ask) -> Began {
+    fn start(&mut self, _: Global, session: &mut FakeSession, ask: &Ask) -> Began
+        requires rests { pending_of session.old.waiting ≡ resting }
+        requires may { MayAsk (made_in session.old.answers.items) ask.now }
+        ensures pending { pending_of session.new.waiting ≡ pending_from ask.now result }
+        ensures address { session.new.address ≡ session.old.address }
+        ensures made { (name : List ℕ) → made_in session.new.answers.items name
+            ≡ made_in session.old.answers.items name }
+        ensures happened { AreLess never_steady never_steady }
+        ensures counts { BackendCounts true (Unit {0})
+            (start_counted ask.now result) (counts_of self.old) (counts_of self.new) }
+        ensures planned { (start_counted ask.now result).fault ≡ fails_next self.old.calls }
+        ensures counted { self.new.calls ≡ after_call self.old.calls }
+    {
         if self.calls.next_fails() {
             self.faults = self.faults.saturating_add(1);
             session.wait_for(Waiting::Broken);
@@ -152,7 +174,24 @@ impl<T: Targets> Backend<T> for FakeBackend<T> {
     }
 
     #[tactic(auto, using(crate::proofs::AnswersLemmas::answers_ready, crate::proofs::AnswersLemmas::answers_fit, crate::proofs::AnswersLemmas::answers_worlds, crate::proofs::AnswersLemmas::answers_not_failed))]
-    fn look(&mut self, alloc: Global, session: &mut FakeSession) -> Heard {
+    fn look(&mut self, alloc: Global, session: &mut FakeSession) -> Heard
+        requires { IsPending (pending_of session.old.waiting) }
+        ensures fits { Fits (pending_of session.old.waiting) result }
+        ensures worlds { T.told session.old.address → IsWorlds T.World session.old.address
+            (made_in session.old.answers.items) (pending_of session.old.waiting) result }
+        ensures pending { pending_of session.new.waiting
+            ≡ pending_after (pending_of session.old.waiting) result }
+        ensures made { (name : List ℕ) → made_in session.new.answers.items name
+            ≡ made_after (pending_of session.old.waiting) result
+            (made_in session.old.answers.items) name }
+        ensures address { session.new.address ≡ session.old.address }
+        ensures happened { AreSame never_steady never_steady }
+        ensures counts { LookCounts true (T.told session.old.address)
+            result (counts_of self.old) (counts_of self.new) }
+        ensures planned { (heard_counted result).fault ≡ fails_next self.old.calls }
+        ensures ready { (heard_counted result).wait ≡ false }
+        ensures counted { self.new.calls ≡ after_call self.old.calls }
+    {
         let waiting = session.stop_waiting();
         if self.calls.next_fails() {
             self.faults = self.faults.saturating_add(1);
@@ -180,10 +219,10 @@ impl<T: Targets> FakeBackend<T> {
         ensures address { session.new.address ≡ session.old.address }
         ensures pending { (p : Pending)
             → pending_of session.new.waiting ≡ pending_after p result }
-        ensures gones { self.new.gones ≡ one_more (is_gone result) self.old.gones }
-        ensures faults { self.new.faults ≡ self.old.faults }
-        ensures searches { self.new.searches ≡ self.old.searches }
-        ensures dials { self.new.dials ≡ self.old.dials }
+        ensures counts { counts_of self.new ≡ record (counts_of self.old) {
+          gones = one_more (heard_counted result).gone self.old.gones;
+        } }
+        ensures calls { self.new.calls ≡ self.old.calls }
     {
         let heard = hear(alloc, &self.targets, session, ask);
         session.wait_for(waiting_after(&heard));
@@ -204,7 +243,7 @@ fn searches_after(searches: u64, ask: &Ask) -> u64
 
 /// How many sets were gone after an answer.
 fn gones_after(gones: u64, heard: &Heard) -> u64
-    ensures { result ≡ one_more (is_gone heard.now) gones }
+    ensures { result ≡ one_more (heard_counted heard.now).gone gones }
 {
     match heard {
         Heard::Gone => gones.saturating_add(1),
@@ -214,7 +253,7 @@ fn gones_after(gones: u64, heard: &Heard) -> u64
 
 /// What a session waits for after an answer.
 fn waiting_after(heard: &Heard) -> Waiting
-    ensures { (p : Pending) → is_not_yet heard.now ≡ false
+    ensures { (p : Pending) → (heard_counted heard.now).wait ≡ false
         → pending_of result ≡ pending_after p heard.now }
 {
     match heard {

@@ -1,9 +1,9 @@
 //! A sink in memory.
 
-ghost use Rattle.std.specs.Prelude.{◌≡◌, ◌≤◌, ◌<◌, IsTrue, [], Some, length};
-ghost use Rattle.gw_outside.specs.Counts.{Rose};
+ghost use Rattle.std.specs.Prelude.{◌≡◌, ◌≤◌, ◌<◌, [], Some, length, min};
+ghost use Rattle.z_types.specs.Counts.{Rose, one_more};
 ghost use Rattle.gw_outside.specs.Sinks.{TookFits};
-ghost use Rattle.gw_memory.specs.Planned.{fails_next, after_call};
+ghost use Rattle.gw_memory.specs.Planned.{new_calls, fails_next, after_call, is_failed_write, IsPlannedWrite};
 
 use crate::calls::Calls;
 use gw_outside::{Sink, Took};
@@ -26,6 +26,8 @@ impl MemorySink {
     pub fn new(alloc: Global, failing: List<u64>) -> MemorySink
         ensures received { ⟦<MemorySink as Sink>⟧.received result ≡ Some [] }
         ensures faults { ⟦<MemorySink as Sink>⟧.faults result ≡ 0 }
+        ensures most { result.most ≡ usize.MAX }
+        ensures calls { result.calls ≡ new_calls failing }
     {
         MemorySink::taking(alloc, usize::MAX, failing)
     }
@@ -35,6 +37,8 @@ impl MemorySink {
         requires { 1 ≤ most }
         ensures received { ⟦<MemorySink as Sink>⟧.received result ≡ Some [] }
         ensures faults { ⟦<MemorySink as Sink>⟧.faults result ≡ 0 }
+        ensures most { result.most ≡ most }
+        ensures calls { result.calls ≡ new_calls failing }
     {
         MemorySink {
             received: Text::new(alloc),
@@ -62,8 +66,11 @@ impl Sink for MemorySink {
         ensures fits { TookFits (Some self.old.received) (Some self.new.received) piece.now result }
         ensures failed { result ≡ Took.Failed → Rose self.old.faults self.new.faults }
         ensures faults { self.old.faults ≤ self.new.faults }
-        ensures planned { IsTrue (fails_next self.old.calls) → result ≡ Took.Failed }
+        ensures planned { IsPlannedWrite (fails_next self.old.calls)
+            (min (length piece.now) self.old.most) result }
+        ensures counts { self.new.faults ≡ one_more (is_failed_write result) self.old.faults }
         ensures counted { self.new.calls ≡ after_call self.old.calls }
+        ensures most { self.new.most ≡ self.old.most }
     {
         let count = piece.len().min(self.most);
         if !self.calls.next_fails() {

@@ -1,9 +1,9 @@
 //! A source in memory.
 
-ghost use Rattle.std.specs.Prelude.{◌≡◌, ◌↔◌, ◌+◌, ◌^◌, ◌<◌, ◌≤◌, IsTrue, Some, drop, length, min, take};
-ghost use Rattle.gw_outside.specs.Counts.{Rose};
-ghost use Rattle.gw_outside.specs.Sources.{GotFits};
-ghost use Rattle.gw_memory.specs.Planned.{fails_next, after_call};
+ghost use Rattle.std.specs.Prelude.{◌≡◌, ◌↔◌, ◌+◌, ◌^◌, ◌<◌, ◌≤◌, IsTrue, [], Some, drop, length, min, take};
+ghost use Rattle.z_types.specs.Counts.{Rose, one_more};
+ghost use Rattle.gw_outside.specs.Sources.{GotFits, given_after};
+ghost use Rattle.gw_memory.specs.Planned.{new_calls, fails_next, after_call, FillsWhole};
 
 use crate::calls::Calls;
 use gw_outside::{Got, Source};
@@ -24,7 +24,9 @@ impl MemorySource {
     /// counted from 1, fail.
     pub fn new(bytes: Text, failing: List<u64>) -> MemorySource
         ensures left { ⟦<MemorySource as Source>⟧.left result ≡ Some bytes }
+        ensures given { ⟦<MemorySource as Source>⟧.given result ≡ Some [] }
         ensures faults { ⟦<MemorySource as Source>⟧.faults result ≡ 0 }
+        ensures calls { result.calls ≡ new_calls failing }
     {
         MemorySource {
             bytes,
@@ -48,13 +50,21 @@ impl Source for MemorySource {
 
     ghost left = { λ source. Some (drop source.given source.bytes) };
 
+    ghost given = { λ source. Some (take source.given source.bytes) };
+
     fn read(&mut self, into: &mut [u8]) -> Got
         requires { 0 < length into.old }
         ensures fits { GotFits (Some (drop self.old.given self.old.bytes))
             (Some (drop self.new.given self.new.bytes)) into.old into.new result }
         ensures failed { result ≡ Got.Failed → Rose self.old.faults self.new.faults }
         ensures faults { self.old.faults ≤ self.new.faults }
+        ensures given { Some (take self.new.given self.new.bytes)
+            ≡ given_after into.new result (Some (take self.old.given self.old.bytes)) }
+        ensures whole { FillsWhole
+            (drop self.old.given self.old.bytes) (length into.old) result }
         ensures planned { (result ≡ Got.Failed) ↔ IsTrue (fails_next self.old.calls) }
+        ensures counts { self.new.faults
+            ≡ one_more (fails_next self.old.calls) self.old.faults }
         ensures counted { self.new.calls ≡ after_call self.old.calls }
     {
         if self.calls.next_fails() {

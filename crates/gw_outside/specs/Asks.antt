@@ -1,31 +1,23 @@
 -- What a session may be asked for (this project's own): an ask whose unit, and the reply to it, are within the bounds of units
 use Rattle.std.specs.Prelude.{◌≡◌, ℕ, ◌+◌, ◌≤◌, List, length, Option, Some, IfSome}
 use Rattle.std.specs.List.{AllByRecursion}
-use Rattle.z_types.specs.Bounds.{most_databases, most_name_octets, most_number, most_query_depth, most_query_nodes, most_query_cost}
+use Rattle.z_types.specs.Bounds.{most_databases, most_name_octets, most_query_depth, most_query_nodes, most_query_cost}
+use Rattle.z_types.specs.Numbers.{IsNumber, HasNumbers}
 use Rattle.z_types.specs.QueryMeasures.{tree_depth, tree_cost, leaf_cost}
 use Rattle.z_types.specs.Tree.{Tree, tree_size, leaf, operand, and, or, and_not}
 use Rattle.z_types.specs.declared.ask.Ask.{Ask}
 use Rattle.z_types.specs.declared.ask.Ask.TheVariants.{Search, Present, Scan}
 use Rattle.z_types.specs.declared.key.SetKey.{SetKey}
-use Rattle.z_types.specs.declared.query.Attr.{Attr}
 use Rattle.z_types.specs.declared.scan.ScanAsk.{ScanAsk}
 
 -- a name is short
 abbrev pub IsShort : List ℕ → Type 0
 IsShort name = length name ≤ most_name_octets
 
--- a number of a field: 0 to 2147483647
-abbrev pub IsNumber : ℕ → Type 0
-IsNumber value = value ≤ most_number
-
 -- a few short names of databases
 pub record AreFewShort (dbs : List (List ℕ)) : Type 0 where
   pub few : length dbs ≤ most_databases
   pub each : AllByRecursion IsShort dbs
-
--- the numbers of an attribute
-abbrev pub HasNumbers : Attr → Type 0
-HasNumbers attr = IsNumber attr.kind × IsNumber attr.value
 
 -- no operand is a result set, and the numbers of all attributes are some
 abbrev pub HasNoSet : Tree → Type 0

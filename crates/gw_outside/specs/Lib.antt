@@ -1,10 +1,12 @@
 pub mod Counts
 pub mod Sources
 pub mod Sinks
+pub mod Accepts
 pub mod Files
 pub mod Targets
 pub mod Asks
 pub mod Replies
 pub mod Peers
+pub mod Happened
 pub mod Wires
 pub mod Sessions

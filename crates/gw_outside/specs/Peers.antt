@@ -1,7 +1,7 @@
 -- The target's end of a link: the result sets that it holds, and how it answers requests (ANSI/NISO Z39.50-2003, 3.2.1 to 3.2.3 and 3.2.8), where it answers as its world says
-use Rattle.std.specs.Prelude.{◌≡◌, ◌⊎◌, ℕ, ◌+◌, ◌≤◌, pos, ◌==◌, Bool, true, false, List, [], ◌∷◌, ◌++◌, length, Option, None, Some, IfSome, Result, Ok, Err, if◌then◌else◌}
+use Rattle.z_types.specs.Same.{is_same}
+use Rattle.std.specs.Prelude.{◌≡◌, Bool, ◌⊎◌, ℕ, ◌+◌, ◌≤◌, pos, true, false, List, [], ◌∷◌, ◌++◌, length, Option, None, Some, IfSome, Result, Ok, Err, if◌then◌else◌}
 use Rattle.std.specs.List.{AllByRecursion}
-use lib.Pointwise.{pointwise}
 use Rattle.z_types.specs.Bib1.{bib1}
 use Rattle.z_types.specs.Tree.{Tree, leaf, operand, and, or, and_not}
 use Rattle.z_types.specs.declared.address.Address.{Address}
@@ -20,20 +20,17 @@ use Rattle.z_types.specs.declared.requests.Request.TheVariants as request
 use Rattle.z_types.specs.declared.scan.ScanAsk.{ScanAsk}
 use Rattle.z_types.specs.declared.world.World as world
 use Rattle.gw_outside.specs.Asks.{IsShort}
-use Rattle.gw_outside.specs.Replies.{has_named_sets, accepts, search_said, present_said, scan_said}
+use Rattle.z_types.specs.Services.{has_named_result_sets}
+use Rattle.gw_outside.specs.Replies.{accepts, search_said, present_said, scan_said}
 
 -- a result set: its name, and its databases and query
 abbrev pub NamedSet : Type 0
 NamedSet = List ℕ × SetKey
 
--- two names are one
-abbrev pub is_named : List ℕ → List ℕ → Bool
-is_named = pointwise ◌==◌
-
 -- the databases and the query of the set of a name
 abbrev pub held : List NamedSet → List ℕ → Option SetKey
 held [] name = None
-held (first ∷ rest) name = if is_named first.0 name then Some first.1 else held rest name
+held (first ∷ rest) name = if is_same first.0 name then Some first.1 else held rest name
 
 -- each set stays
 abbrev pub StayHeld : List NamedSet → List NamedSet → Type 0
@@ -46,11 +43,11 @@ AreLeft before after = (name : List ℕ) → (held after name ≡ held before na
 -- one name has this set now, or none; the others stay
 abbrev pub ArePut : List ℕ → Option SetKey → List NamedSet → List NamedSet → Type 0
 ArePut own set before after =
-    (name : List ℕ) → held after name ≡ (if is_named own name then set else held before name)
+    (name : List ℕ) → held after name ≡ (if is_same own name then set else held before name)
 
 -- the sets of all names but one stay
 abbrev pub OthersStay : List ℕ → List NamedSet → List NamedSet → Type 0
-OthersStay own before after = (name : List ℕ) → is_named own name ≡ false → held after name ≡ held before name
+OthersStay own before after = (name : List ℕ) → is_same own name ≡ false → held after name ≡ held before name
 
 -- what stands under the name of a search after its answer
 abbrev pub set_of : SetKey → Result ℕ Diag → Option SetKey
@@ -87,10 +84,10 @@ module _ {W : Type 0} (w : world.Ghosts W) (address : Address) where
     pub said : search_said answer ≡ Some (w.search address key)
     pub put : ArePut name (set_of key (w.search address key)) before after
 
-  -- what is answered to a Search: one without operands that are result sets, as the world says
+  -- what is answered to a Search: one that replaces what its name has, and has no operands that are result sets, as the world says
   abbrev pub SearchAnswered : Search → Asked RpnQuery → List NamedSet → List NamedSet → Reply → Type 0
   SearchAnswered search (Good query) before after answer =
-      HasNoOperand query.root → IsSearched search.set_name (record { dbs = search.dbs; query = query }) before after answer
+      search.replace ≡ true → HasNoOperand query.root → IsSearched search.set_name (record { dbs = search.dbs; query = query }) before after answer
   SearchAnswered search (Bad diag) before after answer = Unit {0}
 
   -- what is answered to a Present of a set, where all that is asked for is within its hits
@@ -114,7 +111,7 @@ module _ {W : Type 0} (w : world.Ghosts W) (address : Address) where
   -- a request, the sets before and after it, and its answer
   abbrev pub IsPeerStep : Request → List NamedSet → List NamedSet → Reply → Type 0
   IsPeerStep (request.Init init) before after answer =
-      StayHeld before after × (has_named_sets init.options ≡ true → accepts answer ≡ true)
+      StayHeld before after × (has_named_result_sets init.options ≡ true → accepts answer ≡ true)
   IsPeerStep (request.Search search) before after answer =
       OthersStay search.set_name before after × SearchAnswered search search.query before after answer
   IsPeerStep (request.Present present) before after answer =
@@ -135,11 +132,12 @@ pub record Peer : Type 0 where
 abbrev pub new_peer : Address → Peer
 new_peer address = record { address = address; sets = []; owed = [] }
 
--- a peer takes a request: some of its sets are left when it comes, and the reply is owed
-pub record TakesRequest {W : Type 0} (w : world.Ghosts W) (request : Request) (old new : Peer) : Type 0 where
+-- a peer takes a request: some of its sets are left when it comes, in a steady world those that it is to find, and the reply is owed
+pub record TakesRequest {W : Type 0} (w : world.Ghosts W) (steady : Bool) (found : List NamedSet) (request : Request) (old new : Peer) : Type 0 where
   pub left : List NamedSet
   pub answer : Reply
   pub are_left : AreLeft old.sets left
+  pub are_found : steady ≡ true → StayHeld found left
   pub step : IsPeerStep w old.address request left new.sets answer
   pub owed : new.owed ≡ old.owed ++ answer ∷ []
   pub address : new.address ≡ old.address

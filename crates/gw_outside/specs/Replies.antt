@@ -1,6 +1,7 @@
 -- What replies of a target say (ANSI/NISO Z39.50-2003, InitializeResponse, SearchResponse, PresentResponse and ScanResponse); where they contradict themselves they say nothing
-use Rattle.std.specs.Prelude.{ℕ, ◌^◌, ◌==◌, ◌&&◌, not, bit_and, Bool, true, false, List, [], ◌∷◌, map, Option, Some, None, Result, Ok, Err}
+use Rattle.std.specs.Prelude.{ℕ, ◌&&◌, Bool, true, false, List, [], ◌∷◌, map, Option, Some, None, Result, Ok, Err}
 use Rattle.z_types.specs.Bib1.{is_gone}
+use Rattle.z_types.specs.Services.{has_named_result_sets}
 use Rattle.z_types.specs.declared.diagnostic.Diag.{Diag}
 use Rattle.z_types.specs.declared.records.Item.{Item}
 use Rattle.z_types.specs.declared.records.Body.{Body}
@@ -9,17 +10,9 @@ use Rattle.z_types.specs.declared.replies.Reply.{Reply}
 use Rattle.z_types.specs.declared.replies.Reply.TheVariants as reply
 use Rattle.z_types.specs.declared.scan.ScanAnswer.{ScanAnswer}
 
--- bit 14 of the options: named result sets
-abbrev pub named_sets : ℕ
-named_sets = 2 ^ 14
-
--- whether the options have it
-abbrev pub has_named_sets : ℕ → Bool
-has_named_sets options = not (bit_and options named_sets == 0)
-
 -- whether an Init is accepted, and named result sets with it
 abbrev pub accepts : Reply → Bool
-accepts (reply.Init init result) = result && has_named_sets init.options
+accepts (reply.Init init result) = result && has_named_result_sets init.options
 accepts (reply.Search ref_id count returned next ok status body) = false
 accepts (reply.Present ref_id returned next status body) = false
 accepts (reply.Scan ref_id status answer diags) = false

@@ -6,6 +6,7 @@ use Rattle.z_types.specs.declared.address.Address.{Address}
 use Rattle.z_types.specs.declared.ask.Ask.{Ask}
 use Rattle.z_types.specs.declared.ask.Ask.TheVariants.{Search, Present, Scan}
 use Rattle.z_types.specs.declared.key.SetKey.{SetKey}
+use Rattle.z_types.specs.declared.sitting.Sitting as sitting
 use Rattle.z_types.specs.declared.world.World as world
 use Rattle.gw_outside.specs.declared.backends.Opening.{Opening}
 use Rattle.gw_outside.specs.declared.backends.Opening.TheVariants as opened
@@ -13,8 +14,10 @@ use Rattle.gw_outside.specs.declared.backends.Began.{Began}
 use Rattle.gw_outside.specs.declared.backends.Began.TheVariants as began
 use Rattle.gw_outside.specs.declared.backends.Heard.{Heard}
 use Rattle.gw_outside.specs.declared.backends.Heard.TheVariants.{Opened, Hits, Refused, Items, Gone, Scanned, NotYet, Failed, Memory}
-use Rattle.gw_outside.specs.Counts.{one_more}
-use Rattle.gw_outside.specs.Peers.{is_named, AreRecords}
+use Rattle.gw_outside.specs.Counts.{Counts, Counted, BackendCounts, nothing}
+use Rattle.gw_outside.specs.Happened.{Happened, AreSame, AreLess}
+use Rattle.z_types.specs.Same.{is_same}
+use Rattle.gw_outside.specs.Peers.{AreRecords}
 
 -- the result sets of a session: for each name the key and the hits of the last search under it that was answered, where it succeeded
 abbrev pub Made : Type 0
@@ -86,10 +89,10 @@ made_by key answer before = before
 -- what stands under each name
 abbrev pub made_after : Pending → Heard → Made → Made
 made_after (asked (Search own key)) answer made name =
-    if is_named own name then made_by key answer (made name) else made name
+    if is_same own name then made_by key answer (made name) else made name
 made_after p answer made name = made name
 
--- ---- what counts
+-- ---- a new session
 
 -- of a session that was opened
 abbrev pub IfSession : {S : Type 0} → Opening S → (S → Type 0) → Type 0
@@ -97,27 +100,51 @@ IfSession (opened.Session session) P = P session
 IfSession (opened.Failed linked) P = Unit {0}
 IfSession opened.Memory P = Unit {0}
 
--- an `open_` that got a link counts; of one that found no memory it is not said whether it got one
-abbrev pub OpenCounts : {S : Type 0} → Opening S → ℕ → ℕ → Type 0
-OpenCounts (opened.Session session) old new = new ≡ one_more true old
-OpenCounts (opened.Failed linked) old new = new ≡ one_more linked old
-OpenCounts opened.Memory old new = (new ≡ old) ⊎ (new ≡ one_more true old)
+-- it waits for the reply to its Init, and made no set
+pub record IsNewSession {S W : Type 0} (t : sitting.Ghosts S W) (address : Address) (session : S) : Type 0 where
+  pub same_address : t.address session ≡ address
+  pub pending : t.pending session ≡ opening
+  pub made : (name : List ℕ) → t.made session name ≡ None
+
+-- ---- what counts
+
+-- an opening: one that got a link, and one that failed
+abbrev pub open_counted : {S : Type 0} → Opening S → Counted
+open_counted (opened.Session session) = record nothing { dial = true }
+open_counted (opened.Failed linked) = record nothing { fault = true; dial = linked }
+open_counted opened.Memory = nothing
+
+-- of one that found no memory it is not said whether it got a link
+abbrev pub OpenCounts : {S : Type 0} → Bool → Opening S → Counts → Counts → Type 0
+OpenCounts exact opened.Memory old new =
+    BackendCounts exact (Unit {0}) nothing old new ⊎ BackendCounts exact (Unit {0}) (record nothing { dial = true }) old new
+OpenCounts exact answer old new = BackendCounts exact (Unit {0}) (open_counted answer) old new
+
+-- what is made to happen stays, where memory sufficed
+abbrev pub OpenHappens : {S : Type 0} → Opening S → Happened → Happened → Type 0
+OpenHappens opened.Memory old new = AreLess old new
+OpenHappens answer old new = AreSame old new
 
 abbrev pub is_search : Ask → Bool
 is_search (Search name key) = true
 is_search (Present name first count syntax element) = false
 is_search (Scan dbs ask) = false
 
--- a search that was begun
-abbrev pub begins_search : Ask → Began → Bool
-begins_search ask began.Started = is_search ask
-begins_search ask began.Failed = false
-begins_search ask began.Memory = false
+-- an ask: a search that was begun, and one that failed
+abbrev pub start_counted : Ask → Began → Counted
+start_counted ask began.Started = record nothing { search = is_search ask }
+start_counted ask began.Failed = record nothing { fault = true }
+start_counted ask began.Memory = nothing
 
-abbrev pub is_gone : Heard → Bool
-is_gone Gone = true
-is_gone answer = false
+-- a look: one that heard nothing yet, one that heard that a set is gone, and one that failed
+abbrev pub heard_counted : Heard → Counted
+heard_counted NotYet = record nothing { wait = true }
+heard_counted Gone = record nothing { gone = true }
+heard_counted Failed = record nothing { fault = true }
+heard_counted answer = nothing
 
-abbrev pub is_not_yet : Heard → Bool
-is_not_yet NotYet = true
-is_not_yet answer = false
+-- of one that found no memory it is not said whether a reply had come that says that a set is gone
+abbrev pub LookCounts : Bool → Type 0 → Heard → Counts → Counts → Type 0
+LookCounts exact told Memory old new =
+    BackendCounts exact told nothing old new ⊎ BackendCounts exact told (record nothing { gone = true }) old new
+LookCounts exact told answer old new = BackendCounts exact told (heard_counted answer) old new

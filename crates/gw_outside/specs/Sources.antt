@@ -1,5 +1,5 @@
 -- What a source gives (this project's own)
-use Rattle.std.specs.Prelude.{◌≡◌, ℕ, ◌≤◌, List, [], ◌++◌, Option, None, Some, length, take, drop}
+use Rattle.std.specs.Prelude.{◌≡◌, ℕ, ◌≤◌, List, [], ◌++◌, Option, None, Some, option_map, length, take, drop}
 use Rattle.gw_outside.specs.declared.sources.Got.{Got}
 use Rattle.gw_outside.specs.declared.sources.Got.TheVariants.{Bytes, End, Failed}
 
@@ -19,3 +19,9 @@ GotFits old new before after (Bytes count) =
     (1 ≤ count) × (count ≤ length before) × (drop count after ≡ drop count before) × Gave old (take count after) new
 GotFits old new before after End = HasEnded old × (new ≡ old) × (after ≡ before)
 GotFits old new before after Failed = (new ≡ old) × (after ≡ before)
+
+-- what was given after a read into a buffer
+abbrev pub given_after : List ℕ → Got → Option (List ℕ) → Option (List ℕ)
+given_after into (Bytes count) given = option_map (λ before. before ++ take count into) given
+given_after into End given = given
+given_after into Failed given = given

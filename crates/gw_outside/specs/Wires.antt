@@ -1,5 +1,5 @@
 -- What a wire answers, and what its links tell (this project's own)
-use Rattle.std.specs.Prelude.{◌≡◌, ℕ, ◌≤◌, Bool, true, false, List, [], ◌∷◌, ◌++◌, length, Option, None, Some, option_map, IfSome, IsSome, Ok}
+use Rattle.std.specs.Prelude.{◌≡◌, ℕ, ◌-◌, ◌≤◌, ◌<◌, Bool, true, false, List, [], ◌∷◌, ◌++◌, length, Option, None, Some, IfSome, IsSome, Ok}
 use Rattle.z_ber.specs.Element.{Forest}
 use Rattle.z_ber.specs.Frames.{IsFrame}
 use Rattle.z_ber.specs.Place.{IsUnit}
@@ -15,7 +15,9 @@ use Rattle.gw_outside.specs.declared.wires.Sent.{Sent}
 use Rattle.gw_outside.specs.declared.wires.Sent.TheVariants as sent
 use Rattle.gw_outside.specs.declared.wires.Looked.{Looked}
 use Rattle.gw_outside.specs.declared.wires.Looked.TheVariants as looked
-use Rattle.gw_outside.specs.Counts.{one_more}
+use Rattle.gw_outside.specs.declared.links.Linked as linked
+use Rattle.gw_outside.specs.Counts.{Counts, Counted, WireCounts, nothing, after}
+use Rattle.gw_outside.specs.Happened.{Happened, AreSame, AreLess, IsAsked, to_peer, at_address, is_cut, sets_found}
 use Rattle.gw_outside.specs.Peers.{Peer, new_peer, TakesRequest, IsShortRequest}
 use Rattle.gw_outside.specs.Replies.{says_gone}
 
@@ -45,18 +47,27 @@ pub record IsNewPeer (told : Type 0) (address : Address) (peer : Option Peer) : 
   pub where_told : told → IsSome peer
   pub new : IfSome peer (λ p. p ≡ new_peer address)
 
+-- a new link; one that is exact is of a told address, and an exact wire numbers its links by its dials
+pub record IsNewLink {W L : Type 0} (w : world.Ghosts W) (l : linked.Ghosts L) (exact : Bool) (address : Address) (counts : Counts) (link : L) : Type 0 where
+  pub arrived : l.arrived link ≡ []
+  pub peer : IsNewPeer (w.told address) address (l.peer link)
+  pub told : l.exact ≡ true → w.told address
+  pub number : exact ≡ true → l.number link ≡ counts.dials
+  pub delays : l.delays link ≡ []
+
 -- a peer that is told takes the request that a unit is
-abbrev pub PeerTakes : {W : Type 0} → world.Ghosts W → List ℕ → Option Peer → Option Peer → Type 0
-PeerTakes w unit None new = new ≡ None
-PeerTakes w unit (Some old) None = ⊥
-PeerTakes w unit (Some old) (Some new) =
-    (request : Request) → IsRequestUnit unit request → IsShortRequest request → TakesRequest w request old new
+abbrev pub PeerTakes : {W : Type 0} → world.Ghosts W → List ℕ → Happened → Option Peer → Option Peer → Type 0
+PeerTakes w unit h None new = new ≡ None
+PeerTakes w unit h (Some old) None = ⊥
+PeerTakes w unit h (Some old) (Some new) =
+    (request : Request) → IsRequestUnit unit request → IsShortRequest request →
+    TakesRequest w h.steady (sets_found (at_address h old.address) request old.sets) request old new
 
 -- a unit was sent, or the link is of no more use
-abbrev pub SendFits : {W : Type 0} → world.Ghosts W → List ℕ → Option Peer → Option Peer → Sent → Type 0
-SendFits w unit old new sent.Sent = PeerTakes w unit old new
-SendFits w unit old new sent.Failed = Unit {0}
-SendFits w unit old new sent.Memory = Unit {0}
+abbrev pub SendFits : {W : Type 0} → world.Ghosts W → List ℕ → Happened → Option Peer → Option Peer → Sent → Type 0
+SendFits w unit h old new sent.Sent = PeerTakes w unit h old new
+SendFits w unit h old new sent.Failed = Unit {0}
+SendFits w unit h old new sent.Memory = Unit {0}
 
 -- the first reply that is owed has arrived whole, as these octets
 pub record HandsOver (old new : Peer) (octets : List ℕ) : Type 0 where
@@ -80,28 +91,59 @@ LookFits old new before after looked.NotYet = (after ≡ before) × (new ≡ old
 LookFits old new before after looked.Failed = Unit {0}
 LookFits old new before after looked.Memory = Unit {0}
 
-abbrev pub is_not_yet : Looked → Bool
-is_not_yet looked.NotYet = true
-is_not_yet looked.Arrived = false
-is_not_yet looked.Failed = false
-is_not_yet looked.Memory = false
+-- ---- what happens to links
 
--- ---- what a wire may tell of its links
+-- on a steady wire a link is cut where a call on it fails
+abbrev pub FailsCut : {L : Type 0} → linked.Ghosts L → Happened → L → Type 0
+FailsCut l h link = h.steady ≡ true → is_cut (to_peer h (l.peer link)) (l.number link) ≡ true
 
--- links that were made, Searches that were sent, and replies that arrived and said of a Present's result set that it is gone
-pub record Tally : Type 0 where
-  pub dials : ℕ
-  pub searches : ℕ
-  pub gones : ℕ
+-- what is left to happen after a unit that is a request
+abbrev pub IsSentTo : Option Peer → Request → Happened → Happened → Type 0
+IsSentTo None request old new = AreSame old new
+IsSentTo (Some peer) request old new = IsAsked peer.address request old new
 
-abbrev pub is_link : {L : Type 0} → Dialled L → Bool
-is_link (Link link) = true
-is_link Failed = false
-is_link Memory = false
+abbrev pub SendHappens : List ℕ → Option Peer → Happened → Happened → Sent → Type 0
+SendHappens unit peer old new sent.Sent = (request : Request) → IsRequestUnit unit request → IsSentTo peer request old new
+SendHappens unit peer old new sent.Failed = AreSame old new
+SendHappens unit peer old new sent.Memory = Unit {0}
 
--- a dial that gives a link counts
-abbrev pub after_dial : {L : Type 0} → Dialled L → Tally → Tally
-after_dial answer t = record t { dials = one_more (is_link answer) t.dials }
+-- a unit is sent on a steady wire: it fails where the link is cut, and its reply comes after as many looks as is stated now
+pub record SendsSteadily {L : Type 0} (l : linked.Ghosts L) (unit : List ℕ) (old new : L) (before after : Happened) (answer : Sent) : Type 0 where
+  pub fails : answer ≡ sent.Failed → FailsCut l before old
+  pub happened : SendHappens unit (l.peer old) before after answer
+  pub less : AreLess before after
+  pub number : l.number new ≡ l.number old
+  pub delays : before.steady ≡ true → answer ≡ sent.Sent → (request : Request) → IsRequestUnit unit request
+      → l.delays new ≡ l.delays old ++ (to_peer before (l.peer old)).delay ∷ []
+
+-- what a look leaves of the looks that are to find nothing before each reply that is owed
+abbrev pub DelaysLooked : List ℕ → List ℕ → Looked → Type 0
+DelaysLooked old new looked.Arrived = old ≡ 0 ∷ new
+DelaysLooked [] new looked.NotYet = new ≡ []
+DelaysLooked (first ∷ rest) new looked.NotYet = (0 < first) × (new ≡ (first - 1) ∷ rest)
+DelaysLooked old new looked.Failed = new ≡ old
+DelaysLooked old new looked.Memory = Unit {0}
+
+-- a look on a steady wire: it fails where the link is cut, and finds nothing as often as was stated
+pub record LooksSteadily {L : Type 0} (l : linked.Ghosts L) (old new : L) (before after : Happened) (answer : Looked) : Type 0 where
+  pub fails : answer ≡ looked.Failed → FailsCut l before old
+  pub happened : AreSame before after
+  pub number : l.number new ≡ l.number old
+  pub delays : before.steady ≡ true → DelaysLooked (l.delays old) (l.delays new) answer
+
+-- nothing of a link changes but what has arrived
+pub record IsSameLink {L : Type 0} (l : linked.Ghosts L) (old new : L) : Type 0 where
+  pub peer : l.peer new ≡ l.peer old
+  pub number : l.number new ≡ l.number old
+  pub delays : l.delays new ≡ l.delays old
+
+-- ---- what a wire counts
+
+-- a dial: one that gives a link, and one that fails
+abbrev pub dial_counted : {L : Type 0} → Dialled L → Counted
+dial_counted (Link link) = record nothing { dial = true }
+dial_counted Failed = record nothing { fault = true }
+dial_counted Memory = nothing
 
 abbrev pub is_search : Request → Bool
 is_search (request.Search search) = true
@@ -110,31 +152,29 @@ is_search (request.Present present) = false
 is_search (request.Scan scan) = false
 is_search (request.Close close) = false
 
-abbrev pub sends_search : Request → Sent → Bool
-sends_search request sent.Sent = is_search request
-sends_search request sent.Failed = false
-sends_search request sent.Memory = false
-
--- a Search that was sent counts
-abbrev pub after_send : Request → Sent → Tally → Tally
-after_send request answer t = record t { searches = one_more (sends_search request answer) t.searches }
-
--- of a unit that is a request
-abbrev pub SendCounts : List ℕ → Sent → Option Tally → Option Tally → Type 0
-SendCounts unit answer old new =
-    (request : Request) → IsRequestUnit unit request → new ≡ option_map (after_send request answer) old
+-- a send of a request: a Search that is sent, and one that fails
+abbrev pub send_counted : Request → Sent → Counted
+send_counted request sent.Sent = record nothing { search = is_search request }
+send_counted request sent.Failed = record nothing { fault = true }
+send_counted request sent.Memory = nothing
 
 abbrev pub first_says_gone : List Reply → Bool
 first_says_gone [] = false
 first_says_gone (reply ∷ rest) = says_gone reply
 
-abbrev pub gone_arrives : Option Peer → Looked → Bool
-gone_arrives None answer = false
-gone_arrives (Some peer) looked.Arrived = first_says_gone peer.owed
-gone_arrives (Some peer) looked.NotYet = false
-gone_arrives (Some peer) looked.Failed = false
-gone_arrives (Some peer) looked.Memory = false
+-- whether the first reply that a peer owes says that a set is gone
+abbrev pub owes_gone : Option Peer → Bool
+owes_gone None = false
+owes_gone (Some peer) = first_says_gone peer.owed
 
--- such a reply that arrives counts
-abbrev pub after_look : Option Peer → Looked → Tally → Tally
-after_look peer answer t = record t { gones = one_more (gone_arrives peer answer) t.gones }
+-- a look: one that finds nothing, one at which such a reply arrives, and one that fails
+abbrev pub look_counted : Option Peer → Looked → Counted
+look_counted peer looked.Arrived = record nothing { gone = owes_gone peer }
+look_counted peer looked.NotYet = record nothing { wait = true }
+look_counted peer looked.Failed = record nothing { fault = true }
+look_counted peer looked.Memory = nothing
+
+-- what a send counts, whatever its unit is, and where it is a request
+pub record SendCounts (exact : Bool) (unit : List ℕ) (answer : Sent) (old new : Counts) : Type 0 where
+  pub some : (request : Request) → WireCounts false (send_counted request answer) old new
+  pub exactly : (request : Request) → IsRequestUnit unit request → exact ≡ true → new ≡ after (send_counted request answer) old

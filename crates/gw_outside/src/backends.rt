@@ -1,11 +1,13 @@
 //! Sessions with targets.
 
-ghost use Rattle.std.specs.Prelude.{◌≡◌, ◌≤◌, ℕ, Bool, List, None};
-ghost use Rattle.z_types.specs.Pending.{IsPending, resting, opening};
+ghost use Rattle.std.specs.Prelude.{◌≡◌, List, ℕ};
+ghost use Rattle.z_types.specs.Pending.{IsPending, resting};
 ghost use Rattle.gw_outside.specs.Asks.{MayAsk};
-ghost use Rattle.gw_outside.specs.Counts.{Rose, one_more};
-ghost use Rattle.gw_outside.specs.Sessions.{IfSession, OpenCounts, Fits, IsWorlds, pending_from, pending_after, made_after, begins_search, is_gone, is_not_yet};
+ghost use Rattle.gw_outside.specs.Counts.{BackendCounts};
+ghost use Rattle.gw_outside.specs.Happened.{AreSame, AreLess};
+ghost use Rattle.gw_outside.specs.Sessions.{IfSession, IsNewSession, OpenHappens, OpenCounts, LookCounts, Fits, IsWorlds, pending_from, pending_after, made_after, start_counted};
 
+use crate::Watched;
 use std::alloc::Global;
 use z_types::{Address, Ask, Diag, Item, List, ScanAnswer, Sitting, World};
 
@@ -58,37 +60,20 @@ pub enum Heard {
 }
 
 /// Sessions with the targets of a world.
-pub trait Backend<W: World> {
+///
+/// A session is opened, and looked at until the reply to its Init has come. Then it is asked for one
+/// thing at a time, each time looked at until the answer has come. Once a call on it answered `Failed`
+/// or `Memory` it is dropped.
+pub trait Backend<W: World>: Watched {
     /// One session.
     type Session: Sitting<W>;
 
-    /// How many calls failed. It never falls.
-    ghost faults: { Self → ℕ };
-
-    /// How many looks heard no reply.
-    ghost waits: { Self → ℕ };
-
-    /// How many looks heard that a result set is gone.
-    ghost gones: { Self → ℕ };
-
-    /// How many searches were begun.
-    ghost searches: { Self → ℕ };
-
-    /// How many links were made.
-    ghost dials: { Self → ℕ };
-
     /// Makes a link to an address and sends an Init over it.
     fn open_(&mut self, alloc: Global, address: &Address) -> Opening<Self::Session>
-        ensures address { IfSession result (λ s. Self.Session.address s ≡ address.now) }
-        ensures pending { IfSession result (λ s. Self.Session.pending s ≡ opening) }
-        ensures made { IfSession result (λ s. (name : List ℕ) → Self.Session.made s name ≡ None) }
-        ensures failed { (linked : Bool) → result ≡ Opening.Failed linked
-            → Rose (faults self.old) (faults self.new) }
-        ensures faults { faults self.old ≤ faults self.new }
-        ensures waits { waits self.new ≡ waits self.old }
-        ensures gones { gones self.new ≡ gones self.old }
-        ensures searches { searches self.new ≡ searches self.old }
-        ensures dials { OpenCounts result (dials self.old) (dials self.new) };
+        ensures session { IfSession result (IsNewSession Self.Session.Sitting address.now) }
+        ensures happened { OpenHappens result (Self.happened self.old) (Self.happened self.new) }
+        ensures counts { OpenCounts Self.exact
+            result (Self.counts self.old) (Self.counts self.new) };
 
     /// Asks a session that rests.
     fn start(&mut self, alloc: Global, session: &mut Self::Session, ask: &Ask) -> Began
@@ -98,15 +83,11 @@ pub trait Backend<W: World> {
         ensures address { Self.Session.address session.new ≡ Self.Session.address session.old }
         ensures made { (name : List ℕ)
             → Self.Session.made session.new name ≡ Self.Session.made session.old name }
-        ensures failed { result ≡ Began.Failed → Rose (faults self.old) (faults self.new) }
-        ensures faults { faults self.old ≤ faults self.new }
-        ensures waits { waits self.new ≡ waits self.old }
-        ensures gones { gones self.new ≡ gones self.old }
-        ensures searches { searches self.new
-            ≡ one_more (begins_search ask.now result) (searches self.old) }
-        ensures dials { dials self.new ≡ dials self.old };
+        ensures happened { AreLess (Self.happened self.old) (Self.happened self.new) }
+        ensures counts { BackendCounts Self.exact (Unit {0})
+            (start_counted ask.now result) (Self.counts self.old) (Self.counts self.new) };
 
-    /// Looks for the reply that a session waits for.
+    /// Looks for the reply that a session waits for. At an address that is told no reply is a breach.
     fn look(&mut self, alloc: Global, session: &mut Self::Session) -> Heard
         requires { IsPending (Self.Session.pending session.old) }
         ensures fits { Fits (Self.Session.pending session.old) result }
@@ -119,10 +100,7 @@ pub trait Backend<W: World> {
             ≡ made_after (Self.Session.pending session.old) result
             (Self.Session.made session.old) name }
         ensures address { Self.Session.address session.new ≡ Self.Session.address session.old }
-        ensures failed { result ≡ Heard.Failed → Rose (faults self.old) (faults self.new) }
-        ensures faults { faults self.old ≤ faults self.new }
-        ensures waits { waits self.new ≡ one_more (is_not_yet result) (waits self.old) }
-        ensures gones { gones self.new ≡ one_more (is_gone result) (gones self.old) }
-        ensures searches { searches self.new ≡ searches self.old }
-        ensures dials { dials self.new ≡ dials self.old };
+        ensures happened { AreSame (Self.happened self.old) (Self.happened self.new) }
+        ensures counts { LookCounts Self.exact (W.told (Self.Session.address session.old))
+            result (Self.counts self.old) (Self.counts self.new) };
 }

@@ -1,7 +1,7 @@
 //! Files that are read whole.
 
 ghost use Rattle.std.specs.Prelude.{◌≡◌, ◌≢◌, ◌≤◌, ℕ, List, Option, IfSome};
-ghost use Rattle.gw_outside.specs.Counts.{Rose};
+ghost use Rattle.z_types.specs.Counts.{Rose};
 ghost use Rattle.gw_outside.specs.Files.{FileFits};
 
 use std::alloc::Global;

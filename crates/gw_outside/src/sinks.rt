@@ -1,7 +1,7 @@
 //! Where octets go.
 
 ghost use Rattle.std.specs.Prelude.{◌≡◌, ◌≤◌, ◌<◌, ℕ, List, Option, length, IsTrue, false};
-ghost use Rattle.gw_outside.specs.Counts.{Rose};
+ghost use Rattle.z_types.specs.Counts.{Rose};
 ghost use Rattle.gw_outside.specs.Sinks.{TookFits, ReceivedPrefix, appended};
 
 /// What a write took.
@@ -14,7 +14,7 @@ pub enum Took {
 }
 
 /// A stream of octets that can be written.
-pub trait Sink {
+pub trait Sink: Drop {
     /// How many writes failed. It never falls.
     ghost faults: { Self → ℕ };
 

@@ -1,8 +1,8 @@
 //! Where octets come from.
 
 ghost use Rattle.std.specs.Prelude.{◌≡◌, ◌≤◌, ◌<◌, ℕ, List, Option, length};
-ghost use Rattle.gw_outside.specs.Counts.{Rose};
-ghost use Rattle.gw_outside.specs.Sources.{GotFits};
+ghost use Rattle.z_types.specs.Counts.{Rose};
+ghost use Rattle.gw_outside.specs.Sources.{GotFits, given_after};
 
 /// What a read gave.
 #[derive(Clone, Copy, PartialEq, Eq, Debug)]
@@ -16,17 +16,21 @@ pub enum Got {
 }
 
 /// A stream of octets that can be read.
-pub trait Source {
+pub trait Source: Drop {
     /// How many reads failed. It never falls.
     ghost faults: { Self → ℕ };
 
     /// The octets that are left, where the source tells them.
     ghost left: { Self → Option (List ℕ) };
 
+    /// The octets that were given, where the source tells them.
+    ghost given: { Self → Option (List ℕ) };
+
     /// Reads the next octets into the front of `into`, which is not empty.
     fn read(&mut self, into: &mut [u8]) -> Got
         requires { 0 < length into.old }
         ensures fits { GotFits (left self.old) (left self.new) into.old into.new result }
+        ensures given { given self.new ≡ given_after into.new result (given self.old) }
         ensures failed { result ≡ Got.Failed → Rose (faults self.old) (faults self.new) }
         ensures faults { faults self.old ≤ faults self.new };
 }

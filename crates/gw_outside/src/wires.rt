@@ -1,12 +1,13 @@
 //! Links with targets, over which octets go both ways.
 
-ghost use Rattle.std.specs.Prelude.{◌≡◌, ◌≤◌, ℕ, List, [], Option, length, drop, option_map};
-ghost use Rattle.gw_outside.specs.Counts.{Rose, one_more};
-ghost use Rattle.gw_outside.specs.Peers.{Peer};
-ghost use Rattle.gw_outside.specs.Wires.{Tally, IfLink, IsNewPeer, SendFits, LookFits, SendCounts, after_dial, after_look, is_not_yet};
+ghost use Rattle.std.specs.Prelude.{◌≡◌, ◌≤◌, length, drop, true};
+ghost use Rattle.gw_outside.specs.Counts.{WireCounts};
+ghost use Rattle.gw_outside.specs.Happened.{AreSame};
+ghost use Rattle.gw_outside.specs.Wires.{IfLink, IsNewLink, IsSameLink, SendFits, LookFits, SendsSteadily, LooksSteadily, SendCounts, dial_counted, look_counted};
 
+use crate::{Linked, Watched};
 use std::alloc::Global;
-use z_types::{Address, Memory, World};
+use z_types::{Address, World};
 
 /// What a dial gave.
 #[derive(Drop)]
@@ -43,58 +44,42 @@ pub enum Looked {
     Memory,
 }
 
-/// A link with a target, as proofs see it. No code has what it says.
-pub trait Linked: Drop {
-    /// The octets that arrived and are not consumed.
-    ghost arrived: { Self → List ℕ };
-
-    /// The target's end, where the link tells it.
-    ghost peer: { Self → Option Peer };
-}
-
 /// Links with the targets of a world. Where an address is told its links tell their peers.
-pub trait Wire<W: World> {
+///
+/// A link is dialled, sent units, and looked at; octets that arrived are lent and consumed. Once a send
+/// or a look on it answered `Failed` or `Memory` it is dropped.
+pub trait Wire<W: World>: Watched {
     /// One link.
     type Link: Linked;
 
-    /// How many calls failed. It never falls.
-    ghost faults: { Self → ℕ };
-
-    /// How many looks found nothing.
-    ghost waits: { Self → ℕ };
-
-    /// What was dialled, searched and found gone, where the wire tells it.
-    ghost tally: { Self → Option Tally };
-
-    /// Makes a link to an address.
+    /// Makes a link to an address. A steady wire fails at no address that is told.
     fn dial(&mut self, alloc: Global, address: &Address) -> Dialled<Self::Link>
-        ensures nothing { IfLink result (λ link. Self.Link.arrived link ≡ []) }
-        ensures peer { IfLink result
-            (λ link. IsNewPeer (W.told address.now) address.now (Self.Link.peer link)) }
-        ensures failed { result ≡ Dialled.Failed → Rose (faults self.old) (faults self.new) }
-        ensures faults { faults self.old ≤ faults self.new }
-        ensures waits { waits self.new ≡ waits self.old }
-        ensures tally { tally self.new ≡ option_map (after_dial result) (tally self.old) };
+        ensures link { IfLink result (IsNewLink W.World Self.Link.Linked
+            Self.exact address.now (Self.counts self.new)) }
+        ensures fails { result ≡ Dialled.Failed
+            → (Self.happened self.old).steady ≡ true → ¬ W.told address.now }
+        ensures happened { AreSame (Self.happened self.old) (Self.happened self.new) }
+        ensures counts { WireCounts Self.exact
+            (dial_counted result) (Self.counts self.old) (Self.counts self.new) };
 
     /// Sends one unit over a link.
     fn send(&mut self, alloc: Global, link: &mut Self::Link, unit: &[u8]) -> Sent
         ensures arrived { Self.Link.arrived link.new ≡ Self.Link.arrived link.old }
-        ensures peer { SendFits W.World
-            unit.now (Self.Link.peer link.old) (Self.Link.peer link.new) result }
-        ensures failed { result ≡ Sent.Failed → Rose (faults self.old) (faults self.new) }
-        ensures faults { faults self.old ≤ faults self.new }
-        ensures waits { waits self.new ≡ waits self.old }
-        ensures tally { SendCounts unit.now result (tally self.old) (tally self.new) };
+        ensures peer { SendFits W.World unit.now (Self.happened self.old)
+            (Self.Link.peer link.old) (Self.Link.peer link.new) result }
+        ensures steady { SendsSteadily Self.Link.Linked unit.now link.old link.new
+            (Self.happened self.old) (Self.happened self.new) result }
+        ensures counts { SendCounts Self.exact unit.now
+            result (Self.counts self.old) (Self.counts self.new) };
 
     /// Looks whether octets have arrived.
     fn look(&mut self, alloc: Global, link: &mut Self::Link) -> Looked
         ensures fits { LookFits (Self.Link.peer link.old) (Self.Link.peer link.new)
             (Self.Link.arrived link.old) (Self.Link.arrived link.new) result }
-        ensures failed { result ≡ Looked.Failed → Rose (faults self.old) (faults self.new) }
-        ensures faults { faults self.old ≤ faults self.new }
-        ensures waits { waits self.new ≡ one_more (is_not_yet result) (waits self.old) }
-        ensures tally { tally self.new
-            ≡ option_map (after_look (Self.Link.peer link.old) result) (tally self.old) };
+        ensures steady { LooksSteadily Self.Link.Linked link.old link.new
+            (Self.happened self.old) (Self.happened self.new) result }
+        ensures counts { WireCounts Self.exact (look_counted (Self.Link.peer link.old) result)
+            (Self.counts self.old) (Self.counts self.new) };
 
     /// The octets that arrived and are not consumed.
     fn arrived<'a>(&self, link: &'a Self::Link) -> &'a [u8]
@@ -104,21 +89,10 @@ pub trait Wire<W: World> {
     fn consume(&mut self, link: &mut Self::Link, count: usize)
         requires { count ≤ length (Self.Link.arrived link.old) }
         ensures arrived { Self.Link.arrived link.new ≡ drop count (Self.Link.arrived link.old) }
-        ensures peer { Self.Link.peer link.new ≡ Self.Link.peer link.old }
-        ensures faults { faults self.new ≡ faults self.old }
-        ensures waits { waits self.new ≡ waits self.old }
-        ensures tally { tally self.new ≡ tally self.old };
-}
+        ensures link { IsSameLink Self.Link.Linked link.old link.new }
+        ensures happened { AreSame (Self.happened self.old) (Self.happened self.new) }
+        ensures counts { Self.counts self.new ≡ Self.counts self.old };
 
-/// What may be made to happen to the links of a wire.
-pub trait Events {
-    /// From now on the next `presents` Presents of a target find all result sets gone. The number
-    /// takes the place of what was left of an earlier one.
-    fn gone(&mut self, target: u32, presents: u32) -> Result<(), Memory>;
-
-    /// Cuts all links of a target that are open.
-    fn cut(&mut self, target: u32) -> Result<(), Memory>;
-
-    /// The replies that a target makes from now on arrive after `looks` looks that find nothing.
-    fn slow(&mut self, target: u32, looks: u32) -> Result<(), Memory>;
+    /// An exact wire has exact links.
+    ghost exact_links: { Self.exact ≡ true → Self.Link.exact ≡ true };
 }

@@ -1,3 +1,4 @@
 pub mod AllOrFirst
 pub mod Taken
 pub mod Rooms
+mod AskedLemmas

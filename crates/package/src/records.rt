@@ -54,7 +54,7 @@ pub(crate) fn records_from<T: Targets>(
         let (leg, rank) = locate(hits.as_slice(), first + behind);
         match record_at(alloc, route, targets, wanted, leg, rank) {
             TargetAnswer::Good(record) => {
-                let Ok(()) = put(&mut records, record) else {
+                let Ok(()) = push_next(&mut records, record) else {
                     return TargetAnswer::Memory;
                 };
             }
@@ -65,8 +65,8 @@ pub(crate) fn records_from<T: Targets>(
     TargetAnswer::Good(records)
 }
 
-/// Puts a record behind others, where there is one.
-fn put(records: &mut List<NamedRecord>, next: Option<NamedRecord>) -> Result<(), Memory>
+/// Pushes a record behind others, where there is one.
+fn push_next(records: &mut List<NamedRecord>, next: Option<NamedRecord>) -> Result<(), Memory>
     ensures { OnOk result (records.new ≡ records.old ++ option_to_list next) }
 {
     match next {

@@ -13,7 +13,8 @@ use Rattle.pool_sets.specs.declared.pooled.Parts.{Parts}
 use Rattle.pool_sets.specs.declared.sessions.Stand.{Stand}
 use Rattle.pool_sets.specs.declared.sessions.Stand.TheVariants.{Idle, Out}
 use Rattle.pool_sets.specs.declared.doors.Taken.TheVariants.{Reuse, Fresh}
-use Rattle.pool_sets.specs.Table.{Entry, Table, set_of, same_key, slot_and_hits, after_find, moment_of, without}
+use Rattle.pool_sets.specs.Table.{Entry, Table, set_of, same_key, after_find, moment_of, without}
+use Rattle.pool_sets.specs.Entries.{slot_and_hits}
 use Rattle.pool_sets.specs.Sessions.{Session, Idler, is_among, same_address, address_of, in_class, idle_parts, idler, idle_in, idle_with, first_some, stands_at}
 use Rattle.z_types.specs.Pending.{resting}
 use Rattle.pool_sets.specs.Plain.{Pool, with_sessions, one_idle, any_idle}

@@ -1,7 +1,6 @@
--- A pool as contracts see it (this project's own)
+-- A pool of one thread, in words that contracts alone use (this project's own)
 use Rattle.std.specs.Prelude.{◌≡◌, ℕ, ◌<◌, ◌≤◌, ◌^◌, List, [], ◌∷◌, length, All, Bool, true, false, is_some, Option, position}
 use Rattle.z_types.specs.declared.address.Address.{Address}
-use Rattle.z_types.specs.declared.world.World as world
 use Rattle.z_types.specs.declared.sitting.Sitting as sitting
 use Rattle.pool_sets.specs.Sessions.{Session, idle_in, idle_with}
 use Rattle.pool_sets.specs.declared.pooled.Parts.{Parts}
@@ -9,9 +8,10 @@ use Rattle.pool_sets.specs.declared.sessions.Stand.{Stand}
 use Rattle.pool_sets.specs.declared.sessions.Stand.TheVariants.{Idle, Out}
 use Rattle.pool_sets.specs.declared.doors.Seat.{Seat}
 use Rattle.pool_sets.specs.declared.doors.Taken.{Taken}
-use Rattle.pool_sets.specs.declared.doors.Taken.TheVariants.{Reuse, Fresh, Dial, Full, Memory}
+use Rattle.pool_sets.specs.declared.doors.Taken.TheVariants.{Fresh, Dial, Memory}
 use Rattle.z_types.specs.declared.key.SetKey.{SetKey}
-use Rattle.pool_sets.specs.Doors.{IsReady, HasSet, one_more}
+use Rattle.z_types.specs.Counts.{one_more}
+use Rattle.pool_sets.specs.Counts.{DoorCounts}
 use Rattle.z_types.specs.Pending.{resting}
 use Rattle.route_config.specs.declared.route.PoolNumbers.{PoolNumbers}
 use Rattle.pool_sets.specs.Plain.{Pool, redial}
@@ -42,6 +42,10 @@ module _ {S : Type 0} where
   -- 0 is the last before the first
   abbrev pub new_pool : PoolNumbers → PoolView S
   new_pool n = pool_after n 0
+
+  -- what it counts as a door
+  abbrev pub counts_of : PoolView S → DoorCounts
+  counts_of v = record { most = v.pool.max_sessions; fulls = v.fulls; opens = v.opens; booked = v.booked }
 
   -- another pool with the same counts
   abbrev pub with_pool : Pool S → PoolView S → PoolView S
@@ -89,34 +93,7 @@ abbrev pub Gives : {S : Type 0} → Taken S × Pool S → Pool S → Taken S →
 Gives wanted old Memory new = new ≡ old
 Gives wanted old answer new = (answer, new) ≡ wanted
 
--- a session that holds a set of the key, or nothing for want of memory
-abbrev pub IsReuse : {W S : Type 0} → world.Ghosts W → sitting.Ghosts S W → List Address → SetKey → Taken S → Type 0
-IsReuse w t at key (Reuse seat p slot hits) = IsReady w t at p × HasSet p.table.entries slot key hits
-IsReuse w t at key Memory = Unit {0}
-IsReuse w t at key answer = ⊥
-
--- a session that was idle, or nothing for want of memory
-abbrev pub IsFresh : {W S : Type 0} → world.Ghosts W → sitting.Ghosts S W → List Address → Taken S → Type 0
-IsFresh w t at (Fresh seat p) = IsReady w t at p
-IsFresh w t at Memory = Unit {0}
-IsFresh w t at answer = ⊥
-
--- a place to dial, or that no more may be open, or nothing for want of memory
-abbrev pub IsOpened : {S : Type 0} → ℕ → ℕ → Taken S → Type 0
-IsOpened members most (Dial seat member) = member < members
-IsOpened members most (Full open_) = open_ ≡ most
-IsOpened members most Memory = Unit {0}
-IsOpened members most answer = ⊥
-
--- any of these
-abbrev pub IsAny : {W S : Type 0} → world.Ghosts W → sitting.Ghosts S W → List Address → ℕ → Taken S → Type 0
-IsAny w t at most (Fresh seat p) = IsReady w t at p
-IsAny w t at most (Dial seat member) = member < length at
-IsAny w t at most (Full open_) = open_ ≡ most
-IsAny w t at most Memory = Unit {0}
-IsAny w t at most answer = ⊥
-
--- a session that holds no set wanted
+-- a session that holds no set wanted, for who wanted one
 abbrev pub is_new : {S : Type 0} → Taken S → Bool
 is_new (Fresh seat p) = true
 is_new (Dial seat member) = true

@@ -3,7 +3,7 @@
 ghost use Rattle.std.specs.Prelude.{◌≡◌, ◌<◌, ◌^◌, ◌≤◌, position, is_some, option_copied, length, filter, count_by};
 ghost use Rattle.pool_sets.specs.Sessions.{is_among, in_class, idle_in, idle_with, open_of, member_for};
 ghost use Rattle.pool_sets.specs.Plain.{is_seat};
-ghost use Rattle.pool_core.specs.Counts.{counts_but, counts_for};
+ghost use Rattle.pool_core.specs.Loads.{is_counted, is_counted_for};
 ghost use Rattle.pool_core.specs.PoolView.{idle_place, holder_place};
 
 use crate::Spot;
@@ -127,8 +127,11 @@ pub fn seat_place<W: World, S: Sitting<W>>(
 }
 
 /// Whether the session counts, where that of a seat does not.
-fn counts<W: World, S: Sitting<W>>(session: &Open<Pooled<W, S>, Spot>, but: Option<&Seat>) -> bool
-    ensures { result ≡ counts_but (option_copied but.entry) session.now }
+fn is_counted<W: World, S: Sitting<W>>(
+    session: &Open<Pooled<W, S>, Spot>,
+    but: Option<&Seat>,
+) -> bool
+    ensures { result ≡ is_counted (option_copied but.entry) session.now }
 {
     match but {
         Some(seat) => !is_seat(session, seat),
@@ -144,9 +147,9 @@ fn is_of_member<W: World, S: Sitting<W>>(
     member: u32,
     but: Option<&Seat>,
 ) -> bool
-    ensures { result ≡ counts_for (option_copied but.entry) class at.now member session.now }
+    ensures { result ≡ is_counted_for (option_copied but.entry) class at.now member session.now }
 {
-    counts(session, but) && is_in_class(session, class, at) && session.member == member
+    is_counted(session, but) && is_in_class(session, class, at) && session.member == member
 }
 
 /// How many sessions count for a member of the class.
@@ -159,7 +162,7 @@ fn load<W: World, S: Sitting<W>>(
 ) -> u32
     requires few { length sessions.now < 2 ^ 32 }
     ensures { result
-        ≡ count_by (counts_for (option_copied but.entry) class at.now member) sessions.now }
+        ≡ count_by (is_counted_for (option_copied but.entry) class at.now member) sessions.now }
 {
     sessions
         .iter()
@@ -178,7 +181,7 @@ pub fn member_for<W: World, S: Sitting<W>>(
     requires some { 0 < length at.now }
     requires members { length at.now ≤ 16 }
     ensures member { result
-        ≡ member_for class at.now (filter (counts_but (option_copied but.entry)) sessions.now) }
+        ≡ member_for class at.now (filter (is_counted (option_copied but.entry)) sessions.now) }
     ensures within { result < length at.now }
 {
     let mut loads = [0; 16];

@@ -4,6 +4,7 @@ ghost use Rattle.std.specs.Prelude.{◌≡◌, Some, option_map};
 ghost use Rattle.z_types.specs.Pending.{resting};
 ghost use Rattle.pool_sets.specs.Plain.{put};
 ghost use Rattle.pool_sets.specs.Kept.{TableKept};
+ghost use Rattle.pool_core.specs.PoolView.{counts_of};
 
 use crate::Pool;
 use pool_sets::{Door, Parts, Seat, Taken};
@@ -13,13 +14,7 @@ use z_types::{Address, SetKey, Sitting, World};
 impl<W: World, S: Sitting<W>> Door<W, S> for Pool<W, S> {
     ghost pool = { λ p. Some p.pool };
 
-    ghost most = { λ p. p.pool.max_sessions };
-
-    ghost fulls = { λ p. p.fulls };
-
-    ghost opens = { λ p. p.opens };
-
-    ghost booked = { λ p. p.booked };
+    ghost counts = { λ p. counts_of p };
 
     fn take(
         &mut self,
@@ -40,10 +35,7 @@ impl<W: World, S: Sitting<W>> Door<W, S> for Pool<W, S> {
         requires rests { S.pending parts.session ≡ resting }
         requires kept { TableKept W.World S.Sitting parts }
         ensures plain { Some self.new.pool ≡ option_map (put seat parts now) (Some self.old.pool) }
-        ensures fulls { self.new.fulls ≡ self.old.fulls }
-        ensures opens { self.new.opens ≡ self.old.opens }
-        ensures booked { self.new.booked ≡ self.old.booked }
-        ensures most { self.new.pool.max_sessions ≡ self.old.pool.max_sessions }
+        ensures counts { counts_of self.new ≡ counts_of self.old }
     {
         self.put_back(seat, parts, now);
     }

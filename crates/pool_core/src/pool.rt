@@ -6,9 +6,10 @@ ghost use Rattle.z_types.specs.Pending.{resting};
 ghost use Rattle.pool_sets.specs.declared.sessions.Stand.TheVariants.{Idle, Out};
 ghost use Rattle.pool_sets.specs.Sessions.{is_out, idle_parts, with_stand};
 ghost use Rattle.pool_sets.specs.Plain.{stays_open, with_fresh_sets, fresh_sessions, expire, take_with, take_any, open_one, lost, without_seat, put, redial_member};
-ghost use Rattle.pool_sets.specs.Doors.{TakenFits, one_more, is_full, is_dial, is_booked};
+ghost use Rattle.pool_sets.specs.Counts.{after_take};
+ghost use Rattle.pool_sets.specs.Doors.{TakenFits};
 ghost use Rattle.pool_sets.specs.Kept.{TableKept};
-ghost use Rattle.pool_core.specs.PoolView.{Gives, IsReuse, IsFresh, IsOpened, IsAny, idle_place, holder_place, at_member, new_pool, pool_after, with_pool, after_book, after_redial};
+ghost use Rattle.pool_core.specs.PoolView.{Gives, idle_place, holder_place, at_member, new_pool, pool_after, with_pool, counts_of, after_book, after_redial};
 
 use crate::Spot;
 use crate::choice::{holder_place, idle_place, is_seat, member_for, open_in, seat_place};
@@ -214,10 +215,11 @@ impl<W: World, S: Sitting<W>> Pool<W, S> {
         requires first { holder_place class at.now key.now self.old.pool.sessions ≡ Some place }
         ensures plain { Gives (take_with class at.now key.now now self.old.pool)
             self.old.pool result self.new.pool }
-        ensures fits { IsReuse W.World S.Sitting at.now key.now result }
-        ensures counts { self.new ≡ with_pool self.new.pool self.old }
+        ensures fits { TakenFits W.World S.Sitting
+            at.now (Some key.now) self.old.pool.max_sessions result }
+        ensures counts { counts_of self.new
+            ≡ after_take (Some key.now) result (counts_of self.old) }
         ensures bound { length self.new.pool.sessions ≤ self.new.opens }
-        ensures most { self.new.pool.max_sessions ≡ self.old.pool.max_sessions }
     {
         let Some(spot) = spot_for(alloc, &self.sessions[place]) else {
             return Taken::Memory;
@@ -243,10 +245,10 @@ impl<W: World, S: Sitting<W>> Pool<W, S> {
         requires first { idle_place class at.now self.old.pool.sessions ≡ Some place }
         ensures plain { Gives (take_any class at.now self.old.pool)
             self.old.pool result self.new.pool }
-        ensures fits { IsFresh W.World S.Sitting at.now result }
-        ensures counts { self.new ≡ with_pool self.new.pool self.old }
+        ensures fits { TakenFits W.World S.Sitting
+            at.now None self.old.pool.max_sessions result }
+        ensures counts { counts_of self.new ≡ after_take None result (counts_of self.old) }
         ensures bound { length self.new.pool.sessions ≤ self.new.opens }
-        ensures most { self.new.pool.max_sessions ≡ self.old.pool.max_sessions }
     {
         let Some(spot) = spot_for(alloc, &self.sessions[place]) else {
             return Taken::Memory;
@@ -268,12 +270,10 @@ impl<W: World, S: Sitting<W>> Pool<W, S> {
         requires few { length at.now ≤ 16 }
         ensures plain { Gives (open_one class at.now self.old.pool)
             self.old.pool result self.new.pool }
-        ensures fits { IsOpened (length at.now) self.old.pool.max_sessions result }
-        ensures fulls { self.new.fulls ≡ one_more (is_full result) self.old.fulls }
-        ensures opens { self.new.opens ≡ one_more (is_dial result) self.old.opens }
-        ensures booked { self.new.booked ≡ self.old.booked }
+        ensures fits { TakenFits W.World S.Sitting
+            at.now None self.old.pool.max_sessions result }
+        ensures counts { counts_of self.new ≡ after_take None result (counts_of self.old) }
         ensures bound { length self.new.pool.sessions ≤ self.new.opens }
-        ensures most { self.new.pool.max_sessions ≡ self.old.pool.max_sessions }
     {
         if open_in(&self.sessions, class, at) >= self.numbers.max_sessions as usize {
             self.fulls = self.fulls.saturating_add(1);
@@ -345,12 +345,10 @@ impl<W: World, S: Sitting<W>> Pool<W, S> {
         requires few { length at.now ≤ 16 }
         ensures plain { Gives (take_any class at.now self.old.pool)
             self.old.pool result self.new.pool }
-        ensures fits { IsAny W.World S.Sitting at.now self.old.pool.max_sessions result }
-        ensures fulls { self.new.fulls ≡ one_more (is_full result) self.old.fulls }
-        ensures opens { self.new.opens ≡ one_more (is_dial result) self.old.opens }
-        ensures booked { self.new.booked ≡ self.old.booked }
+        ensures fits { TakenFits W.World S.Sitting
+            at.now None self.old.pool.max_sessions result }
+        ensures counts { counts_of self.new ≡ after_take None result (counts_of self.old) }
         ensures bound { length self.new.pool.sessions ≤ self.new.opens }
-        ensures most { self.new.pool.max_sessions ≡ self.old.pool.max_sessions }
     {
         if let Some(place) = self.idle(class, at) {
             return self.fresh(alloc, class, at, place);
@@ -373,12 +371,9 @@ impl<W: World, S: Sitting<W>> Pool<W, S> {
             self.old.pool result self.new.pool }
         ensures fits { TakenFits W.World S.Sitting
             at.now (Some key.now) self.old.pool.max_sessions result }
-        ensures fulls { self.new.fulls ≡ one_more (is_full result) self.old.fulls }
-        ensures opens { self.new.opens ≡ one_more (is_dial result) self.old.opens }
-        ensures booked { self.new.booked
-            ≡ one_more (is_booked (Some key.now) result) self.old.booked }
+        ensures counts { counts_of self.new
+            ≡ after_take (Some key.now) result (counts_of self.old) }
         ensures bound { length self.new.pool.sessions ≤ self.new.opens }
-        ensures most { self.new.pool.max_sessions ≡ self.old.pool.max_sessions }
     {
         if let Some(place) = self.holder(class, at, key) {
             return self.reuse(alloc, class, at, key, now, place);

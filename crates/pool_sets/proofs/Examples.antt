@@ -10,9 +10,10 @@ use Rattle.pool_sets.specs.declared.sessions.Stand.TheVariants.{Idle, Out}
 use Rattle.pool_sets.specs.declared.doors.Seat.{Seat}
 use Rattle.pool_sets.specs.declared.doors.Taken.{Taken}
 use Rattle.pool_sets.specs.declared.doors.Taken.TheVariants.{Reuse, Fresh, Dial, Full, Memory}
-use Rattle.pool_sets.specs.Table.{Table, empty_table, set_of, slot_and_hits, after_find, room, after_room, after_record, after_forget, after_expire}
+use Rattle.pool_sets.specs.Table.{Table, empty_table, set_of, after_find, room, after_room, after_record, after_forget, after_expire}
+use Rattle.pool_sets.specs.Entries.{slot_and_hits}
 use Rattle.pool_sets.specs.Plain.{Pool, take_of, put, lost, redial_member, redial}
-use Rattle.pool_sets.specs.Doors.{is_booked}
+use Rattle.pool_sets.specs.Counts.{is_booked}
 
 -- ---- the sets of a session
 

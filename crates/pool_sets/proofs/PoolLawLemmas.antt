@@ -14,7 +14,7 @@ use Rattle.pool_sets.specs.declared.doors.Taken.TheVariants.{Full, Memory}
 use Rattle.pool_sets.specs.Table.{Entry, set_of, after_expire}
 use Rattle.pool_sets.specs.Sessions.{Session, Idler, first_some, idle_in, idle_with, with_set, is_among, is_out, with_stand, open_of, member_for}
 use Rattle.pool_sets.specs.Plain.{Pool, with_sessions, expire, take_any, open_one, any_idle, one_idle, dial_for, has_number, is_seat, idle_again, stays_open, with_fresh_sets}
-use Rattle.pool_sets.specs.Doors.{is_full}
+use Rattle.pool_sets.specs.Counts.{is_full}
 use Rattle.pool_sets.specs.PoolLaws.{PutIsReused, FullExactly, is_reuse, is_full_for}
 
 is_below : (a b : ℕ) → a < b → nat_lt a b ≡ true

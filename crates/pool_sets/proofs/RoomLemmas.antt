@@ -8,7 +8,8 @@ use Rattle.std.proofs.lemmas.List.{length-map}
 use Rattle.std.proofs.lemmas.List.FromFn.{get_or-range_with_len, length-range_with_len}
 use Rattle.std.proofs.lemmas.Map.Steps.{length-le_from_distinct_below}
 use Rattle.z_types.specs.equality.Tests.{both_true}
-use Rattle.pool_sets.specs.Table.{Entry, Table, HasSlots, IsRoom, slots_of, is_free, free_slot, last_slot, without, after_forget}
+use Rattle.pool_sets.specs.Table.{Entry, Table, is_free, free_slot, last_slot, without, after_forget}
+use Rattle.pool_sets.specs.Entries.{HasSlots, IsRoom, slots_of}
 use Rattle.pool_sets.proofs.KeptLemmas.{head_of, rest_of, found_holds}
 use Rattle.pool_sets.proofs.TableLemmas.{find_passes}
 use Rattle.pool_sets.specs.TableView.{entry_of}

@@ -9,7 +9,8 @@ use Rattle.std.proofs.lemmas.Map.{keys-set_value}
 use Rattle.lru.proofs.CallerLemmas.{Contains-lookup_entry}
 use Rattle.z_types.specs.declared.key.SetKey.{SetKey}
 use Rattle.pool_sets.specs.declared.table.HeldSet.{HeldSet}
-use Rattle.pool_sets.specs.Table.{Entry, same_key, set_of, without, set_at, after_use, after_find, slot_and_hits, is_free}
+use Rattle.pool_sets.specs.Table.{Entry, same_key, set_of, without, after_find, is_free}
+use Rattle.pool_sets.specs.Entries.{set_at, after_use, slot_and_hits}
 use Rattle.pool_sets.specs.TableView.{entry_of, table_of}
 
 -- a search over what h makes of the items

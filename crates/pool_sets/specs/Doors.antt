@@ -1,5 +1,5 @@
--- What a door answers (this project's own)
-use Rattle.std.specs.Prelude.{◌≡◌, ℕ, ◌+◌, ◌-◌, ◌^◌, min, ◌<◌, ◌≤◌, List, length, Contains, Bool, true, false, is_some, Option, None, Some, IfSome}
+-- What a door answers, told or not, in words that contracts alone use (this project's own)
+use Rattle.std.specs.Prelude.{◌≡◌, ℕ, ◌<◌, ◌≤◌, List, length, Contains, Option, None, Some, IfSome}
 use Rattle.z_types.specs.declared.key.SetKey.{SetKey}
 use Rattle.z_types.specs.declared.address.Address.{Address}
 use Rattle.z_types.specs.Pending.{resting}
@@ -9,7 +9,7 @@ use Rattle.pool_sets.specs.declared.pooled.Parts.{Parts}
 use Rattle.pool_sets.specs.declared.doors.Seat.{Seat}
 use Rattle.pool_sets.specs.declared.doors.Taken.{Taken}
 use Rattle.pool_sets.specs.declared.doors.Taken.TheVariants.{Reuse, Fresh, Dial, Full, Memory}
-use Rattle.pool_sets.specs.Table.{Entry}
+use Rattle.pool_sets.specs.Table.{Entry, Table, set_of}
 use Rattle.pool_sets.specs.Kept.{TableKept}
 use Rattle.pool_sets.specs.Plain.{Pool, expire, take_of, redial_member, redial}
 
@@ -21,6 +21,11 @@ abbrev pub HasWanted : Option SetKey → List Entry → ℕ → ℕ → Type 0
 HasWanted None entries slot hits = ⊥
 HasWanted (Some key) entries slot hits = HasSet entries slot key hits
 
+-- the table has no set of the key, where one is wanted
+abbrev pub LacksWanted : Option SetKey → Table → Type 0
+LacksWanted None table = Unit {0}
+LacksWanted (Some key) table = set_of key table ≡ None
+
 -- a session that a door gives rests, at one of the addresses that were named, with its sets
 pub record IsReady {W S : Type 0} (w : world.Ghosts W) (t : sitting.Ghosts S W) (at : List Address) (p : Parts S) : Type 0 where
   pub rests : t.pending p.session ≡ resting
@@ -30,7 +35,7 @@ pub record IsReady {W S : Type 0} (w : world.Ghosts W) (t : sitting.Ghosts S W) 
 -- what every door gives, told or not
 abbrev pub TakenFits : {W S : Type 0} → world.Ghosts W → sitting.Ghosts S W → List Address → Option SetKey → ℕ → Taken S → Type 0
 TakenFits w t at want most (Reuse seat p slot hits) = IsReady w t at p × HasWanted want p.table.entries slot hits
-TakenFits w t at want most (Fresh seat p) = IsReady w t at p
+TakenFits w t at want most (Fresh seat p) = IsReady w t at p × LacksWanted want p.table
 TakenFits w t at want most (Dial seat member) = member < length at
 TakenFits w t at want most (Full open_) = open_ ≡ most
 TakenFits w t at want most Memory = Unit {0}
@@ -55,22 +60,3 @@ module _ {S : Type 0} where
   -- no more sessions are open than were dialled
   abbrev pub IsBounded : Option (Pool S) → ℕ → Type 0
   IsBounded p opens = IfSome p (λ q. length q.sessions ≤ opens)
-
-  abbrev pub is_full : Taken S → Bool
-  is_full (Full open_) = true
-  is_full answer = false
-
-  abbrev pub is_dial : Taken S → Bool
-  is_dial (Dial seat member) = true
-  is_dial answer = false
-
-  -- a session was given that holds no set wanted, where one was wanted
-  abbrev pub is_booked : Option SetKey → Taken S → Bool
-  is_booked want (Fresh seat p) = is_some want
-  is_booked want (Dial seat member) = is_some want
-  is_booked want answer = false
-
--- one more, up to the last value
-abbrev pub one_more : Bool → ℕ → ℕ
-one_more true n = min (n + 1) (2 ^ 64 - 1)
-one_more false n = n

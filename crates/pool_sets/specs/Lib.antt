@@ -3,6 +3,7 @@ pub mod TableView
 pub mod Kept
 pub mod Sessions
 pub mod Plain
+pub mod Counts
 pub mod Doors
 pub mod Entries
 pub mod PoolLaws

@@ -10,7 +10,7 @@ use Rattle.pool_sets.specs.declared.doors.Taken.TheVariants.{Reuse}
 use Rattle.pool_sets.specs.Table.{set_of, after_expire}
 use Rattle.pool_sets.specs.Sessions.{Session, is_among, idle_in, open_of}
 use Rattle.pool_sets.specs.Plain.{Pool, expire, take_of, put, is_seat}
-use Rattle.pool_sets.specs.Doors.{is_full}
+use Rattle.pool_sets.specs.Counts.{is_full}
 
 abbrev pub is_reuse : {S : Type 0} → Taken S → Bool
 is_reuse (Reuse seat parts slot hits) = true

@@ -1,6 +1,6 @@
 -- The sets that a session holds (this project's own)
-use Rattle.std.specs.Prelude.{◌≢◌, ℕ, ◌-◌, ◌<◌, max, nat_eq, nat_lt, Bool, not, ◌==◌, if◌then◌else◌, List, [], ◌∷◌, map, filter, find, All, Option, None, Some, option_map, unwrap_or, is_some, length}
-use Rattle.std.specs.List.{list_all, range_with_len, AllByRecursion, IsDistinct}
+use Rattle.std.specs.Prelude.{ℕ, ◌-◌, max, nat_lt, Bool, not, ◌==◌, if◌then◌else◌, List, [], ◌∷◌, map, filter, find, Option, None, Some, unwrap_or, is_some}
+use Rattle.std.specs.List.{list_all, range_with_len}
 use Rattle.z_types.specs.declared.key.SetKey.{SetKey}
 use Rattle.z_types.specs.contracts.key.SetKeyPartialEq.TheImpl as key_test
 
@@ -41,11 +41,7 @@ abbrev pub to_front : ℕ → Option Entry → List Entry → List Entry
 to_front moment None es = es
 to_front moment (Some e) es = record { slot = e.slot; key = e.key; hits = e.hits; used = moment } ∷ without e.slot es
 
--- what a search for a key finds: its slot and hits
-abbrev pub slot_and_hits : Option Entry → Option (ℕ × ℕ)
-slot_and_hits e = option_map (λ e. (e.slot, e.hits)) e
-
--- the table after that search, which counts as a use
+-- the table after a search for a key, which counts as a use
 abbrev pub after_find : SetKey → ℕ → Table → Table
 after_find key now t = record {
   entries = to_front (moment_of now t) (set_of key t) t.entries;
@@ -79,21 +75,9 @@ after_forget slot t = record { entries = without slot t.entries; most = t.most; 
 abbrev pub after_room : Table → Table
 after_room t = if is_some (free_slot t) then t else after_forget (last_slot t.entries) t
 
--- the slots of some sets
-abbrev pub slots_of : List Entry → List ℕ
-slots_of es = map (λ e. e.slot) es
-
--- there may be at least one set, no two have one slot, and each slot is below the number that there may be
-pub record HasSlots (t : Table) : Type 0 where
-  pub some : 0 < t.most
-  pub below : AllByRecursion (λ slot. slot < t.most) (slots_of t.entries)
-  pub distinct : IsDistinct nat_eq (slots_of t.entries)
-
--- the slot may take a set
-pub record IsRoom (t : Table) (slot : ℕ) : Type 0 where
-  pub within : slot < t.most
-  pub free : All (λ e. e.slot ≢ slot) t.entries
-  pub fewer : length t.entries < t.most
+-- the keys of some sets
+abbrev pub keys_in : List Entry → List SetKey
+keys_in es = map (λ e. e.key) es
 
 -- a set that was searched for comes first
 abbrev pub after_record : ℕ → SetKey → ℕ → ℕ → Table → Table
@@ -109,16 +93,4 @@ after_expire now ttl t = record {
   entries = filter (λ e. nat_lt (moment_of now t - e.used) ttl) t.entries;
   most = t.most;
   latest = moment_of now t;
-}
-
--- the set of a slot
-abbrev pub set_at : ℕ → Table → Option Entry
-set_at slot t = find (λ e. slot == e.slot) t.entries
-
--- the table after a use of the set of a slot, at the greatest moment that was given
-abbrev pub after_use : ℕ → Table → Table
-after_use slot t = record {
-  entries = to_front t.latest (set_at slot t) t.entries;
-  most = t.most;
-  latest = t.latest;
 }

@@ -2,7 +2,8 @@
 
 ghost use Rattle.std.specs.Prelude.{◌≡◌};
 ghost use Rattle.pool_sets.specs.Kept.{TableKept};
-ghost use Rattle.pool_sets.specs.Table.{set_of, slot_and_hits, after_find, after_expire};
+ghost use Rattle.pool_sets.specs.Table.{set_of, after_find, after_expire};
+ghost use Rattle.pool_sets.specs.Entries.{slot_and_hits};
 
 use crate::SetTable;
 use std::marker::{Model, PhantomData};
@@ -17,7 +18,7 @@ pub struct Parts<S> {
 }
 
 /// A session with its table and its address. Each set of the table stands in what the session made,
-/// under its slot's name, and has the world's hits where the address is told.
+/// under its slot's name; its hits are at most `MOST_NUMBER`, and the world's where the address is told.
 #[derive(Drop)]
 pub struct Pooled<W: World, S: Sitting<W>> {
     parts: Parts<S>,

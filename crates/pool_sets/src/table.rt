@@ -3,8 +3,8 @@
 ghost use Rattle.std.specs.Prelude.{◌≡◌, ◌<◌, IfOk, option_map, length, slice_get};
 ghost use Rattle.lru.specs.LruCache.{last_entry};
 ghost use Rattle.pool_sets.specs.TableView.{has_stale, slot_or_0, without_last, without_slot, with_first};
-ghost use Rattle.pool_sets.specs.Entries.{key_and_use};
-ghost use Rattle.pool_sets.specs.Table.{Table, empty_table, set_of, slot_and_hits, after_find, set_at, after_use, after_expire, after_forget, is_free, free_slot, last_slot, room, after_room, IsRoom, HasSlots, after_record};
+ghost use Rattle.pool_sets.specs.Entries.{key_and_use, slot_and_hits, set_at, after_use, IsRoom, HasSlots};
+ghost use Rattle.pool_sets.specs.Table.{Table, empty_table, set_of, after_find, after_expire, after_forget, is_free, free_slot, last_slot, room, after_room, after_record};
 ghost use Rattle.std.specs.Prelude.{nat_eq, OnOk, OnErr, None};
 ghost use Rattle.std.specs.Map.{lookup_entry};
 

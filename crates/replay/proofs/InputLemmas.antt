@@ -4,7 +4,7 @@ use Rattle.std.proofs.lemmas.Bool.{or_parts}
 use Rattle.std.proofs.lemmas.List.{append-nil}
 use Rattle.script.specs.declared.event.Event.{Event}
 use Rattle.script.specs.Events.{fed, is_named, client_of, octets_of}
-use Rattle.replay.specs.Inputs.{input_at, input_of, input_with, octets_so_far, AreEmpty}
+use Rattle.replay.specs.steps.Inputs.{input_at, input_of, input_with, octets_so_far, AreEmpty}
 
 -- an input and all events of its client behind it
 abbrev pub input_after : Option (List ℕ) → List Event → ℕ → Option (List ℕ)

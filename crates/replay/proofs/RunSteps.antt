@@ -9,8 +9,9 @@ use Rattle.route_config.specs.declared.route.Route.{Route}
 use Rattle.script.specs.declared.event.Event.{Event}
 use Rattle.script.specs.Events.{fed, is_named, named, named_upto}
 use Rattle.replay.specs.declared.reports.ClientReport.{ClientReport}
-use Rattle.replay.specs.Inputs.{input_of, AreInputs}
-use Rattle.replay.specs.Report.{IsClientReport, AreAnswered, AreReportsUpto, IsAnsweredBehind, IsReportOf}
+use Rattle.replay.specs.steps.Inputs.{input_of, AreInputs}
+use Rattle.replay.specs.Report.{IsClientReport, AreAnswered, IsReportOf}
+use Rattle.replay.specs.steps.Reports.{AreReportsUpto, IsAnsweredBehind}
 
 -- one more that is so
 all_more : (P : ClientReport → Type 0) (clients : List ClientReport) (client : ClientReport) → AllByRecursion P clients → P client → AllByRecursion P (clients ++ client ∷ [])

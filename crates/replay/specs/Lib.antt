@@ -1,4 +1,3 @@
 pub mod Page
-pub mod Connections
-pub mod Inputs
 pub mod Report
+pub mod steps

@@ -1,12 +1,12 @@
 -- What a report says of the octets that clients were fed (this project's own)
-use Rattle.std.specs.Prelude.{◌≡◌, ℕ, List, [], ◌∷◌, ◌++◌, Option, None, Some, map}
+use Rattle.std.specs.Prelude.{◌≡◌, ℕ, List, map}
 use Rattle.std.specs.List.{AllByRecursion}
 use Rattle.z_types.specs.declared.marks.Mark.TheVariants.{Plain}
 use Rattle.z_types.specs.declared.world.World as world
 use Rattle.route_config.specs.declared.route.Route.{Route}
 use Rattle.gateway_rules.specs.Answers.{Answers}
 use Rattle.script.specs.declared.event.Event.{Event}
-use Rattle.script.specs.Events.{fed, named, named_upto}
+use Rattle.script.specs.Events.{fed, named}
 use Rattle.replay.specs.declared.reports.ClientReport.{ClientReport}
 use Rattle.replay.specs.declared.reports.Report.{Report}
 
@@ -31,18 +31,3 @@ pub record IsReportOf {W : Type 0} (w : world.Ghosts W) (route : Route) (events 
     (report : Report) : Type 0 where
   pub clients : map (λ client. client.number) report.clients ≡ named events
   pub each : AreAnswered w route events report.clients
-
--- the same, so far: of the clients up to a number
-pub record AreReportsUpto {W : Type 0} (w : world.Ghosts W) (route : Route) (events : List Event)
-    (last : ℕ)
-    (clients : List ClientReport) : Type 0 where
-  pub numbers : map (λ client. client.number) clients ≡ named_upto last events
-  pub each : AreAnswered w route events clients
-
--- a client with an input was answered behind the others
-abbrev pub IsAnsweredBehind : {W : Type 0} → world.Ghosts W → Route → ℕ → Option (List ℕ)
-    → List ClientReport → List ClientReport → Type 0
-IsAnsweredBehind w route number None old new = new ≡ old
-IsAnsweredBehind w route number (Some octets) old new =
-    (client : ClientReport) × IsClientReport w route number octets client
-    × (new ≡ old ++ client ∷ [])

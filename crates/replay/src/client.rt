@@ -3,7 +3,7 @@
 ghost use Rattle.std.specs.Prelude.{◌≡◌, [], true, IfOk, OnOk, IsSome};
 ghost use Rattle.front_conn.specs.States.{IsStateOf};
 ghost use Rattle.front_conn.specs.Steps.{KeepsState};
-ghost use Rattle.replay.specs.Connections.{IsFedWhole};
+ghost use Rattle.replay.specs.steps.Connections.{IsFedWhole};
 ghost use Rattle.replay.specs.Report.{IsClientReport};
 
 use crate::ClientReport;

@@ -4,7 +4,7 @@
 ghost use Rattle.std.specs.Prelude.{◌≡◌, ◌≤◌, ◌++◌, Some, length, IfOk, OnOk};
 ghost use Rattle.std.specs.List.{AllByRecursion};
 ghost use Rattle.script.specs.Events.{HasClient, client_of};
-ghost use Rattle.replay.specs.Inputs.{AreInputs, AreEmpty, IsInputPut, octets_so_far};
+ghost use Rattle.replay.specs.steps.Inputs.{AreInputs, AreEmpty, IsInputPut, octets_so_far};
 
 use script::{Event, MOST_CLIENTS};
 use std::alloc::Global;
@@ -17,7 +17,7 @@ pub(crate) fn inputs_of(alloc: Global, events: &[Event]) -> Result<Vec<Option<Te
 {
     let mut inputs = empty_inputs(alloc, MOST_CLIENTS as usize)?;
     for event in events {
-        put_event(alloc, inputs.as_mut_slice(), event)?;
+        feed_event(alloc, inputs.as_mut_slice(), event)?;
     }
     Ok(inputs)
 }
@@ -34,8 +34,8 @@ fn empty_inputs(alloc: Global, count: usize) -> Result<Vec<Option<Text>>, Memory
     Ok(inputs)
 }
 
-/// Puts what an event feeds at the place of its client.
-fn put_event(alloc: Global, inputs: &mut [Option<Text>], event: &Event) -> Result<(), Memory>
+/// Feeds what an event feeds to the place of its client.
+fn feed_event(alloc: Global, inputs: &mut [Option<Text>], event: &Event) -> Result<(), Memory>
     requires some { 1 ≤ client_of event.now }
     requires within { client_of event.now ≤ length inputs.old }
     ensures { OnOk result (IsInputPut inputs.old event.now inputs.new) }

@@ -3,7 +3,8 @@
 ghost use Rattle.std.specs.Prelude.{◌<◌, ◌+◌, IfOk, OnOk};
 ghost use Rattle.std.specs.List.{AllByRecursion};
 ghost use Rattle.script.specs.Events.{HasClient, most_clients};
-ghost use Rattle.replay.specs.Report.{IsReportOf, IsAnsweredBehind};
+ghost use Rattle.replay.specs.Report.{IsReportOf};
+ghost use Rattle.replay.specs.steps.Reports.{IsAnsweredBehind};
 
 use crate::inputs::inputs_of;
 use crate::{ClientReport, Report, answer};
@@ -27,13 +28,13 @@ pub fn run<T: Targets>(
     let inputs = inputs_of(alloc, events.as_slice())?;
     let mut clients = List::new(alloc);
     for place in 0..inputs.len() {
-        put_answer(alloc, route, targets, place, &inputs[place], &mut clients)?;
+        answer_behind(alloc, route, targets, place, &inputs[place], &mut clients)?;
     }
     Ok(Report { clients })
 }
 
-/// Puts what the client of a place is answered to its input, where it has one.
-fn put_answer<T: Targets>(
+/// Lists what the client of a place is answered to its input, where it has one, behind the others.
+fn answer_behind<T: Targets>(
     alloc: Global,
     route: &Route,
     targets: &T,

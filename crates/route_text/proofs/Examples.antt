@@ -11,7 +11,7 @@ use Rattle.route_text.specs.declared.fault.RouteFault.{RouteFault}
 use Rattle.route_text.specs.declared.fault.RouteFault.TheVariants.{Missing, WrongKind, OutOfRange, TooMany, Unknown, Twice, NoSuchTarget, TtlOrder}
 use Rattle.route_text.specs.Values.{values_in}
 use Rattle.route_text.specs.RouteOf.{route_of}
-use Rattle.route_text.specs.Configuration.{first_refusal}
+use Rattle.route_text.specs.Configuration.{first_fault}
 use Rattle.route_text.proofs.OnLiterals.{configuration_on_literals}
 
 -- lines, each ended by LF
@@ -24,7 +24,7 @@ route text = option_map (λ members. route_of (values_in (table members))) (pars
 
 -- what octets that are TOML are refused for
 abbrev refused : List ℕ → Option RouteFault
-refused text = option_and_then (λ members. first_refusal (table members)) (parse_document text)
+refused text = option_and_then (λ members. first_fault (table members)) (parse_document text)
 
 -- the smallest configuration, and more lines
 abbrev smallest_and : List (List ℕ) → List ℕ

@@ -22,7 +22,7 @@ use Rattle.route_text.specs.Refusal.{refusal, of_kind, unless}
 use Rattle.route_text.specs.Values.{at, text, target_in, group_in, leg_in, database_in, index_in, schema_in, values_in}
 use Rattle.route_text.specs.Whole.{target_names}
 use Rattle.route_text.specs.RouteOf.{place_of, group_of, databases_from, leg_of, legs_from, class_names, route_of}
-use Rattle.route_text.specs.Configuration.{first_refusal}
+use Rattle.route_text.specs.Configuration.{first_fault}
 use Rattle.route_text.proofs.RangeLemmas.{neither, passed, from-parts, list-within, array-all, keys-passed, required-passed, default-passed, number-within}
 use Rattle.route_text.proofs.SizeLemmas.{address-kept, group-size, database-size, sizes, classes-kept}
 
@@ -135,7 +135,7 @@ unfolding schema_keys default_schemas
 schemas-pass = refl
 
 -- the items of the route of a tree that is refused for nothing keep their ranges
-pub kept-items : (tree : Data) → first_refusal tree ≡ None → KeepsItems (route_of (values_in tree))
+pub kept-items : (tree : Data) → first_fault tree ≡ None → KeepsItems (route_of (values_in tree))
 unfolding top_keys values_in route_of
 kept-items tree h =
     let values = values_in tree in

@@ -9,7 +9,7 @@ use Rattle.route_text.specs.declared.values.GroupValues.{GroupValues}
 use Rattle.route_text.specs.declared.values.LegValues.{LegValues}
 use Rattle.route_text.specs.declared.values.DatabaseValues.{DatabaseValues}
 use Rattle.route_text.specs.declared.values.Values.{Values}
-use Rattle.route_text.specs.Texts.{same_text}
+use Rattle.z_types.specs.Same.{is_same}
 use Rattle.route_text.specs.Whole.{target_names, vias}
 use Rattle.route_text.specs.RouteOf.{place_of, group_of, databases_from, leg_of, legs_from, firsts, class_names, class_of, route_of}
 use Rattle.route_config.specs.Sound.{HasFrom, AllBelow, KeepsPlaces}
@@ -20,13 +20,13 @@ all_each : {A : Type 0} (P : A → Type 0) → ((x : A) → P x) → (xs : List 
 all_each P each [] = All-nil P
 all_each P each (x ∷ xs) = All-cons P x xs (each x) (all_each P each xs)
 
-found_below : (names : List (List ℕ)) (name : List ℕ) (found : Option ℕ) → position (same_text name) names ≡ found → 1 ≤ length names → unwrap_or found 0 < length names
+found_below : (names : List (List ℕ)) (name : List ℕ) (found : Option ℕ) → position (is_same name) names ≡ found → 1 ≤ length names → unwrap_or found 0 < length names
 found_below names name None is some = omega (arith, some)
-found_below names name (Some i) is some = (position-Some (same_text name) names i [] is).0
+found_below names name (Some i) is some = (position-Some (is_same name) names i [] is).0
 
 -- a name's place is one of the names'
 place-below : (names : List (List ℕ)) (name : List ℕ) → 1 ≤ length names → place_of names name < length names
-place-below names name some = found_below names name (position (same_text name) names) refl some
+place-below names name some = found_below names name (position (is_same name) names) refl some
 
 range_below : (first count n : ℕ) → first + count ≤ n → AllBelow n (range_with_len first count)
 range_below first zero n h = All-nil (λ place. place < n)

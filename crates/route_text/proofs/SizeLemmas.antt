@@ -14,7 +14,8 @@ use Rattle.route_text.specs.declared.values.DatabaseValues.{DatabaseValues}
 use Rattle.route_text.specs.declared.values.Values.{Values}
 use Rattle.route_text.specs.declared.rule.TextRule.TheVariants.{Any}
 use Rattle.route_config.specs.Names.{is_from}
-use Rattle.route_text.specs.Texts.{same_text, is_decimal, number_of_digits, address_of, parts}
+use Rattle.z_types.specs.Same.{is_same}
+use Rattle.route_text.specs.Texts.{is_decimal, number_of_digits, address_of, parts}
 use Rattle.route_text.specs.Path.{key_path}
 use Rattle.route_text.specs.Kinds.{Text, Array, Table}
 use Rattle.route_text.specs.Keys.{target_keys, group_keys, leg_keys, database_keys, top_keys}
@@ -24,7 +25,7 @@ use Rattle.route_text.specs.Whole.{is_among, target_names, vias}
 use Rattle.route_text.specs.RouteOf.{address_of as address_named, addresses_of, members_of, firsts, class_names, class_of}
 use Rattle.route_config.specs.Sound.{IsFrom, HasFrom, IsAddress}
 use Rattle.route_text.specs.Sizes.{HasSizes}
-use Rattle.route_text.specs.Configuration.{first_refusal}
+use Rattle.route_text.specs.Configuration.{first_fault}
 use Rattle.route_text.proofs.RangeLemmas.{neither, from-parts, list-within, array-all, keys-passed, required-passed, default-passed}
 
 nought : IsAddress (Test 0)
@@ -50,10 +51,10 @@ kept_of_parts [] = nought
 kept_of_parts (a ∷ []) = nought
 kept_of_parts (a ∷ b ∷ []) =
     let n = number_of_digits b in
-    test_kept (same_text a (codes "test")) (is_decimal b) (is_from 0 999999 n) n (from-parts 0 999999 n)
+    test_kept (is_same a (codes "test")) (is_decimal b) (is_from 0 999999 n) n (from-parts 0 999999 n)
 kept_of_parts (a ∷ b ∷ c ∷ []) =
     let n = number_of_digits c in
-    tcp_kept (same_text a (codes "tcp")) (is_from 1 64 (length b)) (is_decimal c) (is_from 1 65535 n) b n (from-parts 1 64 (length b)) (from-parts 1 65535 n)
+    tcp_kept (is_same a (codes "tcp")) (is_from 1 64 (length b)) (is_decimal c) (is_from 1 65535 n) b n (from-parts 1 64 (length b)) (from-parts 1 65535 n)
 kept_of_parts (a ∷ b ∷ c ∷ d ∷ rest) = nought
 
 all_listed : {A : Type 0} (read : Data → A) (P : A → Type 0) → ((value : Data) → P (read value)) → (items : Items) → AllByRecursion P (list_of read items)
@@ -83,7 +84,7 @@ database-size path value h =
     list-within leg_in (Table leg_keys) 1 16 (key_path path (codes "leg")) (at database_keys (codes "leg") value) (required-passed (refusal (Array 1 16 (Table leg_keys))) (key_path path (codes "leg")) (get (codes "leg") value) keys.0)
 
 -- the values of a tree that is refused for nothing have their sizes
-pub sizes : (tree : Data) → first_refusal tree ≡ None → HasSizes (values_in tree)
+pub sizes : (tree : Data) → first_fault tree ≡ None → HasSizes (values_in tree)
 unfolding top_keys values_in
 sizes tree h =
     let from_target = keys-passed top_keys [] tree (neither _ _ h).0 in
@@ -108,7 +109,7 @@ picked false target rest one other = other
 
 named : (targets : List Target) (name : List ℕ) → AllByRecursion (λ target. IsAddress target.address) targets → IsAddress (address_named targets name)
 named [] name all = nought
-named (target ∷ targets) name all = picked (same_text name target.name) target (find (λ target. same_text name target.name) targets) all.0 (named targets name all.1)
+named (target ∷ targets) name all = picked (is_same name target.name) target (find (λ target. is_same name target.name) targets) all.0 (named targets name all.1)
 
 -- and so its host is short
 short : (address : Address) → IsAddress address → HasShortHost address
@@ -122,7 +123,7 @@ picked_group false group rest name one other = other
 
 members_size : (groups : List GroupValues) (name : List ℕ) → AllByRecursion (λ group. HasFrom 1 16 group.targets) groups → HasFrom 1 16 (members_of groups name)
 members_size [] name all = (omega arith, omega arith)
-members_size (group ∷ groups) name all = picked_group (same_text name group.name) group (find (λ group. same_text name group.name) groups) name all.0 (members_size groups name all.1)
+members_size (group ∷ groups) name all = picked_group (is_same name group.name) group (find (λ group. is_same name group.name) groups) name all.0 (members_size groups name all.1)
 
 all_of_each : {A : Type 0} (P : A → Type 0) (f : List ℕ → A) → ((name : List ℕ) → P (f name)) → (names : List (List ℕ)) → All P (map f names)
 all_of_each P f each [] = All-nil P

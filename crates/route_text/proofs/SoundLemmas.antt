@@ -13,7 +13,7 @@ use Rattle.route_text.specs.Values.{held, number, pool_in, limits_in, group_in, 
 use Rattle.route_text.specs.Whole.{twice, no_such, target_names, group_names, member_names, vias, of_whole}
 use Rattle.route_text.specs.RouteOf.{route_of}
 use Rattle.route_config.specs.Sound.{IsFrom, ArePoolNumbers, AreLimits, IsSound}
-use Rattle.route_text.specs.Configuration.{first_refusal}
+use Rattle.route_text.specs.Configuration.{first_fault}
 use Rattle.route_text.proofs.RangeLemmas.{neither, passed, list-within, keys-passed, default-passed, number-within}
 use Rattle.route_text.proofs.SizeLemmas.{sizes}
 use Rattle.route_text.proofs.KeptItems.{indexes-pass, schemas-pass, kept-items}
@@ -80,7 +80,7 @@ unfolding limit_keys
 empty_limits = refl
 
 -- what is read from a tree that is refused for nothing is sound
-pub sound : (tree : Data) → first_refusal tree ≡ None → IsSound (route_of (values_in tree))
+pub sound : (tree : Data) → first_fault tree ≡ None → IsSound (route_of (values_in tree))
 unfolding top_keys values_in route_of
 sound tree h =
     let kept = sizes tree h in

@@ -8,7 +8,7 @@ use Rattle.std.specs.List.Sorted.{IsStrictlySortedBy}
 use Rattle.std.proofs.lemmas.Int.Digits.{number_after_ge}
 use Rattle.toml.specs.View.{members_view, table_view}
 use Rattle.toml.specs.declared.value.Value.{Value}
-use Rattle.route_text.specs.Texts.{number_after}
+use Rattle.z_types.specs.Digits.{number_after}
 use Rattle.route_text.specs.Refusal.{least, lesser, member_names, is_key, others}
 
 -- more digits never make a number less

@@ -10,7 +10,7 @@ use Rattle.route_text.specs.declared.fault.RouteFault.TheVariants.{Memory}
 use Rattle.route_text.specs.Values.{values_in}
 use Rattle.route_text.specs.RouteOf.{route_of}
 use Rattle.route_text.specs.Reads.{Reads}
-use Rattle.route_text.specs.Configuration.{tree_of, first_refusal, value_or, IsConfiguration}
+use Rattle.route_text.specs.Configuration.{tree_of, first_fault, value_or, IsConfiguration}
 
 -- octets that are UTF-8 and TOML have this tree
 pub tree-some : (octets : List ℕ) (members : Members) (tree : Data) → IsUtf8 octets → parse_document octets ≡ Some members → tree ≡ table members → tree_of octets ≡ Some tree
@@ -29,5 +29,5 @@ read_or refusal route (Ok read) reads some = rw (reads.0, reads.1)
 read_or refusal route (Err fault) reads some = rw (reads (λ e. some (ap Err e)))
 
 -- reading the tree of octets is reading the octets
-pub read-tree : (octets : List ℕ) (tree : Data) (result : Result Route RouteFault) → tree_of octets ≡ Some tree → Reads (first_refusal tree) (route_of (values_in tree)) result → IsConfiguration octets result
-read-tree octets tree result is reads some = rw is (read_or (first_refusal tree) (route_of (values_in tree)) result reads some)
+pub read-tree : (octets : List ℕ) (tree : Data) (result : Result Route RouteFault) → tree_of octets ≡ Some tree → Reads (first_fault tree) (route_of (values_in tree)) result → IsConfiguration octets result
+read-tree octets tree result is reads some = rw is (read_or (first_fault tree) (route_of (values_in tree)) result reads some)

@@ -19,8 +19,8 @@ abbrev pub tree_of : List ℕ → Option Data
 tree_of octets = if is_utf8 octets then option_map table (parse_document octets) else None
 
 -- the first refusal of a tree: of its keys, and then of the whole
-abbrev pub first_refusal : Data → Option RouteFault
-first_refusal tree = option_or (refusal (Table top_keys) [] tree) (of_whole (values_in tree))
+abbrev pub first_fault : Data → Option RouteFault
+first_fault tree = option_or (refusal (Table top_keys) [] tree) (of_whole (values_in tree))
 
 -- a value, unless there is a refusal
 abbrev pub value_or : {A : Type 0} → Option RouteFault → A → Result A RouteFault
@@ -30,7 +30,7 @@ value_or (Some fault) value = Err fault
 -- what is read from a tree, or from none
 abbrev pub route_or_refusal : Option Data → Result Route RouteFault
 route_or_refusal None = Err Toml
-route_or_refusal (Some tree) = value_or (first_refusal tree) (route_of (values_in tree))
+route_or_refusal (Some tree) = value_or (first_fault tree) (route_of (values_in tree))
 
 -- the route of a configuration's octets, or their first refusal
 abbrev pub configuration : List ℕ → Result Route RouteFault

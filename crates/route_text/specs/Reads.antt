@@ -1,4 +1,4 @@
--- What readers answer (this project's own): a value or the first refusal, or that no memory could be had.
+-- For contracts alone: what readers answer (this project's own): a value or the first refusal, or that no memory could be had.
 use Rattle.std.specs.Prelude.{◌≡◌, ◌≢◌, ℕ, true, List, Option, Some, None, Result, MatchResult, String}
 use Rattle.std.specs.Option.{option_map, unwrap_or}
 use Rattle.std.specs.BTreeMap.{BTreeMap}

@@ -11,7 +11,8 @@ use Rattle.route_text.specs.declared.fault.RouteFault.{RouteFault}
 use Rattle.route_text.specs.declared.fault.RouteFault.TheVariants.{Missing, WrongKind, OutOfRange, TooMany, Unknown}
 use Rattle.route_text.specs.Path.{key_path, item_path}
 use Rattle.route_config.specs.Names.{is_from}
-use Rattle.route_text.specs.Texts.{fits, address, same_text}
+use Rattle.z_types.specs.Same.{is_same}
+use Rattle.route_text.specs.Texts.{fits, address}
 use Rattle.route_text.specs.Kinds.{Need, required, default, Kind, Text, Address, Number, Flag, Array, Table, Keys, no_keys, key, key_names}
 
 -- nothing where the test holds, else the refusal
@@ -53,7 +54,7 @@ member_names no_members = []
 member_names (member name value rest) = name ∷ member_names rest
 
 abbrev pub is_key : List (List ℕ) → List ℕ → Bool
-is_key known name = list_any (same_text name) known
+is_key known name = list_any (is_same name) known
 
 -- the names in a table that are no keys
 abbrev pub others : List (List ℕ) → Members → List (List ℕ)

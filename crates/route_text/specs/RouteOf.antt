@@ -14,12 +14,12 @@ use Rattle.route_text.specs.declared.values.GroupValues.{GroupValues}
 use Rattle.route_text.specs.declared.values.LegValues.{LegValues}
 use Rattle.route_text.specs.declared.values.DatabaseValues.{DatabaseValues}
 use Rattle.route_text.specs.declared.values.Values.{Values}
-use Rattle.route_text.specs.Texts.{same_text}
+use Rattle.z_types.specs.Same.{is_same}
 use Rattle.route_text.specs.Whole.{target_names, vias, is_among}
 
 -- the place of a name
 abbrev pub place_of : List (List ℕ) → List ℕ → ℕ
-place_of names name = unwrap_or (position (same_text name) names) 0
+place_of names name = unwrap_or (position (is_same name) names) 0
 
 -- of names in order, those that come for the first time after some that are known
 abbrev pub firsts : List (List ℕ) → List (List ℕ) → List (List ℕ)
@@ -39,11 +39,11 @@ group_of targets group = record { name = group.name; targets = map (place_of tar
 
 -- the address of the target of a name; any where there is none, which is refused
 abbrev pub address_of : List Target → List ℕ → Address
-address_of targets name = unwrap_or (option_map (λ target. target.address) (find (λ target. same_text name target.name) targets)) (Test 0)
+address_of targets name = unwrap_or (option_map (λ target. target.address) (find (λ target. is_same name target.name) targets)) (Test 0)
 
 -- whom a leg goes to by a name: the group's members, or the target itself
 abbrev pub members_of : List GroupValues → List ℕ → List (List ℕ)
-members_of groups name = unwrap_or (option_map (λ group. group.targets) (find (λ group. same_text name group.name) groups)) (name ∷ [])
+members_of groups name = unwrap_or (option_map (λ group. group.targets) (find (λ group. is_same name group.name) groups)) (name ∷ [])
 
 -- their addresses
 abbrev pub addresses_of : Values → List ℕ → List Address

@@ -1,18 +1,14 @@
 -- What each text of the configuration may be (this project's own).
-use Rattle.std.specs.Prelude.{◌≡◌, ◌<◌, ◌≤◌, MatchOption, ℕ, ◌-◌, ◌==◌, ◌&&◌, Bool, true, false, not, List, [], ◌∷◌, map, length, Option, Some, None, codes, if◌then◌else◌}
+use Rattle.z_types.specs.Same.{is_same}
+use Rattle.std.specs.Prelude.{◌≡◌, ◌<◌, ◌≤◌, MatchOption, ℕ, ◌==◌, ◌&&◌, Bool, true, false, not, List, [], ◌∷◌, length, Option, Some, None, codes, if◌then◌else◌}
 use Rattle.std.specs.List.{list_all, slice_split}
-use lib.Pointwise.{pointwise}
 use Rattle.std.specs.Option.{option_map}
-use Rattle.std.specs.Int.Digits.{number_from_digits_after}
+use Rattle.z_types.specs.Digits.{number_after}
 use Rattle.z_types.specs.declared.address.Address.{Address}
 use Rattle.z_types.specs.declared.address.Address.TheVariants.{Test, Tcp}
 use Rattle.route_config.specs.Names.{is_from, is_name, is_database_name, is_index_name}
 use Rattle.route_text.specs.declared.rule.TextRule.{TextRule}
 use Rattle.route_text.specs.declared.rule.TextRule.TheVariants.{Any, Name, DatabaseName, UpTo, IndexName}
-
--- the same octets
-abbrev pub same_text : List ℕ → List ℕ → Bool
-same_text = pointwise ◌==◌
 
 abbrev pub is_digit : ℕ → Bool
 is_digit c = is_from 48 57 c
@@ -25,10 +21,6 @@ abbrev pub is_decimal : List ℕ → Bool
 is_decimal [] = false
 is_decimal (c ∷ []) = is_digit c
 is_decimal (c ∷ d ∷ digits) = (not (c == 48) && is_digit c) && all_digits (d ∷ digits)
-
--- the number that digits write, after others that wrote the high part
-abbrev pub number_after : ℕ → List ℕ → ℕ
-number_after high digits = number_from_digits_after 10 high (map (λ c. c - 48) digits)
 
 abbrev pub number_of_digits : List ℕ → ℕ
 number_of_digits = number_after 0
@@ -45,9 +37,9 @@ IsWithin most number result = MatchOption result (most < number) (λ found. (fou
 -- an address by its parts between colons: `test:N`, or `tcp:HOST:PORT`
 abbrev pub address_of : List (List ℕ) → Option Address
 address_of (scheme ∷ number ∷ []) =
-    if same_text scheme (codes "test") then option_map Test (number_from 0 999999 number) else None
+    if is_same scheme (codes "test") then option_map Test (number_from 0 999999 number) else None
 address_of (scheme ∷ host ∷ port ∷ []) =
-    if same_text scheme (codes "tcp") && is_from 1 64 (length host) then option_map (Tcp host) (number_from 1 65535 port) else None
+    if is_same scheme (codes "tcp") && is_from 1 64 (length host) then option_map (Tcp host) (number_from 1 65535 port) else None
 address_of parts = None
 
 -- the parts between colons

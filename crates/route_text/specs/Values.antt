@@ -13,7 +13,8 @@ use Rattle.route_text.specs.declared.values.GroupValues.{GroupValues}
 use Rattle.route_text.specs.declared.values.LegValues.{LegValues}
 use Rattle.route_text.specs.declared.values.DatabaseValues.{DatabaseValues}
 use Rattle.route_text.specs.declared.values.Values.{Values}
-use Rattle.route_text.specs.Texts.{address, same_text}
+use Rattle.z_types.specs.Same.{is_same}
+use Rattle.route_text.specs.Texts.{address}
 use Rattle.route_text.specs.Kinds.{Need, required, default, Keys, no_keys, key}
 use Rattle.route_text.specs.Keys.{target_keys, group_keys, leg_keys, database_keys, pool_keys, limit_keys, index_keys, schema_keys, top_keys}
 
@@ -26,7 +27,7 @@ held required None = boolean false
 -- whether the key of a name is needed
 abbrev pub need_of : List ℕ → Keys → Need
 need_of name no_keys = required
-need_of name (key other need kind rest) = if same_text name other then need else need_of name rest
+need_of name (key other need kind rest) = if is_same name other then need else need_of name rest
 
 -- the value of a key, by the rows of its table
 abbrev pub at : Keys → List ℕ → Data → Data

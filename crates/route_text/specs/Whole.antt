@@ -6,7 +6,7 @@ use Rattle.std.specs.Str.{str_eq_ignore_ascii_case}
 use Rattle.route_text.specs.declared.fault.RouteFault.{RouteFault}
 use Rattle.route_text.specs.declared.fault.RouteFault.TheVariants.{Twice, NoSuchTarget, TtlOrder}
 use Rattle.route_text.specs.declared.values.Values.{Values}
-use Rattle.route_text.specs.Texts.{same_text}
+use Rattle.z_types.specs.Same.{is_same}
 use Rattle.route_text.specs.Refusal.{unless}
 
 -- the first of some refusals
@@ -22,14 +22,14 @@ again same before (name ∷ names) = if list_any (same name) before then Some na
 -- two names are the same: octet by octet, or in any case of ASCII letters
 abbrev pub sameness : Bool → List ℕ → List ℕ → Bool
 sameness true one other = str_eq_ignore_ascii_case one other
-sameness false one other = same_text one other
+sameness false one other = is_same one other
 
 abbrev pub twice : Bool → List (List ℕ) → Option RouteFault
 twice ignore_case names = option_map Twice (again (sameness ignore_case) [] names)
 
 -- whether a name is one of the known
 abbrev pub is_among : List (List ℕ) → List ℕ → Bool
-is_among known name = list_any (same_text name) known
+is_among known name = list_any (is_same name) known
 
 -- the first name that is none of the known
 abbrev pub no_such : List (List ℕ) → List (List ℕ) → Option RouteFault

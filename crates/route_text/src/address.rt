@@ -5,7 +5,8 @@ ghost use Rattle.toml.specs.View.{view};
 ghost use Rattle.route_text.specs.Kinds.{Address as AddressKind};
 ghost use Rattle.route_text.specs.Values.{address_in};
 ghost use Rattle.route_text.specs.Reads.{ReadsKind};
-ghost use Rattle.route_text.specs.Texts.{IsWithin, address, address_of, number_from, number_after, is_decimal, is_digit, all_digits, parts};
+ghost use Rattle.z_types.specs.Digits.{number_after};
+ghost use Rattle.route_text.specs.Texts.{IsWithin, address, address_of, number_from, is_decimal, is_digit, all_digits, parts};
 
 use crate::RouteFault;
 use route_config::is_from;

@@ -3,7 +3,7 @@
 ghost use Rattle.std.specs.Prelude.{◌≡◌, map, IfOk};
 ghost use Rattle.std.specs.List.{find};
 ghost use Rattle.std.specs.Option.{option_copied};
-ghost use Rattle.route_text.specs.Texts.{same_text};
+ghost use Rattle.z_types.specs.Same.{is_same};
 ghost use Rattle.route_text.specs.RouteOf.{address_of, addresses_of, class_of};
 ghost use Rattle.route_text.specs.Sizes.{HasSizes};
 
@@ -13,13 +13,13 @@ use std::alloc::Global;
 use z_types::{Address, List, Memory, Text, copy};
 
 fn target_named<'a>(targets: &'a [Target], name: &[u8]) -> Option<&'a Target>
-    ensures { option_copied result ≡ find (λ target. same_text name.now target.name) targets.now }
+    ensures { option_copied result ≡ find (λ target. is_same name.now target.name) targets.now }
 {
     targets.iter().find(|target| name == target.name.as_slice())
 }
 
 fn group_named<'a>(groups: &'a [GroupValues], name: &[u8]) -> Option<&'a GroupValues>
-    ensures { option_copied result ≡ find (λ group. same_text name.now group.name) groups.now }
+    ensures { option_copied result ≡ find (λ group. is_same name.now group.name) groups.now }
 {
     groups.iter().find(|group| name == group.name.as_slice())
 }

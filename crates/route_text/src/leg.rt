@@ -11,7 +11,7 @@ use std::alloc::Global;
 use z_types::{List, Memory, Text, copy};
 
 /// Puts the legs of the database of a place at the end of others.
-fn put_legs(
+fn push_legs(
     alloc: Global,
     legs: &mut List<RouteLeg>,
     classes: &[Text],
@@ -43,7 +43,7 @@ pub fn legs_of(
 {
     let mut legs = List::new(alloc);
     for (place, database) in databases.iter().enumerate() {
-        put_legs(
+        push_legs(
             alloc,
             &mut legs,
             classes,

@@ -76,7 +76,7 @@ impl Named for Schema {
 }
 
 /// Puts the names of things at the end of others.
-pub fn put_names<T: Named>(
+pub fn push_names<T: Named>(
     alloc: Global,
     names: &mut List<Text>,
     things: &[T],
@@ -94,7 +94,7 @@ pub fn names_of<T: Named>(alloc: Global, things: &[T]) -> Result<List<Text>, Mem
     ensures { IfOk result (λ names. names ≡ map T.named things.now) }
 {
     let mut names = List::new(alloc);
-    put_names(alloc, &mut names, things)?;
+    push_names(alloc, &mut names, things)?;
     Ok(names)
 }
 

@@ -4,7 +4,7 @@ ghost use Rattle.toml.specs.View.{view};
 ghost use Rattle.route_text.specs.Values.{values_in};
 ghost use Rattle.route_text.specs.RouteOf.{route_of};
 ghost use Rattle.route_text.specs.Reads.{Reads, IsTree};
-ghost use Rattle.route_text.specs.Configuration.{first_refusal, IsConfiguration};
+ghost use Rattle.route_text.specs.Configuration.{first_fault, IsConfiguration};
 
 use crate::file::values_in;
 use crate::whole::check_whole;
@@ -27,7 +27,7 @@ pub fn read_route(alloc: Global, text: &[u8]) -> Result<Route, RouteFault>
 
 /// The route of a tree, or its first refusal.
 fn read_tree_route(alloc: Global, tree: &Value) -> Result<Route, RouteFault>
-    ensures { Reads (first_refusal (view tree.now)) (route_of (values_in (view tree.now))) result }
+    ensures { Reads (first_fault (view tree.now)) (route_of (values_in (view tree.now))) result }
 {
     let values = read_values(alloc, tree)?;
     Ok(Route::new(route_of(alloc, values)?))
@@ -35,7 +35,7 @@ fn read_tree_route(alloc: Global, tree: &Value) -> Result<Route, RouteFault>
 
 /// The values of a tree, or its first refusal.
 fn read_values(alloc: Global, tree: &Value) -> Result<Values, RouteFault>
-    ensures { Reads (first_refusal (view tree.now)) (values_in (view tree.now)) result }
+    ensures { Reads (first_fault (view tree.now)) (values_in (view tree.now)) result }
 {
     let values = values_in(alloc, tree)?;
     check_whole(alloc, &values)?;

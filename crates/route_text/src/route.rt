@@ -2,7 +2,7 @@
 
 ghost use Rattle.std.specs.Prelude.{◌≡◌, ◌<◌, ◌^◌, [], map, length, IfOk, IfSome, OnOk};
 ghost use Rattle.std.specs.List.{position};
-ghost use Rattle.route_text.specs.Texts.{same_text};
+ghost use Rattle.z_types.specs.Same.{is_same};
 ghost use Rattle.route_text.specs.RouteOf.{place_of, group_of, firsts, with_name};
 
 use crate::GroupValues;
@@ -13,7 +13,7 @@ use z_types::{List, Memory, Text};
 
 /// Where a name first stands.
 fn position_of(names: &[Text], name: &[u8]) -> Option<usize>
-    ensures value { result ≡ position (same_text name.now) names.now }
+    ensures value { result ≡ position (is_same name.now) names.now }
     ensures below { IfSome result (λ place. place < length names.now) }
 {
     names.iter().position(|other| name == other.as_slice())
@@ -62,7 +62,7 @@ pub fn groups_of(
 }
 
 /// Puts a name at the end of others, where it is not among them.
-fn put_new(alloc: Global, known: &mut List<Text>, name: &[u8]) -> Result<(), Memory>
+fn push_new(alloc: Global, known: &mut List<Text>, name: &[u8]) -> Result<(), Memory>
     ensures { OnOk result (known.new ≡ with_name known.old name.now) }
 {
     if is_known(false, known.as_slice(), name) {
@@ -79,7 +79,7 @@ pub fn firsts(alloc: Global, names: &[Text]) -> Result<List<Text>, Memory>
 {
     let mut found = List::new(alloc);
     for name in names {
-        put_new(alloc, &mut found, name.as_slice())?;
+        push_new(alloc, &mut found, name.as_slice())?;
     }
     Ok(found)
 }

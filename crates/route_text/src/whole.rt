@@ -4,7 +4,7 @@ ghost use Rattle.std.specs.Prelude.{◌≡◌, map, IfOk};
 ghost use Rattle.route_text.specs.Whole.{twice, no_such, vias, member_names, of_whole};
 ghost use Rattle.route_text.specs.Reads.{Refuses};
 
-use crate::names::{Named, again, names_of, put_names, stranger};
+use crate::names::{Named, again, names_of, push_names, stranger};
 use crate::{RouteFault, Values};
 use std::alloc::Global;
 use z_types::{List, Memory, Text, copy};
@@ -17,7 +17,7 @@ pub fn check_whole(alloc: Global, values: &Values) -> Result<(), RouteFault>
 {
     let targets = names_of(alloc, values.targets.as_slice())?;
     let mut both = names_of(alloc, values.targets.as_slice())?;
-    put_names(alloc, &mut both, values.groups.as_slice())?;
+    push_names(alloc, &mut both, values.groups.as_slice())?;
     all_differ(false, both.as_slice())?;
     differ_by_name(alloc, true, values.databases.as_slice())?;
     differ_by_name(alloc, true, values.indexes.as_slice())?;
@@ -68,7 +68,7 @@ fn member_names(alloc: Global, values: &Values) -> Result<List<Text>, Memory>
 {
     let mut names = List::new(alloc);
     for group in values.groups.as_slice() {
-        put_names(alloc, &mut names, group.targets.as_slice())?;
+        push_names(alloc, &mut names, group.targets.as_slice())?;
     }
     Ok(names)
 }
@@ -79,7 +79,7 @@ pub fn vias(alloc: Global, values: &Values) -> Result<List<Text>, Memory>
 {
     let mut names = List::new(alloc);
     for database in values.databases.as_slice() {
-        put_names(alloc, &mut names, database.legs.as_slice())?;
+        push_names(alloc, &mut names, database.legs.as_slice())?;
     }
     Ok(names)
 }

@@ -1,4 +1,4 @@
--- A flag for each client whose input has ended (this project's own)
+-- For contracts alone: a flag for each client whose input has ended (this project's own)
 use Rattle.std.specs.Prelude.{◌≡◌, ℕ, Bool, false, List, slice_get, unwrap_or}
 use Rattle.script.specs.declared.event.Event.{Event}
 use Rattle.script.specs.Events.{has_ended}

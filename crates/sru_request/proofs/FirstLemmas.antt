@@ -8,7 +8,8 @@ use Rattle.std.specs.Str.{bytes_eq}
 use Rattle.std.proofs.lemmas.List.{at_drop_more}
 use Rattle.std.proofs.lemmas.Map.Text.{btree_map_updates_str}
 use Rattle.sru_request.specs.declared.parameter.Parameter.{Parameter}
-use Rattle.sru_request.specs.Parameters.{same_name, value_of}
+use Rattle.z_types.specs.Same.{is_same}
+use Rattle.sru_request.specs.Parameters.{value_of}
 use Rattle.sru_request.specs.Choices.{is_absent, is_known, is_extra, is_other, first_given, first_other}
 use Rattle.sru_request.specs.Firsts.{Firsts, IsTableOf, is_other_in}
 
@@ -19,7 +20,7 @@ by_test false v o w h = h
 -- a name has a value where its first pair has one
 first_given-value : (name : List ℕ) (given : List Parameter) → unwrap_or (first_given name given) false ≡ not (is_absent (value_of name given))
 first_given-value name [] = refl
-first_given-value name (first ∷ rest) = by_test (same_name first.name name) first.value (first_given name rest) (value_of name rest) (first_given-value name rest)
+first_given-value name (first ∷ rest) = by_test (is_same first.name name) first.value (first_given name rest) (value_of name rest) (first_given-value name rest)
 
 -- what the table tells is so among the parameters
 pub other_in : (firsts : Firsts) (given : List Parameter) → IsTableOf firsts given → (name : List ℕ) → is_other_in firsts name ≡ is_other given name

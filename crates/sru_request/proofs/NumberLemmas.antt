@@ -1,6 +1,7 @@
 -- Numbers past the greatest of a parameter
 use Rattle.std.proofs.Common.{◌≡◌, ◌≤◌, ◌<◌, ◌+◌, ◌-◌, ◌*◌, ℕ, false, List, [], ◌∷◌, None, length, nat_le, refl, arith}
-use Rattle.sru_request.specs.Choices.{number_after, in_range}
+use Rattle.z_types.specs.Digits.{number_after}
+use Rattle.sru_request.specs.Choices.{in_range}
 
 -- digits behind a number make it no smaller
 number_after-le : (before : ℕ) (digits : List ℕ) → before ≤ number_after before digits

@@ -6,7 +6,8 @@ use Rattle.sru_request.specs.declared.faults.QueryFault.{QueryFault}
 use Rattle.sru_request.specs.declared.faults.QueryFault.TheVariants as fault
 use Rattle.sru_request.specs.declared.parameter.Parameter.{Parameter}
 use Rattle.sru_request.specs.declared.query.SruQuery.{SruQuery}
-use Rattle.sru_request.specs.Parameters.{same_name, value_of}
+use Rattle.z_types.specs.Same.{is_same}
+use Rattle.sru_request.specs.Parameters.{value_of}
 use Rattle.sru_request.specs.Choices.{is_absent, start_in, maximum_in, packing_in, schema_in, first_other}
 
 -- a diagnostic
@@ -35,14 +36,14 @@ unfoldable pub operation_faults : List Parameter → List SruDiag
 operation_faults given =
     let operation = value_of (codes "operation") given in
     if is_absent operation then diagnostic newest 7 (codes "operation") ∷ []
-    else unless (same_name operation (codes "searchRetrieve")) (diagnostic newest 4 operation)
+    else unless (is_same operation (codes "searchRetrieve")) (diagnostic newest 4 operation)
 
 -- 3, 4: the version is there, and is 1.1 or 1.2
 unfoldable pub version_faults : List Parameter → List SruDiag
 version_faults given =
     let version = version_of given in
     if is_absent version then diagnostic newest 7 (codes "version") ∷ []
-    else unless (same_name version (codes "1.1") || same_name version newest) (diagnostic newest 5 newest)
+    else unless (is_same version (codes "1.1") || is_same version newest) (diagnostic newest 5 newest)
 
 -- 5: the query is there
 unfoldable pub query_faults : List Parameter → List SruDiag

@@ -1,12 +1,14 @@
 -- What the values of parameters choose (SRU 1.2, Request Parameters; the limits are this project's own)
-use Rattle.std.specs.Prelude.{ℕ, ◌+◌, ◌-◌, ◌*◌, Bool, true, false, not, ◌||◌, ◌&&◌, ◌==◌, nat_le, nat_eq, min, List, [], ◌∷◌, length, Option, None, Some, position, codes, if◌then◌else◌}
+use Rattle.std.specs.Prelude.{ℕ, ◌-◌, Bool, true, false, not, ◌||◌, ◌&&◌, ◌==◌, nat_le, nat_eq, min, List, [], ◌∷◌, length, Option, None, Some, position, codes, if◌then◌else◌}
 use Rattle.std.specs.Char.{is_ascii_digit}
 use Rattle.std.specs.List.{list_all, list_any, starts_with}
 use Rattle.std.specs.Option.{option_map}
 use Rattle.z_types.specs.Bounds.{most_number}
+use Rattle.z_types.specs.Digits.{number_after}
 use Rattle.z_types.specs.declared.schemas.Schema.{Schema}
 use Rattle.sru_request.specs.declared.parameter.Parameter.{Parameter}
-use Rattle.sru_request.specs.Parameters.{same_name, value_of}
+use Rattle.z_types.specs.Same.{is_same}
+use Rattle.sru_request.specs.Parameters.{value_of}
 
 -- a value is absent
 abbrev pub is_absent : List ℕ → Bool
@@ -15,11 +17,6 @@ is_absent value = length value == 0
 -- each octet is a decimal digit
 unfoldable pub are_digits : List ℕ → Bool
 are_digits octets = list_all is_ascii_digit octets
-
--- the number that digits write behind those of another
-abbrev pub number_after : ℕ → List ℕ → ℕ
-number_after before [] = before
-number_after before (digit ∷ digits) = number_after (before * 10 + (digit - 48)) digits
 
 -- a number that is no less than one, and at most 2147483647
 abbrev pub in_range : ℕ → ℕ → Option ℕ
@@ -42,12 +39,12 @@ maximum_in value = option_map (λ number. min number 100) (number_in 0 10 value)
 -- whether records are escaped
 abbrev pub packing_in : List ℕ → Option Bool
 packing_in value =
-    if is_absent value || same_name value (codes "xml") then Some false
-    else (if same_name value (codes "string") then Some true else None)
+    if is_absent value || is_same value (codes "xml") then Some false
+    else (if is_same value (codes "string") then Some true else None)
 
 -- a value is the name or the identifier of a schema, or absent
 abbrev pub is_of : List ℕ → Schema → Bool
-is_of value schema = is_absent value || (same_name schema.name value || same_name schema.uri value)
+is_of value schema = is_absent value || (is_same schema.name value || is_same schema.uri value)
 
 -- the place of the first such schema
 abbrev pub schema_in : List Schema → List ℕ → Option ℕ
@@ -60,7 +57,7 @@ known_names =
     ∷ codes "recordPacking" ∷ codes "recordSchema" ∷ codes "sortKeys" ∷ []
 
 unfoldable pub is_known : List ℕ → Bool
-is_known name = list_any (same_name name) known_names
+is_known name = list_any (is_same name) known_names
 
 -- a name of extra request data
 unfoldable pub is_extra : List ℕ → Bool
@@ -70,7 +67,7 @@ is_extra name = starts_with nat_eq name (codes "x-")
 abbrev pub first_given : List ℕ → List Parameter → Option Bool
 first_given name [] = None
 first_given name (first ∷ rest) =
-    if same_name first.name name then Some (not (is_absent first.value)) else first_given name rest
+    if is_same first.name name then Some (not (is_absent first.value)) else first_given name rest
 
 -- another name that is given, among all parameters
 unfoldable pub is_other : List Parameter → List ℕ → Bool

@@ -1,4 +1,4 @@
--- What a table of names tells of parameters (this project's own)
+-- For contracts alone: what a table of names tells of parameters (this project's own)
 use Rattle.std.specs.Prelude.{◌≡◌, ℕ, Bool, false, not, ◌||◌, ◌&&◌, List, unwrap_or}
 use Rattle.std.specs.Borrow.{Bor}
 use Rattle.std.specs.BTreeMap as tree

@@ -1,7 +1,8 @@
 //! Numbers in decimal.
 
 ghost use Rattle.std.specs.Prelude.{◌≡◌};
-ghost use Rattle.sru_request.specs.Choices.{are_digits, number_after, in_range, number_in};
+ghost use Rattle.z_types.specs.Digits.{number_after};
+ghost use Rattle.sru_request.specs.Choices.{are_digits, in_range, number_in};
 
 use z_types::MOST_NUMBER;
 

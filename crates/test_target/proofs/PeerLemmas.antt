@@ -21,33 +21,35 @@ use Rattle.z_types.specs.declared.query.RpnQuery.{RpnQuery}
 use Rattle.z_types.specs.declared.scan.ScanAsk.{ScanAsk}
 use Rattle.z_types.specs.declared.scan.ScanAnswer.{ScanAnswer}
 use Rattle.z_types.specs.declared.world.World as world
-use Rattle.gw_outside.specs.Peers.{NamedSet, is_named, held, set_of, ArePut, OthersStay, AreRecords, IsPresented, SearchAnswered, PresentAnswered, ScanAnswered, IsPeerStep}
-use Rattle.gw_outside.specs.Replies.{named_sets, has_named_sets, search_said, present_said, scan_said}
+use Rattle.z_types.specs.Same.{is_same}
+use Rattle.gw_outside.specs.Peers.{NamedSet, held, set_of, ArePut, OthersStay, AreRecords, IsPresented, SearchAnswered, PresentAnswered, ScanAnswered, IsPeerStep}
+use Rattle.z_types.specs.Services.{named_result_sets, own_options, has_named_result_sets}
+use Rattle.gw_outside.specs.Replies.{search_said, present_said, scan_said}
 use Rattle.test_target.specs.Searches.{search_at}
 use Rattle.test_target.specs.Records.{record_at}
 use Rattle.test_target.specs.Scans.{scan_at}
-use Rattle.test_target.specs.Peer.{own_options, searched, search_reply, without, with_set, sets_after_search, with_record, given, unnamed, records_reply, presented, first_within, hits_or_none, hits_of, reply_from, set_reply, present_reply, scanned, scan_reply, reply_to, sets_after}
+use Rattle.test_target.specs.Peer.{searched, search_reply, without, with_set, sets_after_search, with_record, given, unnamed, records_reply, presented, first_within, hits_or_none, hits_of, reply_from, set_reply, present_reply, scanned, scan_reply, reply_to, sets_after}
 
 -- ---- result sets by their names
 
 -- a name that is another one is not found under the own one
-other_name : (own name first : List ℕ) → is_named own name ≡ false → is_named first own ≡ true → is_named first name ≡ false
-other_name own name first e f = ap (λ n. is_named n name) (text_exact first own f) ∙ e
+other_name : (own name first : List ℕ) → is_same own name ≡ false → is_same first own ≡ true → is_same first name ≡ false
+other_name own name first e f = ap (λ n. is_same n name) (text_exact first own f) ∙ e
 
-skip_own : (b : Bool) (own name : List ℕ) (first : NamedSet) (rest : List NamedSet) → is_named own name ≡ false → is_named first.0 own ≡ b
+skip_own : (b : Bool) (own name : List ℕ) (first : NamedSet) (rest : List NamedSet) → is_same own name ≡ false → is_same first.0 own ≡ b
     → held (without own rest) name ≡ held rest name
-    → held (cond (not b) (first ∷ without own rest) (without own rest)) name ≡ cond (is_named first.0 name) (Some first.1) (held rest name)
+    → held (cond (not b) (first ∷ without own rest) (without own rest)) name ≡ cond (is_same first.0 name) (Some first.1) (held rest name)
 skip_own true own name first rest e f h =
     h ∙ sym (ap (λ c. cond c (Some first.1) (held rest name)) (other_name own name first.0 e f))
-skip_own false own name first rest e f h = ap (λ o. cond (is_named first.0 name) (Some first.1) o) h
+skip_own false own name first rest e f h = ap (λ o. cond (is_same first.0 name) (Some first.1) o) h
 
 -- the sets of other names stay
-held_without : (own name : List ℕ) (sets : List NamedSet) → is_named own name ≡ false → held (without own sets) name ≡ held sets name
+held_without : (own name : List ℕ) (sets : List NamedSet) → is_same own name ≡ false → held (without own sets) name ≡ held sets name
 held_without own name [] e = refl
 held_without own name (first ∷ rest) e =
-    skip_own (is_named first.0 own) own name first rest e refl (held_without own name rest e)
+    skip_own (is_same first.0 own) own name first rest e refl (held_without own name rest e)
 
-none_of_own : (b : Bool) (own : List ℕ) (first : NamedSet) (rest : List NamedSet) → is_named first.0 own ≡ b
+none_of_own : (b : Bool) (own : List ℕ) (first : NamedSet) (rest : List NamedSet) → is_same first.0 own ≡ b
     → held (without own rest) own ≡ None
     → held (cond (not b) (first ∷ without own rest) (without own rest)) own ≡ None
 none_of_own true own first rest f h = h
@@ -56,9 +58,9 @@ none_of_own false own first rest f h = ap (λ c. cond c (Some first.1) (held (wi
 -- the own name has none
 none_held : (own : List ℕ) (sets : List NamedSet) → held (without own sets) own ≡ None
 none_held own [] = refl
-none_held own (first ∷ rest) = none_of_own (is_named first.0 own) own first rest refl (none_held own rest)
+none_held own (first ∷ rest) = none_of_own (is_same first.0 own) own first rest refl (none_held own rest)
 
-put_at : (b : Bool) (own name : List ℕ) (set : Option SetKey) (sets : List NamedSet) → is_named own name ≡ b
+put_at : (b : Bool) (own name : List ℕ) (set : Option SetKey) (sets : List NamedSet) → is_same own name ≡ b
     → held (with_set own set sets) name ≡ cond b set (held sets name)
 put_at true own name None sets e =
     ap (λ n. held (without own sets) n) (sym (text_exact own name e)) ∙ none_held own sets
@@ -69,7 +71,7 @@ put_at false own name (Some key) sets e =
 
 -- a name has the set that was put under it, and the others have theirs
 are_put : (own : List ℕ) (set : Option SetKey) (sets : List NamedSet) → ArePut own set sets (with_set own set sets)
-are_put own set sets name = put_at (is_named own name) own name set sets refl
+are_put own set sets name = put_at (is_same own name) own name set sets refl
 
 others_stay : (own : List ℕ) (set : Option SetKey) (sets : List NamedSet) → OthersStay own sets (with_set own set sets)
 others_stay own set sets name e = put_at false own name set sets e
@@ -164,11 +166,11 @@ within_hits start first number hits e p q r =
 
 -- ---- replies
 
-options_kept : (options : ℕ) → bit_and (bit_and options own_options) named_sets ≡ bit_and options named_sets
-options_kept options = and_assoc named_sets options own_options
+options_kept : (options : ℕ) → bit_and (bit_and options own_options) named_result_sets ≡ bit_and options named_result_sets
+options_kept options = and_assoc named_result_sets options own_options
 
 -- an Init that asks for named result sets is accepted with them
-named_kept : (options : ℕ) → has_named_sets options ≡ true → has_named_sets (bit_and options own_options) ≡ true
+named_kept : (options : ℕ) → has_named_result_sets options ≡ true → has_named_result_sets (bit_and options own_options) ≡ true
 named_kept options e = ap (λ bits. not (bits == 0)) (options_kept options) ∙ e
 
 search_answer : (ref_id : Option (List ℕ)) (answer : Result ℕ Diag) → search_said (searched ref_id answer) ≡ Some answer
@@ -192,7 +194,7 @@ module _ {W : Type 0} (w : world.Ghosts W) (address : Address) (n : ℕ) (hs : (
       → SearchAnswered w address search query sets (sets_after_search n search query sets) (search_reply n search query)
   search_step asked (Good query) sets =
       let key : SetKey = record { dbs = asked.dbs; query = query } in
-      λ free. record {
+      λ replaces free. record {
         said = search_answer asked.ref_id (search_at n key) ∙ ap Some (sym (hs key));
         put = subst (λ answer. ArePut asked.set_name (set_of key answer) sets (with_set asked.set_name (set_of key (search_at n key)) sets)) (sym (hs key))
             (are_put asked.set_name (set_of key (search_at n key)) sets);

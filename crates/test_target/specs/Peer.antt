@@ -1,5 +1,5 @@
 -- How the peer of the test target n answers (ANSI/NISO Z39.50-2003, 3.2.1 to 3.2.3, 3.2.8 and 3.2.11; how many records it gives is this project's own)
-use Rattle.std.specs.Prelude.{ℕ, zero, suc, ◌+◌, ◌-◌, ◌^◌, ◌==◌, ◌&&◌, ℤ, pos, negsuc, bit_and, not, true, false, List, [], ◌∷◌, length, map, filter, min, Option, None, Some, Result, Ok, Err, nat_le, if◌then◌else◌}
+use Rattle.std.specs.Prelude.{ℕ, zero, suc, ◌+◌, ◌-◌, ◌==◌, ◌&&◌, ℤ, pos, negsuc, bit_and, not, true, false, List, [], ◌∷◌, length, map, filter, min, Option, None, Some, Result, Ok, Err, nat_le, if◌then◌else◌}
 use Rattle.z_types.specs.Bib1.{bib1}
 use Rattle.z_types.specs.Bounds.{most_unit_octets}
 use Rattle.z_types.specs.declared.conditions.Condition.TheVariants.{PresentRequestOutOfRange, ResultSetDoesNotExist}
@@ -22,21 +22,14 @@ use Rattle.z_types.specs.declared.requests.Request.{Request}
 use Rattle.z_types.specs.declared.requests.Request.TheVariants as request
 use Rattle.z_types.specs.declared.scan.ScanAsk.{ScanAsk}
 use Rattle.z_types.specs.declared.scan.ScanAnswer.{ScanAnswer}
-use Rattle.gw_outside.specs.Peers.{NamedSet, is_named, held, set_of}
-use Rattle.gw_outside.specs.Replies.{named_sets}
+use Rattle.z_types.specs.Same.{is_same}
+use Rattle.gw_outside.specs.Peers.{NamedSet, held, set_of}
+use Rattle.z_types.specs.Services.{own_versions, own_options}
 use Rattle.test_target.specs.Searches.{search_at}
 use Rattle.test_target.specs.Records.{record_at}
 use Rattle.test_target.specs.Scans.{scan_at}
 
 -- ---- Init
-
--- versions 1 to 3
-abbrev pub own_versions : ℕ
-own_versions = 2 ^ 0 + 2 ^ 1 + 2 ^ 2
-
--- search, present, scan and named result sets
-abbrev pub own_options : ℕ
-own_options = 2 ^ 0 + 2 ^ 1 + 2 ^ 7 + named_sets
 
 -- what was asked for, as far as the target has it
 abbrev pub agreed : Init → Init
@@ -67,7 +60,7 @@ search_reply n asked (Bad diag) = search_failed asked.ref_id diag
 
 -- the sets of all names but one
 abbrev pub without : List ℕ → List NamedSet → List NamedSet
-without name sets = filter (λ set. not (is_named set.0 name)) sets
+without name sets = filter (λ set. not (is_same set.0 name)) sets
 
 -- a set takes the place of what its name had, or the name has none now
 abbrev pub with_set : List ℕ → Option SetKey → List NamedSet → List NamedSet

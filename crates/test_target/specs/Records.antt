@@ -11,7 +11,7 @@ use Rattle.gw_outside.specs.declared.targets.TargetAnswer.{TargetAnswer}
 use Rattle.gw_outside.specs.declared.targets.TargetAnswer.TheVariants.{Good, Refused, Memory}
 use Rattle.test_target.specs.declared.places.Location.{Location}
 use Rattle.test_target.specs.declared.syntaxes.Syntax.{Syntax}
-use Rattle.test_target.specs.Databases.{same_name}
+use Rattle.z_types.specs.Same.{is_same}
 use Rattle.test_target.specs.Places.{places}
 use Rattle.test_target.specs.Syntaxes.{syntax_in, in_syntax}
 
@@ -24,8 +24,8 @@ full_text n place =
 abbrev pub text_in : ℕ → Location → Option (List ℕ) → Result (List ℕ) Diag
 text_in n place None = Ok (full_text n place)
 text_in n place (Some element) =
-    if same_name element (codes "F") || same_name element (codes "dc") then Ok (full_text n place)
-    else (if same_name element (codes "B") then Ok (decimal place.number) else Err (bib1 ElementSetNameNotValid element))
+    if is_same element (codes "F") || is_same element (codes "dc") then Ok (full_text n place)
+    else (if is_same element (codes "B") then Ok (decimal place.number) else Err (bib1 ElementSetNameNotValid element))
 
 -- a text that has a length of one octet, where there is one
 abbrev pub IsShort : TargetAnswer (List ℕ) → Type 0
@@ -36,7 +36,7 @@ IsShort Memory = Unit {0}
 -- record 13 of Default is a diagnostic in its place
 abbrev pub shown_at : Location → Item → Item
 shown_at place item =
-    if same_name place.name (codes "Default") && (place.number == 13) then Surrogate (bib1 TemporarySystemError (codes "13")) else item
+    if is_same place.name (codes "Default") && (place.number == 13) then Surrogate (bib1 TemporarySystemError (codes "13")) else item
 
 -- the record in its form, or the diagnostic of its syntax, or else of its element set
 abbrev pub written : Location → Result Syntax Diag → Result (List ℕ) Diag → Result Item Diag

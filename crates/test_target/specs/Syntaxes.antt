@@ -1,8 +1,8 @@
 -- The record syntaxes of the test targets (ANSI/NISO Z39.50-2003, appendix REC; GeneralString of X.690:2021, 8.23)
-use Rattle.std.specs.Prelude.{ℕ, ◌==◌, Bool, List, [], ◌∷◌, ◌++◌, length, map, Option, Some, None, Result, Ok, Err, codes, if◌then◌else◌}
+use Rattle.z_types.specs.Same.{is_same}
+use Rattle.std.specs.Prelude.{ℕ, List, [], ◌∷◌, ◌++◌, length, map, Option, Some, None, Result, Ok, Err, codes, if◌then◌else◌}
 use Rattle.std.specs.List.{join_with_byte}
 use Rattle.std.specs.Fmt.{decimal}
-use lib.Pointwise.{pointwise}
 use Rattle.z_types.specs.declared.diagnostic.Diag.{Diag}
 use Rattle.z_types.specs.declared.records.Item.{Item}
 use Rattle.z_types.specs.declared.records.Item.TheVariants.{Record}
@@ -20,10 +20,6 @@ xml = 1 ∷ 2 ∷ 840 ∷ 10003 ∷ 5 ∷ 109 ∷ 10 ∷ []
 abbrev pub sutrs : List ℕ
 sutrs = 1 ∷ 2 ∷ 840 ∷ 10003 ∷ 5 ∷ 101 ∷ []
 
--- two object identifiers are one
-abbrev pub same_oid : List ℕ → List ℕ → Bool
-same_oid = pointwise ◌==◌
-
 -- the numbers of an object identifier with full stops between
 abbrev pub dotted : List ℕ → List ℕ
 dotted arcs = join_with_byte 46 (map decimal arcs)
@@ -32,8 +28,8 @@ dotted arcs = join_with_byte 46 (map decimal arcs)
 abbrev pub syntax_in : Option (List ℕ) → Result Syntax Diag
 syntax_in None = Ok Xml
 syntax_in (Some syntax) =
-    if same_oid syntax xml then Ok Xml
-    else (if same_oid syntax sutrs then Ok Sutrs else Err (bib1 RecordSyntaxNotSupported (dotted syntax)))
+    if is_same syntax xml then Ok Xml
+    else (if is_same syntax sutrs then Ok Sutrs else Err (bib1 RecordSyntaxNotSupported (dotted syntax)))
 
 -- a text of fewer than 128 octets in a syntax: as an XML element, or as a GeneralString, whose tag is universal 27
 abbrev pub in_syntax : Syntax → List ℕ → Item

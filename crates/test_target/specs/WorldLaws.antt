@@ -7,12 +7,12 @@ use Rattle.z_types.specs.Bounds.{most_number}
 use Rattle.z_types.specs.World.{HitsAreCounts, WholeIsNotGone}
 use Rattle.z_types.specs.declared.address.Address.TheVariants.{Test, Tcp}
 use Rattle.z_types.specs.declared.diagnostic.Diag.{Diag}
-use Rattle.test_target.specs.Databases.{same_name}
+use Rattle.z_types.specs.Same.{is_same}
 use Rattle.test_target.specs.Searches.{answer_unless, database_fault, operand_fault}
 use Rattle.test_target.specs.declared.places.Location.{Location}
 use Rattle.test_target.specs.declared.syntaxes.Syntax.{Syntax}
 use Rattle.test_target.specs.Places.{places}
-use Rattle.test_target.specs.Syntaxes.{syntax_in, xml, sutrs, same_oid}
+use Rattle.test_target.specs.Syntaxes.{syntax_in, xml, sutrs}
 use Rattle.test_target.specs.Records.{text_in, written, record_in}
 use Rattle.test_target.specs.World.{search_of, record_of}
 
@@ -35,13 +35,13 @@ either_not_gone false x y p q = q
 text_not_gone : (n : ℕ) (place : Location) (element : Option (List ℕ)) → NotGone (text_in n place element)
 text_not_gone n place None = tt
 text_not_gone n place (Some element) =
-    either_not_gone (same_name element (codes "F") || same_name element (codes "dc")) _ _ tt
-    (either_not_gone (same_name element (codes "B")) _ _ tt refl)
+    either_not_gone (is_same element (codes "F") || is_same element (codes "dc")) _ _ tt
+    (either_not_gone (is_same element (codes "B")) _ _ tt refl)
 
 syntax_not_gone : (syntax : Option (List ℕ)) → NotGone (syntax_in syntax)
 syntax_not_gone None = tt
 syntax_not_gone (Some syntax) =
-    either_not_gone (same_oid syntax xml) _ _ tt (either_not_gone (same_oid syntax sutrs) _ _ tt refl)
+    either_not_gone (is_same syntax xml) _ _ tt (either_not_gone (is_same syntax sutrs) _ _ tt refl)
 
 written_not_gone : (place : Location) (syntax : Result Syntax Diag) (text : Result (List ℕ) Diag) →
     NotGone syntax → NotGone text → NotGone (written place syntax text)

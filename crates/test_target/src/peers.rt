@@ -12,13 +12,10 @@ use crate::scan_replies::scan_reply;
 use crate::searches::search_reply;
 use crate::worlds::TestWorld;
 use std::alloc::Global;
-use z_types::{Close, Init, MOST_UNIT_OCTETS, Memory, Reply, Request, SetKey, Text, World, copy};
-
-/// Versions 1 to 3 of the protocol.
-const OWN_VERSIONS: u32 = 7;
-
-/// Search, present, scan and named result sets.
-const OWN_OPTIONS: u32 = 16515;
+use z_types::{
+    Close, Init, MOST_UNIT_OCTETS, Memory, OWN_OPTIONS, OWN_VERSIONS, Reply, Request, SetKey, Text,
+    World, copy,
+};
 
 /// The peer of a test target: its number, and the result sets that it holds.
 #[derive(Drop)]

@@ -6,7 +6,7 @@ ghost use Rattle.std.specs.Fmt.{decimal};
 ghost use Rattle.z_types.specs.Bib1.{bib1};
 ghost use Rattle.z_types.specs.declared.conditions.Condition.TheVariants.{ElementSetNameNotValid};
 ghost use Rattle.gw_outside.specs.Targets.{AnswersAs};
-ghost use Rattle.test_target.specs.Databases.{same_name};
+ghost use Rattle.z_types.specs.Same.{is_same};
 ghost use Rattle.test_target.specs.Syntaxes.{syntax_in, in_syntax};
 ghost use Rattle.test_target.specs.Records.{full_text, text_in, shown_at, written, record_at, IsShort};
 
@@ -93,7 +93,7 @@ fn text_in(
 
 /// Whether an element set has the full text.
 fn is_full(element: &Text) -> bool
-    ensures { result ≡ (same_name element.now (codes "F") || same_name element.now (codes "dc")) }
+    ensures { result ≡ (is_same element.now (codes "F") || is_same element.now (codes "dc")) }
 {
     element.as_slice() == b"F".as_slice() || element.as_slice() == b"dc".as_slice()
 }

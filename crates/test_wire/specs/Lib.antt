@@ -1,4 +1,4 @@
 pub mod Happened
 pub mod Owed
 pub mod Links
-pub mod Tallies
+pub mod Wires

@@ -1,21 +1,19 @@
 -- What a link with a test target tells (this project's own)
-use Rattle.std.specs.Prelude.{◌≡◌, ℕ, nat_le, Bool, true, false, List, [], ◌∷◌, ◌++◌, map, Option, None, Some}
+use Rattle.std.specs.Prelude.{◌≡◌, ℕ, Bool, true, false, List, [], ◌∷◌, ◌++◌, map, None, Some}
 use Rattle.z_types.specs.declared.address.Address.TheVariants as at
 use Rattle.z_types.specs.declared.replies.Reply.{Reply}
 use Rattle.z_types.specs.declared.requests.Request.{Request}
 use Rattle.gw_outside.specs.Peers as peers
 use Rattle.gw_outside.specs.Replies.{says_gone}
 use Rattle.gw_outside.specs.Wires.{IsRequestUnit}
-use Rattle.gw_outside.specs.declared.wires.Dialled.{Dialled}
-use Rattle.gw_outside.specs.declared.wires.Dialled.TheVariants.{Link, Failed, Memory}
 use Rattle.gw_outside.specs.declared.wires.Sent.{Sent}
 use Rattle.gw_outside.specs.declared.wires.Sent.TheVariants as sent
 use Rattle.gw_outside.specs.declared.wires.Looked.{Looked}
 use Rattle.gw_outside.specs.declared.wires.Looked.TheVariants as looked
 use Rattle.test_target.specs.declared.peers.Peer.{Peer}
 use Rattle.test_target.specs.Peer.{reply_to, sets_after}
-use Rattle.test_wire.specs.declared.happenings.Happening.{Happening}
-use Rattle.test_wire.specs.Happened.{Table, IsPut, happening_of, happening_after, sets_found}
+use Rattle.gw_outside.specs.declared.happenings.Happening.{Happening}
+use Rattle.gw_outside.specs.Happened.{sets_found}
 use Rattle.test_wire.specs.Owed.{OwedReply, IsNextOwed}
 
 -- the target's end, and what it owes
@@ -26,10 +24,9 @@ peer_of peer owed = record {
   owed = map (λ o. o.reply) owed;
 }
 
--- the request that octets are, where they are one
-abbrev pub IsOnlyRequest : List ℕ → Option Request → Type 0
-IsOnlyRequest octets None = (request : Request) → ¬ IsRequestUnit octets request
-IsOnlyRequest octets (Some own) = (request : Request) → IsRequestUnit octets request → request ≡ own
+-- how many looks are to find nothing before each reply
+abbrev pub delays_of : List OwedReply → List ℕ
+delays_of owed = map (λ o. o.looks) owed
 
 -- a target's end takes a request: it answers with the sets that the request finds, and its reply is owed behind those before it, after as many looks as is stated now
 pub record HasTaken (happening : Happening) (request : Request) (old new : Peer) (before after : List OwedReply) : Type 0 where
@@ -46,17 +43,6 @@ SendTakes octets happening old new before after sent.Sent =
     (request : Request) → IsRequestUnit octets request → HasTaken happening request old new before after
 SendTakes octets happening old new before after sent.Failed = (new ≡ old) × (after ≡ before)
 SendTakes octets happening old new before after sent.Memory = Unit {0}
-
--- what is left to happen to the target then
-abbrev pub SendLeaves : List ℕ → ℕ → Table → Table → Sent → Type 0
-SendLeaves octets target old new sent.Sent =
-    (request : Request) → IsRequestUnit octets request → IsPut target (happening_after (happening_of old target) request) old new
-SendLeaves octets target old new sent.Failed = new ≡ old
-SendLeaves octets target old new sent.Memory = Unit {0}
-
--- a link of this number is cut
-abbrev pub is_cut : Happening → ℕ → Bool
-is_cut happening number = nat_le number happening.cut
 
 -- what a look at a link that is not cut finds: the reply that comes next, if one does
 abbrev pub FindsNext : List OwedReply → List OwedReply → Looked → Type 0
@@ -80,11 +66,6 @@ brings_gone reply looked.Failed = false
 brings_gone reply looked.Memory = false
 
 -- ---- which calls failed
-
-abbrev pub has_not_dialled : {L : Type 0} → Dialled L → Bool
-has_not_dialled (Link link) = false
-has_not_dialled Failed = true
-has_not_dialled Memory = false
 
 abbrev pub has_not_sent : Sent → Bool
 has_not_sent sent.Sent = false

@@ -1,23 +1,13 @@
 //! What is made to happen to the links of test targets.
 
-ghost use Rattle.std.specs.Prelude.{◌≡◌, ℕ, OnOk, OnErr};
-ghost use Rattle.std.specs.BTreeMap.{IsUnchanged};
-ghost use Rattle.test_wire.specs.Happened.{nothing_happens, happening_of, IsPut};
+ghost use Rattle.std.specs.Prelude.{◌≡◌, OnOk, OnErr};
+ghost use Rattle.gw_outside.specs.Happened.{AreSame, AreQuiet};
+ghost use Rattle.test_wire.specs.Happened.{happening_of, happened_in, IsPut};
 
+use gw_outside::Happening;
 use std::alloc::Global;
 use std::collections::BTreeMap;
 use z_types::Memory;
-
-/// What was made to happen to the links of a target.
-#[derive(Clone, Copy)]
-pub struct Happening {
-    /// How many Presents are still to find all result sets gone.
-    pub presents: u32,
-    /// How many looks find nothing before a reply that the target makes from now on.
-    pub delay: u32,
-    /// The number of the last link that was cut: no link with a greater number is.
-    pub cut: u64,
-}
 
 /// What was made to happen, target by target.
 #[derive(Drop)]
@@ -29,7 +19,7 @@ impl Happenings {
     /// Nothing was.
     #[tactic(auto, using(crate::proofs::WireLemmas::quiet))]
     pub(crate) fn new(alloc: Global) -> Happenings
-        ensures { (target : ℕ) → happening_of result.table target ≡ nothing_happens }
+        ensures { AreQuiet (happened_in result.table) }
     {
         Happenings {
             table: BTreeMap::new(alloc),
@@ -51,9 +41,11 @@ impl Happenings {
     }
 
     /// Keeps what is made to happen to a target now.
+    #[tactic(auto, using(crate::proofs::WireLemmas::same))]
     pub(crate) fn put(&mut self, target: u32, happening: Happening) -> Result<(), Memory>
         ensures ok { OnOk result (IsPut target happening self.old.table self.new.table) }
-        ensures err { OnErr result (IsUnchanged self.old.table self.new.table) }
+        ensures err { OnErr result
+            (AreSame (happened_in self.old.table) (happened_in self.new.table)) }
     {
         self.table.insert(target, happening)?;
         Ok(())

@@ -5,10 +5,8 @@
 mod happenings;
 mod links;
 mod owed;
-mod requests;
 mod wires;
 
-pub use happenings::Happening;
 pub use links::TestLink;
 pub use owed::Owed;
 pub use wires::TestWire;

@@ -1,14 +1,15 @@
 //! A link with a test target.
 
-ghost use Rattle.std.specs.Prelude.{◌≡◌, OnOk};
-ghost use Rattle.test_wire.specs.Happened.{happening_of, sets_found, happening_after, IsPut};
+ghost use Rattle.std.specs.Prelude.{◌≡◌, ◌++◌, ◌∷◌, [], true, OnOk, OnErr};
+ghost use Rattle.gw_outside.specs.Happened.{AreSame, AreLess, IsMade, sets_found, happening_after};
 ghost use Rattle.gw_outside.specs.Peers.{TakesRequest};
-ghost use Rattle.test_wire.specs.Links.{HasTaken, peer_of};
+ghost use Rattle.test_wire.specs.Happened.{happening_of, happened_in};
+ghost use Rattle.test_wire.specs.Links.{HasTaken, peer_of, delays_of};
 
-use crate::happenings::{Happening, Happenings};
+use crate::happenings::Happenings;
 use crate::owed::Owed;
 use bytes::BytesMut;
-use gw_outside::Linked;
+use gw_outside::{Happening, Linked};
 use std::alloc::Global;
 use test_target::{Peer, TestWorld, peer_step};
 use z_types::{Memory, Request, World};
@@ -24,15 +25,22 @@ pub struct TestLink {
 }
 
 impl Linked for TestLink {
-    ghost use Rattle.std.specs.Prelude.{Some};
+    ghost use Rattle.std.specs.Prelude.{Some, true};
 
     ghost arrived = { λ link. link.arrived.items };
 
     ghost peer = { λ link. Some (peer_of link.peer link.owed.items) };
+
+    ghost number = { λ link. link.number };
+
+    ghost delays = { λ link. delays_of link.owed.items };
+
+    ghost exact = { true };
 }
 
 impl TestLink {
     /// Hands a request to the target's end, and owes its reply.
+    #[tactic(auto, using(crate::proofs::WireLemmas::asked_less, crate::proofs::WireLemmas::same_less))]
     pub(crate) fn take(
         &mut self,
         alloc: Global,
@@ -42,12 +50,16 @@ impl TestLink {
         ensures taken { OnOk result (HasTaken
             (happening_of happenings.old.table self.old.peer.target) request.now
             self.old.peer self.new.peer self.old.owed.items self.new.owed.items) }
-        ensures peer { OnOk result (TakesRequest ⟦<TestWorld as World>⟧ request.now
+        ensures peer { OnOk result (TakesRequest ⟦<TestWorld as World>⟧ true (sets_found
+            (happening_of happenings.old.table self.old.peer.target) request.now
+            self.old.peer.sets.items) request.now
             (peer_of self.old.peer self.old.owed.items)
             (peer_of self.new.peer self.new.owed.items)) }
-        ensures happening { OnOk result (IsPut self.old.peer.target
-            (happening_after (happening_of happenings.old.table self.old.peer.target) request.now)
-            happenings.old.table happenings.new.table) }
+        ensures happened { OnOk result (IsMade self.old.peer.target
+            (λ happening. happening_after happening request.now)
+            (happened_in happenings.old.table) (happened_in happenings.new.table)) }
+        ensures less { AreLess
+            (happened_in happenings.old.table) (happened_in happenings.new.table) }
         ensures arrived { self.new.arrived ≡ self.old.arrived }
         ensures number { self.new.number ≡ self.old.number }
     {
@@ -70,8 +82,11 @@ fn find_sets(
     ensures target { peer.new.target ≡ peer.old.target }
     ensures sets { OnOk result
         (peer.new.sets.items ≡ sets_found happening request.now peer.old.sets.items) }
-    ensures happening { OnOk result (IsPut peer.old.target
-        (happening_after happening request.now) happenings.old.table happenings.new.table) }
+    ensures happened { OnOk result (IsMade peer.old.target
+        (λ happening. happening_after happening request.now)
+        (happened_in happenings.old.table) (happened_in happenings.new.table)) }
+    ensures err { OnErr result
+        (AreSame (happened_in happenings.old.table) (happened_in happenings.new.table)) }
 {
     if let Request::Present(_) = request {
         if 0 < happening.presents {

@@ -1,25 +1,25 @@
 //! The wire to the test targets.
 
-ghost use Rattle.std.specs.Prelude.{◌≡◌, ◌≢◌, ◌≤◌, ℕ, false, [], Some, option_map, OnOk, OnErr};
-ghost use Rattle.std.specs.BTreeMap.{IsUnchanged};
+ghost use Rattle.std.specs.Prelude.{◌≡◌, ◌≤◌, false, true, drop, length, OnOk, OnErr};
 ghost use Rattle.z_types.specs.declared.address.Address.TheVariants as At;
-ghost use Rattle.gw_outside.specs.Counts.{Rose, one_more};
+ghost use Rattle.z_types.specs.Counts.{one_more};
+ghost use Rattle.gw_outside.specs.Counts.{WireCounts, after, no_counts};
+ghost use Rattle.gw_outside.specs.Happened.{AreSame, AreLess, AreCut, IsAsked, IsMade, IsQuietWire, is_cut, sets_found};
 ghost use Rattle.gw_outside.specs.Peers.{TakesRequest};
 ghost use Rattle.gw_outside.specs.Replies as Said;
-ghost use Rattle.gw_outside.specs.Wires.{IfLink, IsNewPeer, IsReplyUnit, SendFits, LookFits, SendCounts, after_dial, after_send, after_look, is_not_yet};
-ghost use Rattle.test_wire.specs.Happened.{nothing_happens, happening_of, happening_after, IsPut};
-ghost use Rattle.test_wire.specs.Links.{peer_of, is_cut, HasTaken, SendTakes, SendLeaves, FindsNext, HasArrived, brings_gone, has_not_dialled, has_not_sent, has_not_looked};
-ghost use Rattle.test_wire.specs.Tallies.{tally_of, counts_of};
+ghost use Rattle.gw_outside.specs.Wires.{IfLink, IsNewLink, IsSameLink, IsReplyUnit, SendFits, LookFits, SendsSteadily, LooksSteadily, SendCounts, dial_counted, send_counted, look_counted};
+ghost use Rattle.test_wire.specs.Happened.{happening_of};
+ghost use Rattle.test_wire.specs.Links.{peer_of, HasTaken, SendTakes, FindsNext, HasArrived, brings_gone, has_not_sent, has_not_looked};
+ghost use Rattle.test_wire.specs.Wires.{counts_of, happened_of};
 
-use crate::happenings::{Happening, Happenings};
+use crate::happenings::Happenings;
 use crate::links::TestLink;
 use crate::owed::{Owed, next_reply};
-use crate::requests::request_of;
 use bytes::BytesMut;
-use gw_outside::{Dialled, Events, Looked, Sent, Wire};
+use gw_outside::{Dialled, Events, Happening, Linked, Looked, Sent, Watched, Wire};
 use std::alloc::Global;
 use test_target::{Peer, TestWorld};
-use z_bib1::is_gone;
+use z_read::read_unit;
 use z_types::{Address, Body, Memory, Reply, Request, World};
 
 /// A wire to the built-in test targets. It fails at every other address, and on links that are cut.
@@ -34,13 +34,10 @@ pub struct TestWire {
 }
 
 impl TestWire {
-    /// A wire without links.
+    /// A quiet wire: without links, and nothing is made to happen to any target. It counted nothing.
     pub fn new(alloc: Global) -> TestWire
-        ensures happenings { (target : ℕ)
-            → happening_of result.happenings.table target ≡ nothing_happens }
-        ensures faults { result.faults ≡ 0 }
-        ensures waits { result.waits ≡ 0 }
-        ensures tally { tally_of result ≡ record { dials = 0; searches = 0; gones = 0 } }
+        ensures counts { counts_of result ≡ no_counts }
+        ensures quiet { IsQuietWire (counts_of result) (happened_of result) }
     {
         TestWire {
             happenings: Happenings::new(alloc),
@@ -64,22 +61,22 @@ impl TestWire {
 impl TestWire {
     /// Hands a request to the target's end of a link, and counts a Search.
     fn hand(&mut self, alloc: Global, link: &mut TestLink, request: &Request) -> Sent
-        ensures peer { result ≡ Sent.Sent → TakesRequest ⟦<TestWorld as World>⟧ request.now
+        ensures peer { result ≡ Sent.Sent → TakesRequest ⟦<TestWorld as World>⟧ true (sets_found
+            (happening_of self.old.happenings.table link.old.peer.target) request.now
+            link.old.peer.sets.items) request.now
             (peer_of link.old.peer link.old.owed.items)
             (peer_of link.new.peer link.new.owed.items) }
         ensures taken { result ≡ Sent.Sent → HasTaken
             (happening_of self.old.happenings.table link.old.peer.target) request.now
             link.old.peer link.new.peer link.old.owed.items link.new.owed.items }
-        ensures left { result ≡ Sent.Sent → IsPut link.old.peer.target (happening_after
-            (happening_of self.old.happenings.table link.old.peer.target) request.now)
-            self.old.happenings.table self.new.happenings.table }
+        ensures happened { result ≡ Sent.Sent → IsAsked (At.Test link.old.peer.target)
+            request.now (happened_of self.old) (happened_of self.new) }
+        ensures less { AreLess (happened_of self.old) (happened_of self.new) }
         ensures arrived { link.new.arrived ≡ link.old.arrived }
         ensures number { link.new.number ≡ link.old.number }
         ensures sent { has_not_sent result ≡ false }
-        ensures faults { self.new.faults ≡ self.old.faults }
-        ensures waits { self.new.waits ≡ self.old.waits }
-        ensures tally { Some (tally_of self.new)
-            ≡ option_map (after_send request.now result) (Some (tally_of self.old)) }
+        ensures counts { counts_of self.new
+            ≡ after (send_counted request.now result) (counts_of self.old) }
     {
         if let Err(_) = link.take(alloc, &mut self.happenings, request) {
             return Sent::Memory;
@@ -95,15 +92,12 @@ impl TestWire {
         ensures arrived { HasArrived owed.now.octets
             link.old.arrived.items link.new.arrived.items result }
         ensures unit { IsReplyUnit owed.now.octets owed.now.reply }
-        ensures gones { self.new.gones
-            ≡ one_more (brings_gone owed.now.reply result) self.old.gones }
+        ensures counts { counts_of self.new ≡ record (counts_of self.old) {
+          gones = one_more (brings_gone owed.now.reply result) self.old.gones;
+        } }
         ensures peer { link.new.peer ≡ link.old.peer }
         ensures owed { link.new.owed.items ≡ link.old.owed.items }
         ensures number { link.new.number ≡ link.old.number }
-        ensures faults { self.new.faults ≡ self.old.faults }
-        ensures waits { self.new.waits ≡ self.old.waits }
-        ensures dials { self.new.dials ≡ self.old.dials }
-        ensures searches { self.new.searches ≡ self.old.searches }
         ensures happenings { self.new.happenings ≡ self.old.happenings }
     {
         if let Err(_) = link.arrived.extend_from_slice(owed.octets()) {
@@ -116,28 +110,27 @@ impl TestWire {
     }
 }
 
+impl Watched for TestWire {
+    ghost use Rattle.std.specs.Prelude.{true};
+    ghost use Rattle.test_wire.specs.Wires.{counts_of, happened_of};
+
+    ghost counts = { counts_of };
+
+    ghost exact = { true };
+
+    ghost happened = { happened_of };
+}
+
 impl Wire<TestWorld> for TestWire {
     type Link = TestLink;
 
-    ghost faults = { λ wire. wire.faults };
-
-    ghost waits = { λ wire. wire.waits };
-
-    ghost tally = { λ wire. Some (tally_of wire) };
-
     fn dial(&mut self, alloc: Global, address: &Address) -> Dialled<TestLink>
-        ensures nothing { IfLink result (λ link. link.arrived.items ≡ []) }
-        ensures peer { IfLink result (λ link. IsNewPeer (⟦<TestWorld as World>⟧.told address.now)
-            address.now (Some (peer_of link.peer link.owed.items))) }
-        ensures failed { result ≡ Dialled.Failed → Rose self.old.faults self.new.faults }
-        ensures faults { self.old.faults ≤ self.new.faults }
-        ensures waits { self.new.waits ≡ self.old.waits }
-        ensures tally { Some (tally_of self.new)
-            ≡ option_map (after_dial result) (Some (tally_of self.old)) }
-        ensures fails { (target : ℕ) → address.now ≡ At.Test target → result ≢ Dialled.Failed }
-        ensures counts { self.new.faults ≡ one_more (has_not_dialled result) self.old.faults }
-        ensures number { IfLink result (λ link. link.number ≡ self.new.dials) }
-        ensures happenings { self.new.happenings ≡ self.old.happenings }
+        ensures link { IfLink result (IsNewLink ⟦<TestWorld as World>⟧ ⟦<TestLink as Linked>⟧
+            true address.now (counts_of self.new)) }
+        ensures fails { result ≡ Dialled.Failed → ¬ ⟦<TestWorld as World>⟧.told address.now }
+        ensures happened { AreSame (happened_of self.old) (happened_of self.new) }
+        ensures counts { WireCounts true
+            (dial_counted result) (counts_of self.old) (counts_of self.new) }
     {
         let Address::Test(target) = address else {
             self.faults = self.faults.saturating_add(1);
@@ -154,29 +147,24 @@ impl Wire<TestWorld> for TestWire {
 
     fn send(&mut self, alloc: Global, link: &mut TestLink, unit: &[u8]) -> Sent
         ensures arrived { link.new.arrived.items ≡ link.old.arrived.items }
-        ensures peer { SendFits ⟦<TestWorld as World>⟧ unit.now
-            (Some (peer_of link.old.peer link.old.owed.items))
-            (Some (peer_of link.new.peer link.new.owed.items)) result }
-        ensures failed { result ≡ Sent.Failed → Rose self.old.faults self.new.faults }
-        ensures faults { self.old.faults ≤ self.new.faults }
-        ensures waits { self.new.waits ≡ self.old.waits }
-        ensures tally { SendCounts unit.now result
-            (Some (tally_of self.old)) (Some (tally_of self.new)) }
+        ensures peer { SendFits ⟦<TestWorld as World>⟧ unit.now (happened_of self.old)
+            (⟦<TestLink as Linked>⟧.peer link.old) (⟦<TestLink as Linked>⟧.peer link.new) result }
+        ensures steady { SendsSteadily ⟦<TestLink as Linked>⟧ unit.now link.old link.new
+            (happened_of self.old) (happened_of self.new) result }
+        ensures counts { SendCounts true unit.now
+            result (counts_of self.old) (counts_of self.new) }
         ensures fails { has_not_sent result
             ≡ is_cut (happening_of self.old.happenings.table link.old.peer.target) link.old.number }
-        ensures counts { self.new.faults ≡ one_more (has_not_sent result) self.old.faults }
+        ensures faults { self.new.faults ≡ one_more (has_not_sent result) self.old.faults }
         ensures taken { SendTakes unit.now
             (happening_of self.old.happenings.table link.old.peer.target)
             link.old.peer link.new.peer link.old.owed.items link.new.owed.items result }
-        ensures left { SendLeaves unit.now link.old.peer.target
-            self.old.happenings.table self.new.happenings.table result }
-        ensures number { link.new.number ≡ link.old.number }
     {
         if self.is_cut(link) {
             self.faults = self.faults.saturating_add(1);
             return Sent::Failed;
         }
-        match request_of(alloc, unit) {
+        match read_unit(alloc, unit) {
             Ok(Some(request)) => self.hand(alloc, link, &request),
             Ok(None) => Sent::Sent,
             Err(_) => Sent::Memory,
@@ -184,21 +172,16 @@ impl Wire<TestWorld> for TestWire {
     }
 
     fn look(&mut self, _: Global, link: &mut TestLink) -> Looked
-        ensures fits { LookFits (Some (peer_of link.old.peer link.old.owed.items))
-            (Some (peer_of link.new.peer link.new.owed.items))
+        ensures fits { LookFits
+            (⟦<TestLink as Linked>⟧.peer link.old) (⟦<TestLink as Linked>⟧.peer link.new)
             link.old.arrived.items link.new.arrived.items result }
-        ensures failed { result ≡ Looked.Failed → Rose self.old.faults self.new.faults }
-        ensures faults { self.old.faults ≤ self.new.faults }
-        ensures waits { self.new.waits ≡ one_more (is_not_yet result) self.old.waits }
-        ensures tally { Some (tally_of self.new)
-            ≡ option_map (after_look (Some (peer_of link.old.peer link.old.owed.items)) result)
-            (Some (tally_of self.old)) }
+        ensures steady { LooksSteadily ⟦<TestLink as Linked>⟧ link.old link.new
+            (happened_of self.old) (happened_of self.new) result }
+        ensures counts { WireCounts true (look_counted (⟦<TestLink as Linked>⟧.peer link.old) result)
+            (counts_of self.old) (counts_of self.new) }
         ensures fails { has_not_looked result
             ≡ is_cut (happening_of self.old.happenings.table link.old.peer.target) link.old.number }
-        ensures counts { self.new.faults ≡ one_more (has_not_looked result) self.old.faults }
         ensures next { FindsNext link.old.owed.items link.new.owed.items result }
-        ensures number { link.new.number ≡ link.old.number }
-        ensures happenings { self.new.happenings ≡ self.old.happenings }
     {
         if self.is_cut(link) {
             self.faults = self.faults.saturating_add(1);
@@ -217,9 +200,17 @@ impl Wire<TestWorld> for TestWire {
         link.arrived.as_slice()
     }
 
-    fn consume(&mut self, link: &mut TestLink, count: usize) {
+    fn consume(&mut self, link: &mut TestLink, count: usize)
+        requires { count ≤ length link.old.arrived.items }
+        ensures arrived { link.new.arrived.items ≡ drop count link.old.arrived.items }
+        ensures link { IsSameLink ⟦<TestLink as Linked>⟧ link.old link.new }
+        ensures happened { AreSame (happened_of self.old) (happened_of self.new) }
+        ensures counts { counts_of self.new ≡ counts_of self.old }
+    {
         link.arrived.advance(count);
     }
+
+    ghost exact_links = { λ e. e };
 }
 
 /// Whether a reply says of a Present's result set that it is gone.
@@ -228,8 +219,8 @@ fn says_gone(reply: &Reply) -> bool
 {
     match reply {
         Reply::Present { body, .. } => match body {
-            Body::Diag(diag) => is_gone(diag),
-            Body::Diags(diags) => diags.as_slice().first().is_some_and(|diag| is_gone(diag)),
+            Body::Diag(diag) => diag.is_gone(),
+            Body::Diags(diags) => diags.as_slice().first().is_some_and(|diag| diag.is_gone()),
             Body::None | Body::Records(_) => false,
         },
         _ => false,
@@ -237,12 +228,12 @@ fn says_gone(reply: &Reply) -> bool
 }
 
 impl Events for TestWire {
+    #[tactic(auto, using(crate::proofs::WireLemmas::made_if))]
     fn gone(&mut self, target: u32, presents: u32) -> Result<(), Memory>
-        ensures ok { OnOk result (IsPut target
-            (record (happening_of self.old.happenings.table target) { presents = presents })
-            self.old.happenings.table self.new.happenings.table) }
-        ensures err { OnErr result
-            (IsUnchanged self.old.happenings.table self.new.happenings.table) }
+        ensures made { OnOk result (IsMade target
+            (λ happening. record happening { presents = presents })
+            (happened_of self.old) (happened_of self.new)) }
+        ensures err { OnErr result (AreSame (happened_of self.old) (happened_of self.new)) }
         ensures counts { counts_of self.new ≡ counts_of self.old }
     {
         let happening = self.happenings.of(target);
@@ -255,12 +246,11 @@ impl Events for TestWire {
         )
     }
 
+    #[tactic(auto, using(crate::proofs::WireLemmas::cut_if))]
     fn cut(&mut self, target: u32) -> Result<(), Memory>
-        ensures ok { OnOk result (IsPut target
-            (record (happening_of self.old.happenings.table target) { cut = self.old.dials })
-            self.old.happenings.table self.new.happenings.table) }
-        ensures err { OnErr result
-            (IsUnchanged self.old.happenings.table self.new.happenings.table) }
+        ensures made { OnOk result (AreCut true target self.old.dials
+            (happened_of self.old) (happened_of self.new)) }
+        ensures err { OnErr result (AreSame (happened_of self.old) (happened_of self.new)) }
         ensures counts { counts_of self.new ≡ counts_of self.old }
     {
         let happening = self.happenings.of(target);
@@ -273,12 +263,12 @@ impl Events for TestWire {
         )
     }
 
+    #[tactic(auto, using(crate::proofs::WireLemmas::made_if))]
     fn slow(&mut self, target: u32, looks: u32) -> Result<(), Memory>
-        ensures ok { OnOk result (IsPut target
-            (record (happening_of self.old.happenings.table target) { delay = looks })
-            self.old.happenings.table self.new.happenings.table) }
-        ensures err { OnErr result
-            (IsUnchanged self.old.happenings.table self.new.happenings.table) }
+        ensures made { OnOk result (IsMade target
+            (λ happening. record happening { delay = looks })
+            (happened_of self.old) (happened_of self.new)) }
+        ensures err { OnErr result (AreSame (happened_of self.old) (happened_of self.new)) }
         ensures counts { counts_of self.new ≡ counts_of self.old }
     {
         let happening = self.happenings.of(target);

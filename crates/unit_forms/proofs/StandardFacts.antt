@@ -11,14 +11,16 @@ use Rattle.z_types.specs.declared.requests.Request.TheVariants as request
 use Rattle.z_types.specs.declared.requests.Search.{Search}
 use Rattle.z_ber.specs.Element.{none, leaf, branch}
 use Rattle.z_ber.specs.Written.{element, tag_octets, length_octets, septets, int_octets, natural_octets, bool_octets, mirror, unused_bits, bits_octets, oid_octets}
-use Rattle.unit_forms.specs.declared.refusal.Refusal.TheVariants.{UnknownUnit, Missing}
-use Rattle.unit_forms.specs.Fields.{primitive, constructed}
+use Rattle.unit_forms.specs.declared.refusal.Refusal.TheVariants.{UnknownUnit, Missing, BadValue}
+use Rattle.unit_forms.specs.Fields.{primitive, constructed, object_identifier_tag}
 use Rattle.unit_forms.specs.Query.{attr_fields, leaf_octets, tree_octets, query_octets}
 use Rattle.unit_forms.specs.Records.{body_octets}
 use Rattle.unit_forms.specs.Replies.{implementation_fields, search_reply_fields, scan_reply_fields, list_entries, spell_reply}
 use Rattle.unit_forms.specs.Requests.{init_fields, search_fields, present_fields, close_fields, spell_request}
 use Rattle.unit_forms.specs.Reading.CloseUnit.{close_in}
 use Rattle.unit_forms.specs.Reading.Contents.{truth_in, integer_in, number_in, bits_in, oid_in}
+use Rattle.unit_forms.specs.Reading.Elements.{field_of}
+use Rattle.unit_forms.specs.Reading.Queries.{set_of, structure_at}
 use Rattle.unit_forms.specs.Reading.SearchRequest.{search_in, bounds_in, named_in, wanted_in}
 use Rattle.unit_forms.specs.Reading.Units.{request_of, request_in}
 
@@ -142,6 +144,23 @@ close_read = refl
 search_without_fields : request_in (branch (constructed 22) [] none none) ≡ Err (Missing 13)
 unfolding request_of search_in bounds_in named_in wanted_in
 search_without_fields = refl
+
+-- one in primitive form has no fields either
+search_in_primitive_form : request_in (leaf (primitive 22) [] none) ≡ Err (Missing 13)
+unfolding request_of search_in bounds_in named_in wanted_in
+search_in_primitive_form = refl
+
+-- at the place of a query's attribute set and of its structure stand other elements, or none
+other_set : set_of (Some (field_of (primitive 1) [] none)) ≡ Err (BadValue 1)
+other_set = refl
+
+other_structure : structure_at 1 (leaf object_identifier_tag [] (leaf (primitive 45) [] none)) ≡ Err (BadValue 45)
+unfolding structure_at
+other_structure = refl
+
+no_structure : structure_at 1 (leaf object_identifier_tag [] none) ≡ Err (Missing 0)
+unfolding structure_at
+no_structure = refl
 
 other_unit : request_in (branch (constructed 43) [] none none) ≡ Err (UnknownUnit 43)
 unfolding request_of

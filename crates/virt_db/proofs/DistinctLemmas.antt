@@ -8,7 +8,7 @@ use Rattle.z_types.specs.equality.Tests.{text_exact}
 use Rattle.route_config.specs.Lookup.{database_named}
 use Rattle.route_config.specs.declared.route.Route.{Route}
 use Rattle.virt_db.specs.Legs.{distinct, first_unknown}
-use Rattle.virt_db.specs.Names.{is_among}
+use Rattle.virt_db.specs.Names.{is_named_among}
 
 kept_last : (same : Bool) (kept : List (List ℕ)) (x : List ℕ) (p : List ℕ → Bool) → p x ≡ not same → kept ++ filter p (x ∷ []) ≡ cond same kept (kept ++ x ∷ [])
 kept_last true kept x p e = rw e (append-nil kept)
@@ -25,11 +25,11 @@ with_last false false name x names e =
     ∙ kept_last false (filter (λ other. not (str_eq_ignore_ascii_case name other)) names) x (λ other. not (str_eq_ignore_ascii_case name other)) (ap not e))
 
 -- one more name is left out where it is among those before it
-pub distinct-push : (names : List (List ℕ)) (x : List ℕ) → distinct (names ++ x ∷ []) ≡ cond (is_among x names) (distinct names) (distinct names ++ x ∷ [])
+pub distinct-push : (names : List (List ℕ)) (x : List ℕ) → distinct (names ++ x ∷ []) ≡ cond (is_named_among x names) (distinct names) (distinct names ++ x ∷ [])
 distinct-push [] x = refl
 distinct-push (name ∷ names) x =
     ap (λ rest. name ∷ filter (λ other. not (str_eq_ignore_ascii_case name other)) rest) (distinct-push names x)
-    ∙ with_last (str_eq_ignore_ascii_case name x) (is_among x names) name x (distinct names) refl
+    ∙ with_last (str_eq_ignore_ascii_case name x) (is_named_among x names) name x (distinct names) refl
 
 -- ---- the first that passes a test which does not see case
 
@@ -78,14 +78,14 @@ negated true true h = cc
 negated false false h = cc
 
 -- that is new
-pub distinct-new : (names list more : List (List ℕ)) (x : List ℕ) → list ≡ distinct names → true ≡ not (is_among x names) → more ≡ list ++ x ∷ [] → more ≡ distinct (names ++ x ∷ [])
+pub distinct-new : (names list more : List (List ℕ)) (x : List ℕ) → list ≡ distinct names → true ≡ not (is_named_among x names) → more ≡ list ++ x ∷ [] → more ≡ distinct (names ++ x ∷ [])
 distinct-new names list more x h e m =
-    m ∙ ap (λ l. l ++ x ∷ []) h ∙ sym (ap (λ b. cond b (distinct names) (distinct names ++ x ∷ [])) (negated true (is_among x names) e)) ∙ sym (distinct-push names x)
+    m ∙ ap (λ l. l ++ x ∷ []) h ∙ sym (ap (λ b. cond b (distinct names) (distinct names ++ x ∷ [])) (negated true (is_named_among x names) e)) ∙ sym (distinct-push names x)
 
 -- or that was met
-pub distinct-met : (names list more : List (List ℕ)) (x : List ℕ) → list ≡ distinct names → false ≡ not (is_among x names) → more ≡ list → more ≡ distinct (names ++ x ∷ [])
+pub distinct-met : (names list more : List (List ℕ)) (x : List ℕ) → list ≡ distinct names → false ≡ not (is_named_among x names) → more ≡ list → more ≡ distinct (names ++ x ∷ [])
 distinct-met names list more x h e m =
-    m ∙ h ∙ sym (ap (λ b. cond b (distinct names) (distinct names ++ x ∷ [])) (negated false (is_among x names) e)) ∙ sym (distinct-push names x)
+    m ∙ h ∙ sym (ap (λ b. cond b (distinct names) (distinct names ++ x ∷ [])) (negated false (is_named_among x names) e)) ∙ sym (distinct-push names x)
 
 -- the names up to one, and that one
 pub take-next : {A : Type 0} (xs : List A) (i : ℕ) (x : A) → i < length xs → x ≡ get_or xs i x → take (i + 1) xs ≡ take i xs ++ x ∷ []

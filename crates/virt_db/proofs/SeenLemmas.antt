@@ -7,11 +7,11 @@ use Rattle.std.specs.List.{list_any}
 use Rattle.std.specs.Str.{bytes_eq, str_to_ascii_lowercase}
 use Rattle.std.proofs.lemmas.Map.Text.{is_eq-slice_cmp}
 use Rattle.std.proofs.lemmas.List.Folds.{list_any-append}
-use Rattle.virt_db.specs.Names.{is_among, HasNames}
+use Rattle.virt_db.specs.Names.{is_named_among, HasNames}
 
 -- a name is new where the set has no such key
-pub is_among-key : (set : BTreeSet (Vec ℕ Global)) (key : Vec ℕ Global) (name : List ℕ) (names : List (List ℕ)) → key.items ≡ str_to_ascii_lowercase name → HasNames set names → contains (λ a b. slice_cmp nat_cmp a.items b.items) set key ≡ is_among name names
-is_among-key set key name names e h =
+pub is_named_among-key : (set : BTreeSet (Vec ℕ Global)) (key : Vec ℕ Global) (name : List ℕ) (names : List (List ℕ)) → key.items ≡ str_to_ascii_lowercase name → HasNames set names → contains (λ a b. slice_cmp nat_cmp a.items b.items) set key ≡ is_named_among name names
+is_named_among-key set key name names e h =
     h key ∙ ap (λ lower. list_any (λ other. bytes_eq (str_to_ascii_lowercase other) lower) names) e
 
 or_last : (a b : Bool) → cond a true b ≡ (b || (a || false))

@@ -13,8 +13,8 @@ use Rattle.virt_db.specs.declared.fault.DbFault.{DbFault}
 use Rattle.virt_db.specs.declared.fault.DbFault.TheVariants.{Unknown}
 
 -- some of the names is this one, in any case of ASCII letters
-abbrev pub is_among : List ℕ → List (List ℕ) → Bool
-is_among name names = list_any (λ other. str_eq_ignore_ascii_case other name) names
+abbrev pub is_named_among : List ℕ → List (List ℕ) → Bool
+is_named_among name names = list_any (λ other. str_eq_ignore_ascii_case other name) names
 
 -- a set has these names in lower case, and nothing else
 abbrev pub HasNames : BTreeSet (Vec ℕ Global) → List (List ℕ) → Type 0

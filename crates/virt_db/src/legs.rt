@@ -5,7 +5,7 @@ ghost use Rattle.std.specs.Option.{option_copied};
 ghost use Rattle.route_config.specs.Lookup.{database_named};
 ghost use Rattle.virt_db.specs.Fault.{IsOrMemory};
 ghost use Rattle.virt_db.specs.Legs.{AreLegsOf, distinct, few_legs, first_unknown};
-ghost use Rattle.virt_db.specs.Names.{is_among, HasNames, legs_among, known_among};
+ghost use Rattle.virt_db.specs.Names.{is_named_among, HasNames, legs_among, known_among};
 
 use crate::DbFault;
 use route_config::{Route, database_named};
@@ -49,7 +49,7 @@ fn distinct_names(alloc: Global, names: &[Text]) -> Result<List<Text>, Memory>
 /// Puts a name into the set of those that were seen, and says whether it is new there.
 fn see(alloc: Global, seen: &mut BTreeSet<Vec<u8>>, name: &Text) -> Result<bool, Memory>
     ensures new { (names : List (List ℕ)) → HasNames seen.old names
-        → IfOk result (λ new. new ≡ not (is_among name.now names)) }
+        → IfOk result (λ new. new ≡ not (is_named_among name.now names)) }
     ensures seen { (names : List (List ℕ)) → HasNames seen.old names
         → OnOk result (HasNames seen.new (names ++ name.now ∷ [])) }
 {

@@ -33,3 +33,4 @@ pub mod ValueLaws
 pub mod WalkLemmas
 pub mod WholeReading
 pub mod WrittenLaws
+pub mod WrittenTrees

@@ -38,7 +38,7 @@ length_octets-is c n lt =
     ]
 
 -- an element that is written is a header and its contents
-element-definite : (t : Tag) (c : List ℕ) → IsTag t → length c < 2 ^ 64 → IsDefinite (element t c) t c
+pub element-definite : (t : Tag) (c : List ℕ) → IsTag t → length c < 2 ^ 64 → IsDefinite (element t c) t c
 unfolding element
 element-definite t c valid lt = record {
   head = tag_octets t ++ length_octets (length c);

@@ -1,9 +1,10 @@
 -- What is true of all that is written, of frames and of trees; the functions in src/laws.rt cite it (X.690:2021, 8.1 to 8.19).
-use Rattle.std.specs.Prelude.{◌≡◌, ℕ, ◌^◌, ◌<◌, List, ◌++◌, length, Option, Some, Result, Ok}
+use Rattle.std.specs.Prelude.{◌≡◌, ℕ, suc, ◌^◌, ◌<◌, List, ◌++◌, length, true, false, Option, Some, Result, Ok}
+use Rattle.std.specs.List.{flat_map, AllByRecursion}
 use Rattle.z_types.specs.ReadAs.{IsReadAs}
 use Rattle.z_ber.specs.declared.fault.BerFault.{BerFault}
 use Rattle.z_ber.specs.declared.tag.Tag.{Tag}
-use Rattle.z_ber.specs.Element.{Forest, IsElement}
+use Rattle.z_ber.specs.Element.{Forest, none, leaf, branch, AreElements, IsElement}
 use Rattle.z_ber.specs.Frames.{IsDefiniteFrame, IsExtent, Splits}
 use Rattle.z_ber.specs.Lent.{Lent, IsFirst, IsNext}
 use Rattle.z_ber.specs.LentTree.{IsRoot}
@@ -50,6 +51,32 @@ WrittenElementsAreFrames =
     (levels : ℕ) (tag : Tag) (contents : List ℕ) →
     0 < levels → IsTag tag → length contents < 2 ^ 64 →
     IsExtent levels (element tag contents) tag contents
+
+-- a primitive element that is written is an element without elements in it, on any level
+abbrev pub WrittenLeavesAreElements : Type 0
+WrittenLeavesAreElements =
+    (levels : ℕ) (tag : Tag) (contents : List ℕ) →
+    IsTag tag → tag.constructed ≡ false → length contents < 2 ^ 64 →
+    IsElement (suc levels) (element tag contents) (leaf tag contents none)
+
+-- a constructed element that is written round elements is an element with just these in it, one level more
+abbrev pub WrittenBranchesAreElements : Type 0
+WrittenBranchesAreElements =
+    (levels : ℕ) (tag : Tag) (contents : List ℕ) (inner : Forest) →
+    IsTag tag → tag.constructed ≡ true → length contents < 2 ^ 64 → AreElements false levels contents inner →
+    IsElement (suc levels) (element tag contents) (branch tag contents inner none)
+
+-- octets are one element, whatever stands in it
+abbrev pub IsSomeElement : ℕ → List ℕ → Type 0
+IsSomeElement levels octets = (tree : Forest) × IsElement levels octets tree
+
+-- a constructed element that is written round a list of elements, one after another, is an element, one level more
+abbrev pub WrittenListsAreElements : Type 0
+WrittenListsAreElements =
+    (levels : ℕ) (tag : Tag) (elements : List (List ℕ)) →
+    IsTag tag → tag.constructed ≡ true → length (flat_map (λ octets. octets) elements) < 2 ^ 64 →
+    AllByRecursion (IsSomeElement levels) elements →
+    IsSomeElement (suc levels) (element tag (flat_map (λ octets. octets) elements))
 
 -- what is written is lent again: its tag and its contents octets, whatever follows it
 abbrev pub WrittenElementsAreLent : Type 0

@@ -5,7 +5,7 @@ ghost use Rattle.z_types.specs.OneValue.{HasOneValue};
 ghost use Rattle.z_types.specs.ReadAs.{IsAny};
 ghost use Rattle.z_ber.specs.Due.{StandsOn};
 ghost use Rattle.z_ber.specs.Frames.{IsFrame, HasOneSplit};
-ghost use Rattle.z_ber.specs.Laws.{ElementsHaveOneTree, ElementsHaveTheirRoot, FramesHaveOneExtent, IsReadBack, StreamsHaveOneSplit, WrittenChildrenAreLent, WrittenElementsAreApart, WrittenElementsAreFrames, WrittenElementsAreLent};
+ghost use Rattle.z_ber.specs.Laws.{ElementsHaveOneTree, ElementsHaveTheirRoot, FramesHaveOneExtent, IsReadBack, StreamsHaveOneSplit, WrittenBranchesAreElements, WrittenChildrenAreLent, WrittenElementsAreApart, WrittenElementsAreFrames, WrittenElementsAreLent, WrittenLeavesAreElements, WrittenListsAreElements};
 ghost use Rattle.z_ber.specs.Place.{ElementsHaveNoPlace, ElementsHaveOnePlace, UnitHasNoPlace, UnitHasOnePlace};
 ghost use Rattle.z_ber.specs.Values.{IsBits, IsInteger, IsOid};
 ghost use Rattle.z_ber.specs.Written.{bool_octets, int_octets, bits_octets, oid_octets};
@@ -57,6 +57,14 @@ pub fn one_root()
 /// An element that is written is a frame with its tag and its contents octets, on any level.
 pub fn written_extent()
     ensures { WrittenElementsAreFrames }
+{}
+
+/// What is written is an element: a primitive one; a constructed one round elements, with just these in
+/// it; and so one round a list of elements, as `put_tree` writes it, where a level is left for it.
+pub fn written_elements()
+    ensures primitive { WrittenLeavesAreElements }
+    ensures constructed { WrittenBranchesAreElements }
+    ensures list { WrittenListsAreElements }
 {}
 
 /// What is written is lent again, as the first element and as a child, whatever follows it.

@@ -25,7 +25,7 @@ pub use fault::BerFault;
 pub use frame::{definite_frame, too_large};
 pub use laws::{
     lends_written, one_element, one_extent, one_place, one_root, one_split, one_split_of_frames,
-    one_tree, one_unit_place, one_value, reads_back, stands_on, written_extent,
+    one_tree, one_unit_place, one_value, reads_back, stands_on, written_elements, written_extent,
 };
 pub use oid::oid_of;
 pub use place::elements;

@@ -1,3 +1,2 @@
 pub mod Table
-pub mod Gone
 pub mod SruDiagnostics

@@ -1,10 +1,9 @@
 //! Conditions of bib-1 as diagnostics of SRU.
 
-ghost use Rattle.std.specs.Prelude.{◌≡◌, ◌≢◌, nat_eq};
-ghost use Rattle.z_types.specs.Bib1.{bib1_diagnostics, condition_number};
-ghost use Rattle.z_bib1.specs.SruDiagnostics.{sru_of, sru_text};
+ghost use Rattle.std.specs.Prelude.{◌≡◌, nat_eq};
+ghost use Rattle.z_types.specs.Bib1.{condition_number};
+ghost use Rattle.z_bib1.specs.SruDiagnostics.{sru_of, sru_of_diag, sru_text};
 
-use crate::sets::is_of_bib1;
 use z_types::{Condition, Diag};
 
 /// The diagnostic of SRU that a condition of bib-1 is told as, a general system error where it has
@@ -44,10 +43,9 @@ fn is(condition: u32, known: Condition) -> bool
 /// The diagnostic of SRU that a diagnostic is told as: by its condition where it is of bib-1, and a
 /// general system error, 1, where it is of another set.
 pub fn sru_of_diag(diag: &Diag) -> u32
-    ensures of_bib1 { diag.now.set ≡ bib1_diagnostics → result ≡ sru_of diag.now.condition }
-    ensures of_another { diag.now.set ≢ bib1_diagnostics → result ≡ 1 }
+    ensures { result ≡ sru_of_diag diag.now }
 {
-    if is_of_bib1(diag) {
+    if diag.is_of_bib1() {
         sru_of(diag.condition)
     } else {
         1

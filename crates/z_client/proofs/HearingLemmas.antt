@@ -72,16 +72,16 @@ is_at_most a b h = grind (arith, leb_tells)
 
 opening_ends : (heard : Heard) (reply : Reply) → opening_heard reply ≡ Some heard → EndsWait opening heard
 opening_ends heard reply e =
-    heard_where (λ h. EndsWait opening h) (accepts reply) Opened heard (λ t. record { fits = tt; rests = refl; come = refl }) e
+    heard_where (λ h. EndsWait opening h) (accepts reply) Opened heard (λ t. record { fits = tt; rests = refl }) e
 
 module _ (name : List ℕ) (key : SetKey) where
   search_ends : (said : Option (Result ℕ Diag)) (heard : Heard) → option_and_then search_heard said ≡ Some heard → EndsWait (asked (Search name key)) heard
   search_ends None heard e = absurd cc
   search_ends (Some (Ok hits)) heard e =
       heard_where (λ h. EndsWait (asked (Search name key)) h) (nat_le hits most_number) (Hits hits) heard
-      (λ t. record { fits = is_at_most hits most_number t; rests = refl; come = refl }) e
+      (λ t. record { fits = is_at_most hits most_number t; rests = refl }) e
   search_ends (Some (Err diag)) heard e =
-      heard_is (λ h. EndsWait (asked (Search name key)) h) (Refused diag) heard (record { fits = tt; rests = refl; come = refl }) e
+      heard_is (λ h. EndsWait (asked (Search name key)) h) (Refused diag) heard (record { fits = tt; rests = refl }) e
 
 module _ (name : List ℕ) (first count : ℕ) (syntax element : Option (List ℕ)) where
   abbrev presenting : Pending
@@ -94,19 +94,18 @@ module _ (name : List ℕ) (first count : ℕ) (syntax element : Option (List �
       (λ t. record {
         fits = (is_at_most 1 (length items) (both_true _ _ t).0, is_at_most (length items) count (both_true _ _ t).1);
         rests = refl;
-        come = refl;
       }) e
   present_ends (Some (Err diag)) heard e =
       heard_of_two (λ h. EndsWait presenting h) (is_gone diag) Gone (Refused diag) heard
-      (record { fits = tt; rests = refl; come = refl }) (record { fits = tt; rests = refl; come = refl }) e
+      (record { fits = tt; rests = refl }) (record { fits = tt; rests = refl }) e
 
 scan_ends : (dbs : List (List ℕ)) (ask : ScanAsk) (said : Option (Result ScanAnswer Diag)) (heard : Heard) → option_map scan_heard said ≡ Some heard
     → EndsWait (asked (Scan dbs ask)) heard
 scan_ends dbs ask None heard e = absurd cc
 scan_ends dbs ask (Some (Ok answer)) heard e =
-    heard_is (λ h. EndsWait (asked (Scan dbs ask)) h) (Scanned answer) heard (record { fits = tt; rests = refl; come = refl }) e
+    heard_is (λ h. EndsWait (asked (Scan dbs ask)) h) (Scanned answer) heard (record { fits = tt; rests = refl }) e
 scan_ends dbs ask (Some (Err diag)) heard e =
-    heard_is (λ h. EndsWait (asked (Scan dbs ask)) h) (Refused diag) heard (record { fits = tt; rests = refl; come = refl }) e
+    heard_is (λ h. EndsWait (asked (Scan dbs ask)) h) (Refused diag) heard (record { fits = tt; rests = refl }) e
 
 -- what is heard of a reply is an answer after which a session rests
 pub heard_ends : (p : Pending) (reply : Reply) (heard : Heard) → heard_of p reply ≡ Some heard → EndsWait p heard

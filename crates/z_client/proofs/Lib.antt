@@ -9,3 +9,7 @@ pub mod SendLemmas
 pub mod SizeLemmas
 pub mod QuerySizes
 pub mod UnitLemmas
+pub mod CountLemmas
+pub mod HappenedLemmas
+pub mod GoneLemmas
+pub mod OpenLemmas

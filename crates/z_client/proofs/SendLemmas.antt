@@ -1,5 +1,5 @@
 -- A true peer that takes what is sent to it (this project's own)
-use Rattle.std.proofs.Common.{true, false, ◌≡◌, ◌∙◌, ℕ, List, [], ◌∷◌, ◌++◌, Option, None, Some, sym, ap, subst}
+use Rattle.std.proofs.Common.{true, false, Bool, cond, ◌≡◌, ◌∙◌, ℕ, List, [], Option, None, Some, refl, sym, ap, subst}
 use Rattle.z_types.specs.Pending.{Pending, IsPending, resting, opening, asked, broken}
 use Rattle.z_types.specs.declared.address.Address.{Address}
 use Rattle.z_types.specs.declared.ask.Ask.{Ask}
@@ -9,10 +9,14 @@ use Rattle.z_types.specs.Tree.{Tree, leaf, operand, and, or, and_not}
 use Rattle.gw_outside.specs.Asks.{MayAsk, HasNoSet}
 use Rattle.gw_outside.specs.Peers.{Peer, new_peer, TakesRequest, IsShortRequest, HasShortOperands}
 use Rattle.gw_outside.specs.Sessions.{Made}
+use Rattle.gw_outside.specs.Happened.{Happened, at_address, sets_found}
+use Rattle.gw_outside.specs.Replies.{accepts}
 use Rattle.gw_outside.specs.Wires.{IsNewPeer, IsRequestUnit, PeerTakes}
+use Rattle.gw_outside.specs.declared.backends.Heard.TheVariants.{Opened}
+use Rattle.z_types.specs.declared.replies.Reply.{Reply}
 use Rattle.z_client.specs.Sets.{made_in}
-use Rattle.z_client.specs.TrueSession.{IsTruePeer, IsToldTrue}
-use Rattle.z_client.specs.Units.{init_request, request_of, IsAskUnit}
+use Rattle.z_client.specs.TrueSession.{IsTruePeer, IsToldTrue, IsTrueReply}
+use Rattle.z_client.specs.Units.{init_request, request_of, IsAskUnit, Takes, TookInit}
 use Rattle.z_client.proofs.TrueAsks.{asks_true}
 
 -- a session that waits for a reply is not broken
@@ -26,30 +30,50 @@ waits_unbroken broken is e = is
 pub rests_unbroken : (p : Pending) → p ≡ resting → p ≡ broken → ⊥
 rests_unbroken p is e = let no_way : resting ≡ broken = sym is ∙ e in cc
 
+-- an Init with named result sets that is accepted opens a session
+accepted_opens : {W : Type 0} (w : world.Ghosts W) (address : Address) (made : Made) (answer : Reply) → accepts answer ≡ true → IsTrueReply w address made opening answer
+accepted_opens w address made answer e = record { answer = Opened; heard = ap (λ b. cond b (Some Opened) None) e; worlds = tt }
+
 module _ {W : Type 0} (w : world.Ghosts W) (address : Address) where
   -- a new peer that takes an Init owes a true reply to it
-  new_takes : (old new : Peer) → old ≡ new_peer address → TakesRequest w init_request old new → IsTruePeer w address (made_in []) opening new
-  new_takes old new fresh takes = record {
-    same_address = takes.address ∙ ap (λ (peer : Peer). peer.address) fresh;
+  new_takes : (new : Peer) (steady : Bool) → TakesRequest w steady [] init_request (new_peer address) new → IsTruePeer w address (made_in []) opening new
+  new_takes new steady takes = record {
+    same_address = takes.address;
     sets = record {
       hits = λ name key hits m. absurd cc;
       holds = λ name key hits apart m. absurd cc;
       searched = tt;
     };
-    owed = (takes.answer, takes.owed ∙ ap (λ (peer : Peer). peer.owed ++ takes.answer ∷ []) fresh, λ heard e. tt);
+    owed = (takes.answer, takes.owed, accepted_opens w address (made_in []) takes.answer (takes.step.1 refl));
   }
 
-  pub told_opens : (unit : List ℕ) (old new : Option Peer) → w.told address → IsNewPeer (w.told address) address old → PeerTakes w unit old new
-      → IsRequestUnit unit init_request → IsToldTrue w address (made_in []) opening new
-  told_opens unit None new told fresh takes is = let no_way : false ≡ true = fresh.where_told told in absurd cc
-  told_opens unit (Some old) None told fresh takes is = absurd takes
-  told_opens unit (Some old) (Some new) told fresh takes is = new_takes old new fresh.new (takes init_request is tt)
+  -- the peer of a new link takes the Init
+  pub took_init : (h : Happened) (unit : List ℕ) (old new : Option Peer) → IsNewPeer (w.told address) address old → PeerTakes w unit h old new
+      → IsRequestUnit unit init_request → TookInit w h address new
+  took_init h unit None new fresh takes is = subst (λ at. TookInit w h address at) (sym takes) tt
+  took_init h unit (Some old) None fresh takes is = absurd takes
+  took_init h unit (Some old) (Some new) fresh takes is =
+      subst (λ at. TakesRequest w h.steady at.sets init_request at new) fresh.new (takes init_request is tt)
 
-  pub told_asks : (made : Made) (ask : Ask) (unit : List ℕ) (old new : Option Peer) → IsToldTrue w address made resting old → MayAsk made ask
-      → PeerTakes w unit old new → IsRequestUnit unit (request_of ask) → IsShortRequest (request_of ask) → IsToldTrue w address made (asked ask) new
-  told_asks made ask unit None new t may takes is short = absurd t
-  told_asks made ask unit (Some old) None t may takes is short = absurd takes
-  told_asks made ask unit (Some old) (Some new) t may takes is short = asks_true w address made ask old new t may (takes (request_of ask) is short)
+  pub told_opens : (h : Happened) (unit : List ℕ) (old new : Option Peer) → w.told address → IsNewPeer (w.told address) address old → PeerTakes w unit h old new
+      → IsRequestUnit unit init_request → IsToldTrue w address (made_in []) opening new
+  told_opens h unit None new told fresh takes is = let no_way : false ≡ true = fresh.where_told told in absurd cc
+  told_opens h unit (Some old) None told fresh takes is = absurd takes
+  told_opens h unit (Some old) (Some new) told fresh takes is = new_takes new h.steady (took_init h unit (Some old) (Some new) fresh takes is)
+
+  -- the peer of a session that rests takes what it is asked
+  pub takes_ask : (h : Happened) (ask : Ask) (unit : List ℕ) (old new : Option Peer) → PeerTakes w unit h old new → IsRequestUnit unit (request_of ask)
+      → IsShortRequest (request_of ask) → Takes w h (request_of ask) old new
+  takes_ask h ask unit None new takes is short = takes
+  takes_ask h ask unit (Some old) None takes is short = takes
+  takes_ask h ask unit (Some old) (Some new) takes is short = takes (request_of ask) is short
+
+  pub told_asks : (h : Happened) (made : Made) (ask : Ask) (unit : List ℕ) (old new : Option Peer) → IsToldTrue w address made resting old → MayAsk made ask
+      → PeerTakes w unit h old new → IsRequestUnit unit (request_of ask) → IsShortRequest (request_of ask) → IsToldTrue w address made (asked ask) new
+  told_asks h made ask unit None new t may takes is short = absurd t
+  told_asks h made ask unit (Some old) None t may takes is short = absurd takes
+  told_asks h made ask unit (Some old) (Some new) t may takes is short =
+      asks_true w address made ask old new t may h.steady (sets_found (at_address h old.address) (request_of ask) old.sets) (takes (request_of ask) is short)
 
 -- a query without sets has no names of sets that are long
 no_long_operand : (tree : Tree) → HasNoSet tree → HasShortOperands tree

@@ -1,5 +1,5 @@
 -- A true peer that takes an ask is one that owes its reply (this project's own)
-use Rattle.std.proofs.Common.{◌≡◌, ◌∙◌, ◌⊎◌, inl, inr, ℕ, ◌+◌, ◌≤◌, pos, cond, List, [], ◌∷◌, ◌++◌, Option, None, Some, Ok, option_and_then, refl, sym, ap, subst}
+use Rattle.std.proofs.Common.{◌≡◌, ◌∙◌, ◌⊎◌, inl, inr, ℕ, Bool, ◌+◌, ◌≤◌, pos, cond, List, [], ◌∷◌, ◌++◌, Option, None, Some, Ok, option_and_then, refl, sym, ap, subst}
 use Rattle.z_types.specs.Pending.{resting, asked}
 use Rattle.z_types.specs.declared.address.Address.{Address}
 use Rattle.z_types.specs.declared.ask.Ask.{Ask}
@@ -10,14 +10,13 @@ use Rattle.z_types.specs.declared.requests.Asked.TheVariants.{Good}
 use Rattle.z_types.specs.declared.requests.Present.{Present as PresentRequest}
 use Rattle.z_types.specs.declared.world.World as world
 use Rattle.gw_outside.specs.Asks.{MayAsk, MayPresent, MaySearch}
-use Rattle.gw_outside.specs.declared.backends.Heard.{Heard}
 use Rattle.gw_outside.specs.Peers.{NamedSet, Peer, TakesRequest, AreLeft, StayHeld, PresentAnswered, IsPeerStep, held, set_of}
 use Rattle.gw_outside.specs.Replies.{present_said}
 use Rattle.gw_outside.specs.Sessions.{Made, RecordsOf}
 use Rattle.z_client.specs.Heard.{records_heard}
 use Rattle.z_client.specs.Units.{request_of}
 use Rattle.z_client.specs.TrueSession.{HoldsOrNothing, AreTrueSets, IsTrueReply, IsTruePeer}
-use Rattle.z_client.proofs.TrueReplies.{no_operand, search_reply_true, scan_reply_true, presented_true, not_held_true}
+use Rattle.z_client.proofs.TrueReplies.{no_operand, Hears, search_reply_true, scan_reply_true, presented_true, not_held_true}
 
 -- what is left of sets, or stays, is the set or nothing
 holds_left : (before after : List NamedSet) (name : List ℕ) (key : SetKey) → HoldsOrNothing before name key
@@ -47,7 +46,7 @@ module _ {W : Type 0} (w : world.Ghosts W) (address : Address) (made : Made) whe
   searched : (name : List ℕ) (key : SetKey) (left sets : List NamedSet) (answer : Reply) → AreRight → HoldAll left → MaySearch name key
       → IsPeerStep w address (request_of (Search name key)) left sets answer → StepsTrue (Search name key) left sets answer
   searched name key left sets answer right h may step =
-      let s = step.1 (no_operand key.query.root may.no_set) in (
+      let s = step.1 refl (no_operand key.query.root may.no_set) in (
         record {
           hits = right;
           holds = λ other set hits apart m. holds_left left sets other set (h other set hits m) (inl (step.0 other apart));
@@ -59,10 +58,13 @@ module _ {W : Type 0} (w : world.Ghosts W) (address : Address) (made : Made) whe
   -- what is answered to a Present of a set that was made
   presented : (name : List ℕ) (first count : ℕ) (syntax element : Option (List ℕ)) (answer : Reply) (key : SetKey) (hits : ℕ)
       → made name ≡ Some (key, hits)
-      → ((heard : Heard) → option_and_then (records_heard count) (present_said answer) ≡ Some heard → RecordsOf w address (Some (key, hits)) syntax element first heard)
+      → Hears w address made (λ heard. RecordsOf w address (Some (key, hits)) syntax element first heard) (option_and_then (records_heard count) (present_said answer))
       → IsTrueReply w address made (asked (Present name first count syntax element)) answer
-  presented name first count syntax element answer key hits m h heard e =
-      subst (λ set. RecordsOf w address set syntax element first heard) (sym m) (h heard e)
+  presented name first count syntax element answer key hits m h = record {
+    answer = h.0;
+    heard = h.1;
+    worlds = subst (λ set. RecordsOf w address set syntax element first h.0) (sym m) h.2;
+  }
 
   module _ (name : List ℕ) (first count : ℕ) (syntax element : Option (List ℕ)) where
     abbrev asks : Ask
@@ -115,9 +117,10 @@ module _ {W : Type 0} (w : world.Ghosts W) (address : Address) (made : Made) whe
   )
 
   -- a peer that rests and takes an ask owes a true reply to it
-  pub asks_true : (ask : Ask) (old new : Peer) → IsTruePeer w address made resting old → MayAsk made ask → TakesRequest w (request_of ask) old new
+  pub asks_true : (ask : Ask) (old new : Peer) → IsTruePeer w address made resting old → MayAsk made ask → (steady : Bool) (found : List NamedSet)
+      → TakesRequest w steady found (request_of ask) old new
       → IsTruePeer w address made (asked ask) new
-  asks_true ask old new t may takes =
+  asks_true ask old new t may steady found takes =
       let h : HoldAll old.sets = λ name key hits m. t.sets.holds name key hits refl m in
       let step = subst (λ at. IsPeerStep w at (request_of ask) takes.left new.sets takes.answer) t.same_address takes.step in
       let s = steps_true ask takes.left new.sets takes.answer t.sets.hits (hold_left old.sets takes.left h takes.are_left) may step in

@@ -11,11 +11,13 @@ use Rattle.z_types.specs.declared.replies.Reply.{Reply}
 use Rattle.z_types.specs.declared.world.World as world
 use Rattle.gw_outside.specs.declared.backends.Heard.{Heard}
 use Rattle.gw_outside.specs.declared.backends.Heard.TheVariants.{Opened, Hits, Refused, Items, Gone, Scanned, NotYet, Failed, Memory}
-use Rattle.gw_outside.specs.Peers.{NamedSet, Peer, is_named, set_of}
+use Rattle.z_types.specs.Same.{is_same}
+use Rattle.gw_outside.specs.Peers.{NamedSet, Peer, set_of}
 use Rattle.gw_outside.specs.Sessions.{Made, Fits, IsWorlds, made_after, pending_after}
 use Rattle.gw_outside.specs.Wires.{HandsOver, IsReplyUnit}
 use Rattle.z_read.specs.Read.{IsReplyRead}
 use Rattle.z_client.specs.Heard.{heard_of}
+use Rattle.z_client.proofs.TrueReplies.{heard_is}
 use Rattle.z_client.specs.TrueSession.{HoldsOrNothing, AreTrueSets, IsTrueReply, Owes, IsTruePeer, HasCome}
 
 same_key : (key own : SetKey) (hits found : ℕ) → ◌≡◌ {A = Option (SetKey × ℕ)} (Some (own, found)) (Some (key, hits)) → own ≡ key
@@ -49,20 +51,20 @@ module _ {W : Type 0} (w : world.Ghosts W) (address : Address) (made after : Mad
   -- a set that stands under the name of a search is right
   abbrev IsRight : List ℕ → Option (SetKey × ℕ) → Type 0
   IsRight own found = (key : SetKey) (hits : ℕ) → found ≡ Some (key, hits)
-      → (w.search address key ≡ Ok hits) × ((name : List ℕ) → is_named own name ≡ true → HoldsOrNothing sets name key)
+      → (w.search address key ≡ Ok hits) × ((name : List ℕ) → is_same own name ≡ true → HoldsOrNothing sets name key)
 
   module _ (own : List ℕ) (key : SetKey) (t : AreTrueSets w address made (asked (Search own key)) sets) where
-    right_at : (found : Option (SetKey × ℕ)) → IsRight own found → (b : Bool) (name : List ℕ) → is_named own name ≡ b
+    right_at : (found : Option (SetKey × ℕ)) → IsRight own found → (b : Bool) (name : List ℕ) → is_same own name ≡ b
         → (k : SetKey) (n : ℕ) → cond b found (made name) ≡ Some (k, n) → (w.search address k ≡ Ok n) × HoldsOrNothing sets name k
     right_at found right true name e k n m = let r = right k n m in (r.0, r.1 name e)
     right_at found right false name e k n m = (t.hits name k n m, t.holds name k n e m)
 
     -- what was found takes the place of what its name had
-    takes_place : (found : Option (SetKey × ℕ)) → IsRight own found → ((name : List ℕ) → after name ≡ cond (is_named own name) found (made name))
+    takes_place : (found : Option (SetKey × ℕ)) → IsRight own found → ((name : List ℕ) → after name ≡ cond (is_same own name) found (made name))
         → AreTrueSets w address after resting sets
     takes_place found right same = record {
-      hits = λ name k n m. (right_at found right (is_named own name) name refl k n (sym (same name) ∙ m)).0;
-      holds = λ name k n apart m. (right_at found right (is_named own name) name refl k n (sym (same name) ∙ m)).1;
+      hits = λ name k n m. (right_at found right (is_same own name) name refl k n (sym (same name) ∙ m)).0;
+      holds = λ name k n apart m. (right_at found right (is_same own name) name refl k n (sym (same name) ∙ m)).1;
       searched = tt;
     }
 
@@ -133,7 +135,15 @@ module _ {W : Type 0} (w : world.Ghosts W) (address : Address) (made : Made) whe
   pub come_worlds : (p : Pending) (peer : Peer) (octets : List ℕ) (reply : Reply) (heard : Heard) → HasCome w address made p peer octets
       → IsReplyRead octets (Ok reply) → heard_of p reply ≡ Some heard → IsWorlds w address made p heard
   come_worlds p peer octets reply heard h read e =
-      h.right heard (ap (λ said. heard_of p said) (reply_one octets h.reply reply h.unit read) ∙ e)
+      let same = sym h.right.heard ∙ ap (λ said. heard_of p said) (reply_one octets h.reply reply h.unit read) ∙ e in
+      heard_is (λ a. IsWorlds w address made p a) h.right.answer heard h.right.worlds same
+
+  -- and something is
+  pub come_heard : {P : Type 0} (p : Pending) (peer : Peer) (octets : List ℕ) → HasCome w address made p peer octets
+      → ((reply : Reply) → IsReplyUnit octets reply → heard_of p reply ≡ None) → P
+  come_heard p peer octets h none =
+      let no_way : None ≡ Some h.right.answer = sym (none h.reply h.unit) ∙ h.right.heard in
+      absurd cc
 
   -- and then the session rests
   pub come_rests : (p : Pending) (peer : Peer) (octets : List ℕ) (heard : Heard) (after : Made) → IsPending p → HasCome w address made p peer octets

@@ -1,5 +1,6 @@
 -- What is heard of a true peer's reply is the world's (this project's own)
-use Rattle.std.proofs.Common.{◌≡◌, ◌∙◌, ℕ, Bool, true, false, cond, ◌&&◌, List, length, Option, None, Some, Result, Ok, Err, option_map, option_and_then, nat_le, refl, sym, ap, subst}
+use Rattle.std.proofs.Common.{arith, ◌≡◌, ◌∙◌, ℕ, ◌≤◌, Bool, true, false, cond, ◌&&◌, List, length, Option, None, Some, Result, Ok, Err, IfOk, option_map, option_and_then, nat_le, refl, ap, subst}
+use Rattle.std.proofs.lemmas.Bool.Decides.{leb_tells}
 use Rattle.z_types.specs.Bib1.{is_gone}
 use Rattle.z_types.specs.Bounds.{most_number}
 use Rattle.z_types.specs.Tree.{Tree, leaf, operand, and, or, and_not}
@@ -15,11 +16,12 @@ use Rattle.z_types.specs.declared.scan.ScanAsk.{ScanAsk}
 use Rattle.z_types.specs.declared.world.World as world
 use Rattle.gw_outside.specs.Asks.{HasNoSet}
 use Rattle.gw_outside.specs.declared.backends.Heard.{Heard}
-use Rattle.gw_outside.specs.declared.backends.Heard.TheVariants.{Hits, Refused, Items, Gone, Scanned}
+use Rattle.gw_outside.specs.declared.backends.Heard.TheVariants.{Hits, Refused, Items, Gone}
 use Rattle.gw_outside.specs.Peers.{HasNoOperand, IsPresented, IsNotHeld}
 use Rattle.gw_outside.specs.Replies.{search_said, scan_said}
 use Rattle.gw_outside.specs.Sessions.{Made, IsWorlds, RecordsOf}
-use Rattle.z_client.specs.Heard.{search_heard, records_heard, scan_heard}
+use Rattle.z_client.specs.Heard.{search_heard, records_heard, scan_heard, gone_or_refused}
+use Rattle.z_client.specs.TrueSession.{IsTrueReply}
 
 -- a query without sets has no operand that is one
 pub no_operand : (tree : Tree) → HasNoSet tree → HasNoOperand tree
@@ -42,48 +44,62 @@ pub heard_of_two : (P : Heard → Type 0) (b : Bool) (one two heard : Heard) →
 heard_of_two P true one two heard p q e = let same : one ≡ heard = cc in subst P same p
 heard_of_two P false one two heard p q e = let same : two ≡ heard = cc in subst P same q
 
+is_le : (a b : ℕ) → a ≤ b → nat_le a b ≡ true
+is_le a b h = grind (arith, leb_tells)
+
+both_are : {a b : Bool} → a ≡ true → b ≡ true → (a && b) ≡ true
+both_are {a} {b} e f = cc
+
 module _ {W : Type 0} (w : world.Ghosts W) (address : Address) (made : Made) where
-  search_true : (name : List ℕ) (key : SetKey) (found : Result ℕ Diag) → w.search address key ≡ found
-      → (heard : Heard) → search_heard found ≡ Some heard → IsWorlds w address made (asked (Search name key)) heard
-  search_true name key (Ok hits) e heard h =
-      heard_if (λ a. IsWorlds w address made (asked (Search name key)) a) (nat_le hits most_number) (Hits hits) heard e h
-  search_true name key (Err diag) e heard h =
-      heard_is (λ a. IsWorlds w address made (asked (Search name key)) a) (Refused diag) heard e h
+  -- something is heard, and it is true
+  abbrev pub Hears : (Heard → Type 0) → Option Heard → Type 0
+  Hears P said = (answer : Heard) × (said ≡ Some answer) × P answer
+
+  search_true : (name : List ℕ) (key : SetKey) (found : Result ℕ Diag) → w.search address key ≡ found → IfOk found (λ hits. hits ≤ most_number)
+      → Hears (λ a. IsWorlds w address made (asked (Search name key)) a) (search_heard found)
+  search_true name key (Ok hits) e few = (Hits hits, ap (λ b. cond b (Some (Hits hits)) None) (is_le hits most_number few), e)
+  search_true name key (Err diag) e few = (Refused diag, refl, e)
 
   -- of a reply to a Search
   pub search_reply_true : (name : List ℕ) (key : SetKey) (reply : Reply) → search_said reply ≡ Some (w.search address key)
-      → (heard : Heard) → option_and_then search_heard (search_said reply) ≡ Some heard → IsWorlds w address made (asked (Search name key)) heard
-  search_reply_true name key reply said heard h =
-      search_true name key (w.search address key) refl heard (sym (ap (λ s. option_and_then search_heard s) said) ∙ h)
+      → IsTrueReply w address made (asked (Search name key)) reply
+  search_reply_true name key reply said =
+      let h = search_true name key (w.search address key) refl (w.hits_are_counts address key) in
+      record { answer = h.0; heard = ap (λ s. option_and_then search_heard s) said ∙ h.1; worlds = h.2 }
 
   scan_true : (dbs : List (List ℕ)) (ask : ScanAsk) (found : Result ScanAnswer Diag) → w.scan address dbs ask ≡ found
-      → (heard : Heard) → Some (scan_heard found) ≡ Some heard → IsWorlds w address made (asked (Scan dbs ask)) heard
-  scan_true dbs ask (Ok answer) e heard h =
-      heard_is (λ a. IsWorlds w address made (asked (Scan dbs ask)) a) (Scanned answer) heard e h
-  scan_true dbs ask (Err diag) e heard h =
-      heard_is (λ a. IsWorlds w address made (asked (Scan dbs ask)) a) (Refused diag) heard e h
+      → IsWorlds w address made (asked (Scan dbs ask)) (scan_heard found)
+  scan_true dbs ask (Ok answer) e = e
+  scan_true dbs ask (Err diag) e = e
 
   -- of a reply to a Scan
   pub scan_reply_true : (dbs : List (List ℕ)) (ask : ScanAsk) (reply : Reply) → scan_said reply ≡ Some (w.scan address dbs ask)
-      → (heard : Heard) → option_map scan_heard (scan_said reply) ≡ Some heard → IsWorlds w address made (asked (Scan dbs ask)) heard
-  scan_reply_true dbs ask reply said heard h =
-      scan_true dbs ask (w.scan address dbs ask) refl heard (sym (ap (λ s. option_map scan_heard s) said) ∙ h)
+      → IsTrueReply w address made (asked (Scan dbs ask)) reply
+  scan_reply_true dbs ask reply said = record {
+    answer = scan_heard (w.scan address dbs ask);
+    heard = ap (λ s. option_map scan_heard s) said;
+    worlds = scan_true dbs ask (w.scan address dbs ask) refl;
+  }
 
   module _ (key : SetKey) (hits : ℕ) (syntax element : Option (List ℕ)) (first count : ℕ) where
     abbrev OfSet : Heard → Type 0
     OfSet heard = RecordsOf w address (Some (key, hits)) syntax element first heard
 
+    refused_true : (b : Bool) (diag : Diag) → w.record_ address key first syntax element ≡ Err diag → OfSet (cond b Gone (Refused diag))
+    refused_true true diag e = tt
+    refused_true false diag e = e
+
     pub presented_true : (said : Option (Result (List Item) Diag))
         → IsPresented (λ position. w.record_ address key position syntax element) first count said
-        → (heard : Heard) → option_and_then (records_heard count) said ≡ Some heard → OfSet heard
-    presented_true None p heard h = absurd p
-    presented_true (Some (Ok items)) p heard h =
-        heard_if OfSet (nat_le 1 (length items) && nat_le (length items) count) (Items items) heard p.2 h
-    presented_true (Some (Err diag)) p heard h =
-        heard_of_two OfSet (is_gone diag) Gone (Refused diag) heard tt p h
+        → Hears OfSet (option_and_then (records_heard count) said)
+    presented_true None p = absurd p
+    presented_true (Some (Ok items)) p = (
+      Items items,
+      ap (λ b. cond b (Some (Items items)) None) (both_are (is_le 1 (length items) p.0) (is_le (length items) count p.1)),
+      p.2,
+    )
+    presented_true (Some (Err diag)) p = (gone_or_refused diag, refl, refused_true (is_gone diag) diag p)
 
     -- where there is no such set it is heard to be gone
-    pub not_held_true : (said : Option (Result (List Item) Diag)) → IsNotHeld said
-        → (heard : Heard) → option_and_then (records_heard count) said ≡ Some heard → OfSet heard
-    not_held_true said p heard h =
-        heard_is OfSet Gone heard tt (sym (ap (λ s. option_and_then (records_heard count) s) p.1) ∙ h)
+    pub not_held_true : (said : Option (Result (List Item) Diag)) → IsNotHeld said → Hears OfSet (option_and_then (records_heard count) said)
+    not_held_true said p = (Gone, ap (λ s. option_and_then (records_heard count) s) p.1, tt)

@@ -21,8 +21,9 @@ use Rattle.unit_forms.specs.Tags as tag
 use Rattle.z_laws.specs.Laws.{WrittenRequestsAreUnits, WrittenRequestsAreRead}
 use Rattle.z_laws.specs.Readable.{IsReadable, IsReadableAttr, IsReadableTree, IsReadableQuery, IsReadableAsk}
 use Rattle.z_laws.specs.Shallow.{IsShallow}
-use Rattle.gw_outside.specs.Asks as asks
-use Rattle.gw_outside.specs.Asks.{IsShort, AreFewShort, HasNumbers, HasNoSet, MaySearch, MayPresent, MayScan, MayAsk}
+use Rattle.z_types.specs.Numbers as numbers
+use Rattle.z_types.specs.Numbers.{HasNumbers}
+use Rattle.gw_outside.specs.Asks.{IsShort, AreFewShort, HasNoSet, MaySearch, MayPresent, MayScan, MayAsk}
 use Rattle.gw_outside.specs.Sessions.{Made}
 use Rattle.gw_outside.specs.Wires.{IsRequestUnit}
 use Rattle.z_client.specs.Typed.{IsTypedAttr, IsTypedTree, IsTypedQuery, IsTypedScan, IsTypedAsk}
@@ -75,7 +76,7 @@ tree_readable (and l r) numbers typed = (tree_readable l numbers.0 typed.0, tree
 tree_readable (or l r) numbers typed = (tree_readable l numbers.0 typed.0, tree_readable r numbers.1 typed.1)
 tree_readable (and_not l r) numbers typed = (tree_readable l numbers.0 typed.0, tree_readable r numbers.1 typed.1)
 
-number_readable : (value : Option ℕ) → IfSome value asks.IsNumber → IfSome value IsNumber
+number_readable : (value : Option ℕ) → IfSome value numbers.IsNumber → IfSome value IsNumber
 number_readable None h = tt
 number_readable (Some n) h = omega (arith, h)
 

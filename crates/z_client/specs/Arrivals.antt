@@ -1,9 +1,12 @@
 -- How the next unit arrives over a link (X.690:2021, 8.1; what links tell is this project's own)
-use Rattle.std.specs.Prelude.{◌≡◌, ◌⊎◌, ℕ, ◌≤◌, true, false, Bool, List, [], ◌++◌, length, take, drop, Option, None, Some}
+use Rattle.std.specs.Prelude.{◌≡◌, ◌⊎◌, ℕ, ◌≤◌, true, Bool, List, [], ◌++◌, length, take, drop, Option, None, Some}
 use Rattle.z_ber.specs.Frames.{IsFrame}
 use Rattle.z_ber.specs.Header.{IsOpenFor, IsBadFor}
+use Rattle.gw_outside.specs.Counts.{Counts, Counted, nothing, after}
+use Rattle.gw_outside.specs.declared.wires.Looked.{Looked}
+use Rattle.gw_outside.specs.declared.wires.Looked.TheVariants as looked
 use Rattle.gw_outside.specs.Peers.{Peer}
-use Rattle.gw_outside.specs.Wires.{HandsOver, ArrivesFrom}
+use Rattle.gw_outside.specs.Wires.{HandsOver, ArrivesFrom, first_says_gone}
 use Rattle.z_client.specs.declared.arrivals.Arrival.{Arrival}
 use Rattle.z_client.specs.declared.arrivals.Arrival.TheVariants.{Unit as Whole, NotYet, Breach, Failed, Memory}
 
@@ -15,30 +18,54 @@ ArrivalFits arrived Breach = IsBadFor IsFrame arrived
 ArrivalFits arrived Failed = Unit {0}
 ArrivalFits arrived Memory = Unit {0}
 
--- since nothing had arrived nothing has, or the first reply that is owed has come whole
-abbrev pub CameFrom : Option Peer → Option Peer → List ℕ → Type 0
-CameFrom None new arrived = Unit {0}
-CameFrom (Some old) None arrived = ⊥
-CameFrom (Some old) (Some new) arrived = ((new ≡ old) × (arrived ≡ [])) ⊎ HandsOver old new arrived
+-- what an exact wire counts when the first reply that a peer owes arrives
+abbrev pub reply_counted : Peer → Counted
+reply_counted peer = record nothing { gone = first_says_gone peer.owed }
 
--- a unit that stands in front is all that has arrived, as the first reply that is owed; while none has come nothing changes
-abbrev pub ArrivesBy : Option Peer → Option Peer → List ℕ → Arrival → Type 0
-ArrivesBy old new arrived Breach = Unit {0}
-ArrivesBy old new arrived Failed = Unit {0}
-ArrivesBy old new arrived Memory = Unit {0}
-ArrivesBy None new arrived (Whole size) = Unit {0}
-ArrivesBy (Some old) None arrived (Whole size) = ⊥
-ArrivesBy (Some old) (Some new) arrived (Whole size) = HandsOver old new (take size arrived) × (drop size arrived ≡ [])
-ArrivesBy None new arrived NotYet = Unit {0}
-ArrivesBy (Some old) None arrived NotYet = ⊥
-ArrivesBy (Some old) (Some new) arrived NotYet = (new ≡ old) × (arrived ≡ [])
+-- of each arrival a wire counts waits and failures
+abbrev pub arrival_counted : Arrival → Counted
+arrival_counted NotYet = record nothing { wait = true }
+arrival_counted Failed = record nothing { fault = true }
+arrival_counted (Whole size) = nothing
+arrival_counted Breach = nothing
+arrival_counted Memory = nothing
 
-abbrev pub is_not_yet : Arrival → Bool
-is_not_yet NotYet = true
-is_not_yet (Whole size) = false
-is_not_yet Breach = false
-is_not_yet Failed = false
-is_not_yet Memory = false
+-- a peer from which nothing has come
+pub record HasNotCome (exact : Bool) (old new : Peer) (arrived : List ℕ) (before now : Counts) : Type 0 where
+  pub same : new ≡ old
+  pub none : arrived ≡ []
+  pub counts : exact ≡ true → now ≡ before
+
+-- a peer whose first reply that is owed has come whole
+pub record HasHandedOver (exact : Bool) (old new : Peer) (arrived : List ℕ) (before now : Counts) : Type 0 where
+  pub hands : HandsOver old new arrived
+  pub counts : exact ≡ true → now ≡ after (reply_counted old) before
+
+module _ (exact : Bool) where
+  -- since nothing had arrived nothing has, or the first reply that is owed
+  abbrev pub CameFrom : Option Peer → Option Peer → List ℕ → Counts → Counts → Type 0
+  CameFrom None new arrived before now = Unit {0}
+  CameFrom (Some old) None arrived before now = ⊥
+  CameFrom (Some old) (Some new) arrived before now =
+      HasNotCome exact old new arrived before now ⊎ HasHandedOver exact old new arrived before now
+
+  -- what an exact wire counts where a unit was awaited in vain
+  abbrev pub AwaitedInVain : Peer → Arrival → Counts → Counts → Type 0
+  AwaitedInVain old answer before now =
+      exact ≡ true → (now ≡ after (arrival_counted answer) before) ⊎ (now ≡ after (reply_counted old) before)
+
+  -- a unit that stands in front is all that has arrived, as the first reply that is owed; while none has come nothing changes; no breach does
+  abbrev pub ArrivesBy : Option Peer → Option Peer → List ℕ → Counts → Counts → Arrival → Type 0
+  ArrivesBy None new arrived before now answer = Unit {0}
+  ArrivesBy (Some old) new arrived before now Breach = ⊥
+  ArrivesBy (Some old) new arrived before now Failed = exact ≡ true → now ≡ after (arrival_counted Failed) before
+  ArrivesBy (Some old) new arrived before now Memory = AwaitedInVain old Memory before now
+  ArrivesBy (Some old) None arrived before now (Whole size) = ⊥
+  ArrivesBy (Some old) (Some new) arrived before now (Whole size) =
+      HasHandedOver exact old new (take size arrived) before now × (drop size arrived ≡ [])
+  ArrivesBy (Some old) None arrived before now NotYet = ⊥
+  ArrivesBy (Some old) (Some new) arrived before now NotYet =
+      (new ≡ old) × (arrived ≡ []) × (exact ≡ true → now ≡ after (arrival_counted NotYet) before)
 
 -- what stands in front of octets that have arrived, if it is whole or can never be
 abbrev pub IsInFront : List ℕ → Option Arrival → Type 0
@@ -58,6 +85,11 @@ IsLooked old new before after (Some Memory) = Unit {0}
 IsLooked old new before after (Some (Whole size)) = ⊥
 IsLooked old new before after (Some Breach) = ⊥
 
-abbrev pub ends_not_yet : Option Arrival → Bool
-ends_not_yet None = false
-ends_not_yet (Some answer) = is_not_yet answer
+-- what a look answered where it found this
+abbrev pub looked_for : Option Arrival → Looked
+looked_for None = looked.Arrived
+looked_for (Some NotYet) = looked.NotYet
+looked_for (Some Failed) = looked.Failed
+looked_for (Some Memory) = looked.Memory
+looked_for (Some (Whole size)) = looked.Memory
+looked_for (Some Breach) = looked.Memory

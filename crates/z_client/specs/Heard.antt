@@ -1,5 +1,5 @@
 -- What is heard of a reply by what is pending (ANSI/NISO Z39.50-2003, 3.2.1 to 3.2.3 and 3.2.8); a reply that is none to it is a breach
-use Rattle.std.specs.Prelude.{◌≡◌, ◌⊎◌, ℕ, ◌&&◌, List, ◌++◌, length, Option, None, Some, option_map, option_and_then, Result, Ok, Err, nat_le, if◌then◌else◌}
+use Rattle.std.specs.Prelude.{◌≡◌, ◌⊎◌, ℕ, true, ◌&&◌, List, ◌++◌, length, Option, None, Some, option_map, option_and_then, Result, Ok, Err, nat_le, if◌then◌else◌}
 use Rattle.z_types.specs.Bib1.{is_gone}
 use Rattle.z_types.specs.Bounds.{most_number}
 use Rattle.z_types.specs.Pending.{Pending, resting, opening, asked, broken}
@@ -11,7 +11,7 @@ use Rattle.z_types.specs.declared.replies.Reply.{Reply}
 use Rattle.z_types.specs.declared.scan.ScanAnswer.{ScanAnswer}
 use Rattle.gw_outside.specs.declared.backends.Heard.{Heard}
 use Rattle.gw_outside.specs.declared.backends.Heard.TheVariants.{Opened, Hits, Refused, Items, Gone, Scanned}
-use Rattle.gw_outside.specs.Replies.{accepts, search_said, present_said, scan_said}
+use Rattle.gw_outside.specs.Replies.{accepts, search_said, present_said, scan_said, says_gone}
 use Rattle.z_ber.specs.Frames.{IsFrame}
 use Rattle.z_ber.specs.Header.{IsBadFor}
 use Rattle.gw_outside.specs.Wires.{IsReplyUnit}
@@ -68,6 +68,14 @@ pub record BeginsWithAnother (pending : Pending) (octets : List ℕ) : Type 0 wh
   pub frame : IsFrame unit
   pub spelled : octets ≡ unit ++ rest
   pub no_reply : (answer : Reply) → IsReplyUnit unit answer → heard_of pending answer ≡ None
+
+-- octets begin with a whole unit that is a reply to a Present whose diagnostic is condition 27 or 30 of bib-1, and go on with these
+pub record BeginsWithGone (octets left : List ℕ) : Type 0 where
+  pub unit : List ℕ
+  pub spelled : octets ≡ unit ++ left
+  pub reply : Reply
+  pub is : IsReplyUnit unit reply
+  pub gone : says_gone reply ≡ true
 
 -- a breach: octets that begin with no unit, however they go on, or with one that is no reply to what is pending
 abbrev pub IsBreach : Pending → List ℕ → Type 0

@@ -1,7 +1,7 @@
 -- What a session waits for, and the result sets that it made (this project's own)
 use Rattle.std.specs.Prelude.{ℕ, not, List, [], ◌∷◌, filter, None, Some, if◌then◌else◌}
 use Rattle.z_types.specs.Pending.{Pending, resting, opening, asked, broken}
-use Rattle.gw_outside.specs.Peers.{is_named}
+use Rattle.z_types.specs.Same.{is_same}
 use Rattle.gw_outside.specs.Sessions.{Made}
 use Rattle.z_client.specs.declared.sets.FoundSet.{FoundSet}
 use Rattle.z_client.specs.declared.sets.Waiting.{Waiting}
@@ -17,8 +17,8 @@ pending_of waiting.Broken = broken
 -- the set of each name
 abbrev pub made_in : List FoundSet → Made
 made_in [] name = None
-made_in (set ∷ sets) name = if is_named set.name name then Some (set.key, set.hits) else made_in sets name
+made_in (set ∷ sets) name = if is_same set.name name then Some (set.key, set.hits) else made_in sets name
 
 -- the sets of all names but one
 abbrev pub without : List ℕ → List FoundSet → List FoundSet
-without own sets = filter (λ set. not (is_named set.name own)) sets
+without own sets = filter (λ set. not (is_same set.name own)) sets

@@ -8,8 +8,9 @@ use Rattle.z_types.specs.declared.key.SetKey.{SetKey}
 use Rattle.z_types.specs.declared.replies.Reply.{Reply}
 use Rattle.z_types.specs.declared.world.World as world
 use Rattle.gw_outside.specs.declared.backends.Heard.{Heard}
-use Rattle.gw_outside.specs.declared.wires.Linked as linked
-use Rattle.gw_outside.specs.Peers.{NamedSet, Peer, is_named, held, set_of}
+use Rattle.gw_outside.specs.declared.links.Linked as linked
+use Rattle.z_types.specs.Same.{is_same}
+use Rattle.gw_outside.specs.Peers.{NamedSet, Peer, held, set_of}
 use Rattle.gw_outside.specs.Sessions.{Made, IsWorlds}
 use Rattle.gw_outside.specs.Wires.{IsReplyUnit}
 use Rattle.z_client.specs.declared.session.Parts.{Parts}
@@ -18,7 +19,7 @@ use Rattle.z_client.specs.Sets.{made_in, pending_of}
 
 -- a name is that of the search that is pending
 abbrev pub is_searched : Pending → List ℕ → Bool
-is_searched (asked (Search own key)) name = is_named own name
+is_searched (asked (Search own key)) name = is_same own name
 is_searched (asked (Present own first count syntax element)) name = false
 is_searched (asked (Scan dbs ask)) name = false
 is_searched resting name = false
@@ -33,7 +34,7 @@ module _ {W : Type 0} (w : world.Ghosts W) (address : Address) where
   -- under the name of a search that is pending stands its set, where it succeeds
   abbrev pub HoldsSearched : Pending → List NamedSet → Type 0
   HoldsSearched (asked (Search own key)) sets =
-      (name : List ℕ) → is_named own name ≡ true → held sets name ≡ set_of key (w.search address key)
+      (name : List ℕ) → is_same own name ≡ true → held sets name ≡ set_of key (w.search address key)
   HoldsSearched (asked (Present own first count syntax element)) sets = Unit {0}
   HoldsSearched (asked (Scan dbs ask)) sets = Unit {0}
   HoldsSearched resting sets = Unit {0}
@@ -47,9 +48,11 @@ module _ {W : Type 0} (w : world.Ghosts W) (address : Address) where
         → HoldsOrNothing sets name key
     pub searched : HoldsSearched pending sets
 
-  -- what is heard of a reply is the world's
-  abbrev pub IsTrueReply : Made → Pending → Reply → Type 0
-  IsTrueReply made pending reply = (answer : Heard) → heard_of pending reply ≡ Some answer → IsWorlds w address made pending answer
+  -- something is heard of a reply, and it is the world's
+  pub record IsTrueReply (made : Made) (pending : Pending) (reply : Reply) : Type 0 where
+    pub answer : Heard
+    pub heard : heard_of pending reply ≡ Some answer
+    pub worlds : IsWorlds w address made pending answer
 
   -- one reply, to what is pending; none where a session rests
   abbrev pub Owes : Made → Pending → List Reply → Type 0
@@ -76,12 +79,19 @@ module _ {W : Type 0} (w : world.Ghosts W) (address : Address) where
     pub unit : IsReplyUnit octets reply
     pub right : IsTrueReply made pending reply
 
+-- a session at this address that waits for the reply to its Init, and made no set
+pub record IsNewParts {L : Type 0} (address : Address) (s : Parts L) : Type 0 where
+  pub same_address : s.address ≡ address
+  pub pending : pending_of s.waiting ≡ opening
+  pub none_made : (name : List ℕ) → made_in s.made.items name ≡ None
+
 module _ {W L : Type 0} (w : world.Ghosts W) (l : linked.Ghosts L) where
-  -- the octets that have arrived are scanned up to a place in them; where the address is told there are none, and the peer is true
+  -- the octets that have arrived are scanned up to a place in them; where the address is told there are none, and the peer is true; an exact link is of a told address
   pub record IsKept (s : Parts L) : Type 0 where
     pub scanned : Stands (l.arrived s.link) s.scan.passed s.scan.opened
     pub nothing : w.told s.address → l.arrived s.link ≡ []
     pub peer : w.told s.address → IsToldTrue w s.address (made_in s.made.items) (pending_of s.waiting) (l.peer s.link)
+    pub exact : l.exact ≡ true → w.told s.address
 
   -- of a session that is broken nothing is kept
   abbrev pub IsTrueSession : Parts L → Type 0

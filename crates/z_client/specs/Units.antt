@@ -1,13 +1,21 @@
 -- The units that are sent to targets (ANSI/NISO Z39.50-2003, 3.2.1 to 3.2.3 and 3.2.8), none with a referenceId
-use Rattle.std.specs.Prelude.{ℕ, ◌+◌, ◌^◌, pos, true, List, None}
+use Rattle.std.specs.Prelude.{◌≡◌, ℕ, pos, true, List, [], Option, None, Some}
 use Rattle.z_types.specs.Bounds.{most_unit_octets}
 use Rattle.z_types.specs.declared.ask.Ask.{Ask}
 use Rattle.z_types.specs.declared.ask.Ask.TheVariants.{Search, Present, Scan}
 use Rattle.z_types.specs.declared.requests.Asked.TheVariants.{Good}
 use Rattle.z_types.specs.declared.requests.Request.{Request}
 use Rattle.z_types.specs.declared.requests.Request.TheVariants as request
+use Rattle.z_types.specs.declared.address.Address.{Address}
+use Rattle.z_types.specs.declared.world.World as world
 use Rattle.gw_outside.specs.Asks.{MayAsk}
-use Rattle.gw_outside.specs.Replies.{named_sets}
+use Rattle.gw_outside.specs.Happened.{Happened, at_address, sets_found}
+use Rattle.gw_outside.specs.Peers.{Peer, new_peer, TakesRequest}
+use Rattle.z_types.specs.Services.{own_versions, own_options}
+use Rattle.gw_outside.specs.declared.backends.Began.{Began}
+use Rattle.gw_outside.specs.declared.backends.Began.TheVariants as began
+use Rattle.gw_outside.specs.declared.wires.Sent.{Sent}
+use Rattle.gw_outside.specs.declared.wires.Sent.TheVariants as sent
 use Rattle.gw_outside.specs.Sessions.{Made}
 use Rattle.gw_outside.specs.Wires.{IsRequestUnit}
 
@@ -15,8 +23,8 @@ use Rattle.gw_outside.specs.Wires.{IsRequestUnit}
 abbrev pub init_request : Request
 init_request = request.Init (record {
   ref_id = None;
-  versions = 2 ^ 0 + 2 ^ 1 + 2 ^ 2;
-  options = 2 ^ 0 + 2 ^ 1 + 2 ^ 7 + named_sets;
+  versions = own_versions;
+  options = own_options;
   preferred = most_unit_octets;
   exceptional = most_unit_octets;
 })
@@ -45,6 +53,23 @@ request_of (Present name first count syntax element) = request.Present (record {
   syntax = syntax;
 })
 request_of (Scan dbs ask) = request.Scan (record { ref_id = None; dbs = dbs; ask = Good ask })
+
+-- a peer that is told takes a request
+abbrev pub Takes : {W : Type 0} → world.Ghosts W → Happened → Request → Option Peer → Option Peer → Type 0
+Takes w h request None new = new ≡ None
+Takes w h request (Some old) None = ⊥
+Takes w h request (Some old) (Some new) = TakesRequest w h.steady (sets_found (at_address h old.address) request old.sets) request old new
+
+-- the peer of a new link that is told has taken an Init
+abbrev pub TookInit : {W : Type 0} → world.Ghosts W → Happened → Address → Option Peer → Type 0
+TookInit w h address None = Unit {0}
+TookInit w h address (Some peer) = TakesRequest w h.steady [] init_request (new_peer address) peer
+
+-- an ask whose unit was sent has begun
+abbrev pub began_by : Sent → Began
+began_by sent.Sent = began.Started
+began_by sent.Failed = began.Failed
+began_by sent.Memory = began.Memory
 
 -- octets are the unit of an ask: wherever it may be asked they are the request that it is
 abbrev pub IsAskUnit : Ask → List ℕ → Type 0

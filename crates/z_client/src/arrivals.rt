@@ -1,9 +1,11 @@
 //! Units as they arrive over a link. Each octet is looked at once: the scan stands where it ended.
 
-ghost use Rattle.std.specs.Prelude.{◌≡◌, ◌≤◌, [], Some};
+ghost use Rattle.std.specs.Prelude.{◌≡◌, [], false};
 ghost use Rattle.z_ber.specs.Due.{Stands};
-ghost use Rattle.gw_outside.specs.Counts.{Rose, one_more};
-ghost use Rattle.z_client.specs.Arrivals.{ArrivalFits, ArrivesBy, IsInFront, IsLooked, is_not_yet, ends_not_yet};
+ghost use Rattle.gw_outside.specs.Counts.{WireCounts};
+ghost use Rattle.gw_outside.specs.Happened.{AreSame};
+ghost use Rattle.gw_outside.specs.Wires.{look_counted};
+ghost use Rattle.z_client.specs.Arrivals.{ArrivalFits, ArrivesBy, IsInFront, IsLooked, arrival_counted, looked_for};
 
 use gw_outside::{Looked, Wire};
 use std::alloc::Global;
@@ -26,7 +28,7 @@ pub enum Arrival {
 }
 
 /// Looks at a link until a unit or a breach stands in what has arrived, or nothing more arrives.
-#[tactic(auto, using(crate::proofs::ArrivalLemmas::comes_first))]
+#[tactic(auto, using(crate::proofs::ArrivalLemmas::comes_first, crate::proofs::HappenedLemmas::same_self, crate::proofs::CountLemmas::uncounted))]
 pub(crate) fn await_unit<W: World, N: Wire<W>>(
     wire: &mut N,
     alloc: Global,
@@ -35,13 +37,14 @@ pub(crate) fn await_unit<W: World, N: Wire<W>>(
 ) -> Arrival
     requires { Stands (N.Link.arrived link.old) scan.old.passed scan.old.opened }
     ensures fits { ArrivalFits (N.Link.arrived link.new) result }
-    ensures peer { N.Link.arrived link.old ≡ [] → ArrivesBy (N.Link.peer link.old)
-        (N.Link.peer link.new) (N.Link.arrived link.new) result }
+    ensures peer { N.Link.arrived link.old ≡ [] → ArrivesBy N.exact (N.Link.peer link.old)
+        (N.Link.peer link.new) (N.Link.arrived link.new)
+        (N.counts wire.old) (N.counts wire.new) result }
     ensures scanned { result ≡ Arrival.NotYet
         → Stands (N.Link.arrived link.new) scan.new.passed scan.new.opened }
-    ensures failed { result ≡ Arrival.Failed → Rose (N.faults wire.old) (N.faults wire.new) }
-    ensures faults { N.faults wire.old ≤ N.faults wire.new }
-    ensures waits { N.waits wire.new ≡ one_more (is_not_yet result) (N.waits wire.old) }
+    ensures happened { AreSame (N.happened wire.old) (N.happened wire.new) }
+    ensures counts { WireCounts false
+        (arrival_counted result) (N.counts wire.old) (N.counts wire.new) }
 {
     stands_on();
     for _ in 0..u64::MAX {
@@ -76,10 +79,9 @@ fn look_again<W: World, N: Wire<W>>(
 ) -> Option<Arrival>
     ensures looked { IsLooked (N.Link.peer link.old) (N.Link.peer link.new)
         (N.Link.arrived link.old) (N.Link.arrived link.new) result }
-    ensures failed { result ≡ Some Arrival.Failed
-        → Rose (N.faults wire.old) (N.faults wire.new) }
-    ensures faults { N.faults wire.old ≤ N.faults wire.new }
-    ensures waits { N.waits wire.new ≡ one_more (ends_not_yet result) (N.waits wire.old) }
+    ensures happened { AreSame (N.happened wire.old) (N.happened wire.new) }
+    ensures counts { WireCounts N.exact (look_counted (N.Link.peer link.old) (looked_for result))
+        (N.counts wire.old) (N.counts wire.new) }
 {
     match wire.look(alloc, link) {
         Looked::Arrived => None,

@@ -4,8 +4,10 @@
 
 mod arrivals;
 mod backend;
+mod found;
 mod hearing;
 mod listening;
+mod own;
 mod replies;
 mod sending;
 mod session;

@@ -7,11 +7,9 @@ ghost use Rattle.z_client.specs.Heard.{opening_heard, ask_heard, hits_heard, sea
 
 use gw_outside::Heard;
 use std::alloc::Global;
-use z_bib1::is_gone;
-use z_types::{Ask, Body, Diag, Item, List, MOST_NUMBER, Memory, NamedRecord, Reply};
-
-/// Named result sets, of the options.
-const NAMED_SETS: u32 = 16384;
+use z_types::{
+    Ask, Body, Diag, Item, List, MOST_NUMBER, Memory, NAMED_RESULT_SETS, NamedRecord, Reply,
+};
 
 /// What is heard of the reply to an Init.
 pub(crate) fn opening_heard(reply: &Reply) -> Option<Heard>
@@ -19,7 +17,7 @@ pub(crate) fn opening_heard(reply: &Reply) -> Option<Heard>
 {
     match reply {
         Reply::Init { init, result } => {
-            if *result && init.options & NAMED_SETS != 0 {
+            if *result && init.options & NAMED_RESULT_SETS != 0 {
                 Some(Heard::Opened)
             } else {
                 None
@@ -121,7 +119,7 @@ fn refusal_heard(diag: Option<Diag>) -> Option<Heard>
 {
     match diag {
         Some(diag) => {
-            if is_gone(&diag) {
+            if diag.is_gone() {
                 Some(Heard::Gone)
             } else {
                 Some(Heard::Refused(diag))

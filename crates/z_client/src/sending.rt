@@ -1,15 +1,16 @@
 //! What a session sends: its Init over a new link, and what it is asked.
 
-ghost use Rattle.std.specs.Prelude.{◌≡◌, ◌≤◌, ℕ, Bool, true, List, [], None};
-ghost use Rattle.z_types.specs.Pending.{resting, opening};
+ghost use Rattle.std.specs.Prelude.{◌≡◌, Bool, true, false};
+ghost use Rattle.z_types.specs.Pending.{resting};
 ghost use Rattle.gw_outside.specs.Asks.{MayAsk};
-ghost use Rattle.gw_outside.specs.Counts.{Rose};
+ghost use Rattle.gw_outside.specs.Counts.{WireCounts};
+ghost use Rattle.gw_outside.specs.Happened.{AreLess};
 ghost use Rattle.gw_outside.specs.Peers.{IsShortRequest};
-ghost use Rattle.gw_outside.specs.Sessions.{IfSession, pending_from};
-ghost use Rattle.gw_outside.specs.Wires.{IsNewPeer, IsRequestUnit};
+ghost use Rattle.gw_outside.specs.Sessions.{IfSession, OpenHappens, open_counted, start_counted, pending_from};
+ghost use Rattle.gw_outside.specs.Wires.{IsNewLink, IsRequestUnit};
 ghost use Rattle.z_client.specs.Sets.{made_in, pending_of};
-ghost use Rattle.z_client.specs.TrueSession.{IsKept, IsTrueSession};
-ghost use Rattle.z_client.specs.Units.{init_request, request_of};
+ghost use Rattle.z_client.specs.TrueSession.{IsNewParts, IsKept, IsTrueSession};
+ghost use Rattle.z_client.specs.Units.{init_request, request_of, Takes, TookInit};
 
 use crate::session::{Parts, ZSession};
 use crate::sets::Waiting;
@@ -20,7 +21,6 @@ use z_ber::Scan;
 use z_types::{Address, Ask, Text, World};
 
 /// Sends the Init over a new link.
-#[tactic(auto, using(crate::proofs::SendLemmas::told_opens))]
 pub(crate) fn greet<W: World, N: Wire<W>>(
     wire: &mut N,
     alloc: Global,
@@ -28,17 +28,15 @@ pub(crate) fn greet<W: World, N: Wire<W>>(
     address: Address,
     unit: &Text,
 ) -> Opening<ZSession<W, N::Link>>
-    requires nothing { N.Link.arrived link ≡ [] }
-    requires peer { IsNewPeer (W.told address) address (N.Link.peer link) }
+    requires link { IsNewLink W.World N.Link.Linked N.exact address (N.counts wire.old) link }
     requires unit { IsRequestUnit unit.now init_request }
-    ensures address { IfSession result (λ s. s.address ≡ address) }
-    ensures pending { IfSession result (λ s. pending_of s.waiting ≡ opening) }
-    ensures made { IfSession result (λ s. (name : List ℕ) → made_in s.made.items name ≡ None) }
+    ensures session { IfSession result (IsNewParts address) }
+    ensures sent { IfSession result
+        (λ s. TookInit W.World (N.happened wire.old) address (N.Link.peer s.link)) }
     ensures linked { (linked : Bool) → result ≡ Opening.Failed linked → linked ≡ true }
-    ensures failed { (linked : Bool) → result ≡ Opening.Failed linked
-        → Rose (N.faults wire.old) (N.faults wire.new) }
-    ensures faults { N.faults wire.old ≤ N.faults wire.new }
-    ensures waits { N.waits wire.new ≡ N.waits wire.old }
+    ensures happened { OpenHappens result (N.happened wire.old) (N.happened wire.new) }
+    ensures counts { WireCounts N.exact
+        (record (open_counted result) { dial = false }) (N.counts wire.old) (N.counts wire.new) }
 {
     match wire.send(alloc, &mut link, unit.as_slice()) {
         Sent::Sent => Opening::Session(ZSession {
@@ -57,7 +55,6 @@ pub(crate) fn greet<W: World, N: Wire<W>>(
 }
 
 /// Sends the unit of what a session that rests is asked.
-#[tactic(auto, using(crate::proofs::SendLemmas::told_asks))]
 pub(crate) fn send_ask<W: World, N: Wire<W>>(
     wire: &mut N,
     alloc: Global,
@@ -74,9 +71,11 @@ pub(crate) fn send_ask<W: World, N: Wire<W>>(
     ensures made { parts.new.made.items ≡ parts.old.made.items }
     ensures address { parts.new.address ≡ parts.old.address }
     ensures kept { IsTrueSession W.World N.Link.Linked parts.new }
-    ensures failed { result ≡ Began.Failed → Rose (N.faults wire.old) (N.faults wire.new) }
-    ensures faults { N.faults wire.old ≤ N.faults wire.new }
-    ensures waits { N.waits wire.new ≡ N.waits wire.old }
+    ensures sent { result ≡ Began.Started → Takes W.World (N.happened wire.old)
+        (request_of ask) (N.Link.peer parts.old.link) (N.Link.peer parts.new.link) }
+    ensures happened { AreLess (N.happened wire.old) (N.happened wire.new) }
+    ensures counts { WireCounts N.exact
+        (start_counted ask result) (N.counts wire.old) (N.counts wire.new) }
 {
     parts.waiting = Waiting::Broken;
     match wire.send(alloc, &mut parts.link, unit.as_slice()) {

@@ -2,7 +2,7 @@
 
 ghost use Rattle.std.specs.Prelude.{◌≡◌, ◌≤◌, ℕ, List, ◌∷◌, OnOk, OnErr, if◌then◌else◌};
 ghost use Rattle.std.specs.Vec.{vec_capacity, vec_len};
-ghost use Rattle.gw_outside.specs.Peers.{is_named};
+ghost use Rattle.z_types.specs.Same.{is_same};
 ghost use Rattle.gw_outside.specs.Sessions.{made_by, made_after};
 ghost use Rattle.z_client.specs.Sets.{pending_of, made_in, without};
 
@@ -56,7 +56,7 @@ fn keep_search(
     heard: &Heard,
 ) -> Result<(), Memory>
     ensures ok { (other : List ℕ) → OnOk result (made_in sets.new.items other
-        ≡ (if is_named name other then made_by key heard.now (made_in sets.old.items other)
+        ≡ (if is_same name other then made_by key heard.now (made_in sets.old.items other)
         else made_in sets.old.items other)) }
     ensures err { OnErr result (sets.new.items ≡ sets.old.items) }
 {

@@ -10,16 +10,10 @@ use crate::typed::ask_is_typed;
 use std::alloc::Global;
 use z_laws::{written_requests_are_read, written_requests_are_units};
 use z_types::{
-    Ask, Asked, Init, List, MOST_UNIT_OCTETS, Memory, Oid, Present, Request, Scan, ScanAsk, Search,
-    SetKey, Text, copy,
+    Ask, Asked, Init, List, MOST_UNIT_OCTETS, Memory, OWN_OPTIONS, OWN_VERSIONS, Oid, Present,
+    Request, Scan, ScanAsk, Search, SetKey, Text, copy,
 };
 use z_write::write_request;
-
-/// Versions 1 to 3 of the protocol.
-const OWN_VERSIONS: u32 = 7;
-
-/// Search, present, scan and named result sets.
-const OWN_OPTIONS: u32 = 16515;
 
 /// The unit of the Init that opens a session.
 #[tactic(auto, using(crate::proofs::UnitLemmas::init_is_unit))]

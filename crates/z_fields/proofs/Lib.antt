@@ -1,3 +1,4 @@
+pub mod AnswerLemmas
 pub mod IntegerLemmas
 pub mod IndexLemmas
 pub mod FirstLemmas

@@ -10,7 +10,7 @@ mod integers;
 mod oids;
 mod rows;
 
-pub use answers::both;
+pub use answers::{FieldFault, both};
 pub use bits::bits_in;
 pub use elements::{Elements, Field, has_tag};
 pub use fields::Fields;

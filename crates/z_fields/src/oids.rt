@@ -14,8 +14,8 @@ fn greatest_arc(first: bool) -> u64
     if first { 4_294_967_375 } else { 4_294_967_295 }
 }
 
-/// Puts the numbers that one stands for.
-fn put_arcs(arcs: &mut Vec<u32>, first: bool, number: u64) -> Result<(), Memory>
+/// Pushes the numbers that one stands for.
+fn push_arcs(arcs: &mut Vec<u32>, first: bool, number: u64) -> Result<(), Memory>
     requires { number ≤ greatest_arc first }
     ensures { OnOk result (arcs.new.items ≡ arcs.old.items ++ arcs_of first number) }
 {
@@ -43,7 +43,7 @@ fn arcs_in(alloc: Global, octets: &[u8]) -> Result<Option<Vec<u32>>, Memory>
             return Ok(None);
         }
         if *octet < 128 {
-            put_arcs(&mut arcs, first, number)?;
+            push_arcs(&mut arcs, first, number)?;
             first = false;
             high = 0;
         } else {

@@ -1,4 +1,4 @@
--- Frames of a stream that comes in pieces (X.690:2021, 8.1). That a unit has 1048576 octets at most is this project's own.
+-- For contracts alone: frames of a stream that comes in pieces (X.690:2021, 8.1). That a unit has 1048576 octets at most is this project's own.
 use Rattle.std.specs.Prelude.{◌≡◌, ℕ, ◌+◌, ◌-◌, ◌^◌, ◌≤◌, List, [], ◌∷◌, ◌++◌, length, take, drop, min, Option, Some, None, Result, Ok, Err}
 use Rattle.std.specs.List.{flat_map, AllByRecursion}
 use Rattle.z_ber.specs.declared.scan.Scan.{Scan}

@@ -11,7 +11,7 @@ use Rattle.unit_forms.specs.Query.{attributes_plus_term}
 use Rattle.unit_forms.specs.Requests.{database_names, scan_ask_fields, scan_asked_fields, scan_fields}
 use Rattle.unit_forms.specs.Reading.Attributes.{attrs_and_term_in}
 use Rattle.unit_forms.specs.Reading.Rows.{octets_of, number_of, oid_of, universal, required, optional, optional_of, within}
-use Rattle.unit_forms.specs.Reading.ScanRequest.{ask_in, scan_in}
+use Rattle.unit_forms.specs.Reading.ScanRequest.{start_in, ask_in, scan_in}
 use Rattle.unit_forms.specs.Reading.SearchRequest.{databases_of}
 use Rattle.z_laws.specs.Readable.{IsAsked, IsReadableAsk}
 use Rattle.z_laws.proofs.Beginning.{Spells, spells-nothing}
@@ -81,7 +81,7 @@ scan-position : (ref_id : Option (List ℕ)) (dbs : List (List ℕ)) (ask : Scan
 scan-position ref_id dbs ask h = simp (first_of-joined, first_of-maybe_leaf) (number_if 7 ask.position h.position)
 
 ask_in-again : (ref_id : Option (List ℕ)) (dbs : List (List ℕ)) (ask : ScanAsk) → IsReadableAsk ask → ask_in (scan_parts ref_id dbs (Good ask)) ≡ Ok (Good ask)
-unfolding ask_in
+unfolding ask_in start_in
 ask_in-again ref_id dbs ask h =
     rw (scan-attr_set ref_id dbs ask h, scan-start ref_id dbs ask h, scan-step ref_id dbs ask h, scan-number ref_id dbs ask h, scan-position ref_id dbs ask h) refl
 

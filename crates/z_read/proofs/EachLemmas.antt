@@ -1,5 +1,5 @@
 -- Elements one after another are read from the front.
-use Rattle.std.proofs.Common.{◌≡◌, ◌∙◌, Bool, true, false, cond, leb, List, [], ◌∷◌, ◌++◌, Some, None, Result, Ok, Err, sym, ap, append_assoc, arith, refl}
+use Rattle.std.proofs.Common.{◌≡◌, ◌∙◌, Bool, true, false, cond, leb, List, [], ◌∷◌, ◌++◌, Some, None, Result, Ok, Err, sym, ap, subst, append_assoc, arith, refl}
 use Rattle.std.proofs.lemmas.List.{append-nil}
 use Rattle.std.proofs.lemmas.Bool.{leb-true, leb-false}
 use Rattle.z_types.specs.declared.requests.Asked.{Asked}
@@ -9,7 +9,9 @@ use Rattle.unit_forms.specs.declared.refusal.Refusal.{Refusal}
 use Rattle.unit_forms.specs.Reading.Answers.{rank, first_refusal, read_as, in_front, each, both_asked, asked_as, all_asked}
 use Rattle.unit_forms.specs.Reading.Elements.{Field, first_element, other_elements}
 use Rattle.z_fields.proofs.FirstLemmas.{fewer}
-use Rattle.z_read.specs.Parts.{read_behind, read_joined, put_asked, asked_behind, join_lists, asked_joined}
+use Rattle.z_fields.specs.declared.answers.FieldFault.{FieldFault}
+use Rattle.z_fields.specs.Answers.{IsOrMemory}
+use Rattle.z_read.specs.Parts.{read_behind, read_joined, served_behind, asked_behind, join_lists, asked_joined, IsBehind, IsPassed}
 
 some_none : {P : Type 0} (f : Field) → Some f ≡ None → P
 some_none f e = absurd (grind arith)
@@ -54,7 +56,7 @@ joined_nothing : {A : Type 0} (items : Result (List A) Refusal) → read_joined 
 joined_nothing (Ok xs) = ap Ok (append-nil xs)
 joined_nothing (Err r) = refl
 
-pub nothing_joined : {A : Type 0} (more : Result (List A) Refusal) → more ≡ read_joined (Ok []) more
+nothing_joined : {A : Type 0} (more : Result (List A) Refusal) → more ≡ read_joined (Ok []) more
 nothing_joined (Ok ys) = refl
 nothing_joined (Err r) = refl
 
@@ -65,12 +67,12 @@ unless : {A : Type 0} (b : Bool) (x y : A) → b ≡ false → cond b x y ≡ y
 unless b x y e = rw e refl
 
 -- no element is left
-pub each_none : {A : Type 0} (wanted : Field → Bool) (read : Field → Result A Refusal) (start left : Forest) (items : Result (List A) Refusal) → each wanted read start ≡ read_joined items (each wanted read left) → None ≡ first_element left → items ≡ each wanted read start
+each_none : {A : Type 0} (wanted : Field → Bool) (read : Field → Result A Refusal) (start left : Forest) (items : Result (List A) Refusal) → each wanted read start ≡ read_joined items (each wanted read left) → None ≡ first_element left → items ≡ each wanted read start
 each_none wanted read start left items passed e =
     sym (passed ∙ ap (read_joined items) (none_at wanted read left e) ∙ joined_nothing items)
 
 -- one is read
-pub each_on : {A : Type 0} (wanted : Field → Bool) (read : Field → Result A Refusal) (start left others : Forest) (items new : Result (List A) Refusal) (item : Result A Refusal) (f : Field) → each wanted read start ≡ read_joined items (each wanted read left) → Some f ≡ first_element left → others ≡ other_elements left → wanted f ≡ true → item ≡ read f → new ≡ read_behind items item → each wanted read start ≡ read_joined new (each wanted read others)
+each_on : {A : Type 0} (wanted : Field → Bool) (read : Field → Result A Refusal) (start left others : Forest) (items new : Result (List A) Refusal) (item : Result A Refusal) (f : Field) → each wanted read start ≡ read_joined items (each wanted read left) → Some f ≡ first_element left → others ≡ other_elements left → wanted f ≡ true → item ≡ read f → new ≡ read_behind items item → each wanted read start ≡ read_joined new (each wanted read others)
 each_on wanted read start left others items new item f passed e o y is more =
     passed ∙ ap (read_joined items) (first_at wanted read left f e ∙ when (wanted f) _ _ y)
     ∙ sym (behind_joined items (read f) (each wanted read (other_elements left)))
@@ -78,23 +80,23 @@ each_on wanted read start left others items new item f passed e o y is more =
     ∙ ap (λ q. read_joined new (each wanted read q)) (sym o)
 
 -- one is skipped
-pub each_skipped : {A : Type 0} (wanted : Field → Bool) (read : Field → Result A Refusal) (start left others : Forest) (items : Result (List A) Refusal) (f : Field) → each wanted read start ≡ read_joined items (each wanted read left) → Some f ≡ first_element left → others ≡ other_elements left → wanted f ≡ false → each wanted read start ≡ read_joined items (each wanted read others)
+each_skipped : {A : Type 0} (wanted : Field → Bool) (read : Field → Result A Refusal) (start left others : Forest) (items : Result (List A) Refusal) (f : Field) → each wanted read start ≡ read_joined items (each wanted read left) → Some f ≡ first_element left → others ≡ other_elements left → wanted f ≡ false → each wanted read start ≡ read_joined items (each wanted read others)
 each_skipped wanted read start left others items f passed e o y =
     passed ∙ ap (read_joined items) (first_at wanted read left f e ∙ unless (wanted f) _ _ y) ∙ ap (λ q. read_joined items (each wanted read q)) (sym o)
 
 -- ---- the same, where a part may be one that is not served
 
-put_joined : {A : Type 0} (items : Asked (List A)) (item : Asked A) (more : List (Asked A)) → join_lists (put_asked (items, item), more) ≡ join_lists (items, item ∷ more)
-put_joined {A} (Good xs) (Good x) more = by (all_asked more)
+served_joined : {A : Type 0} (items : Asked (List A)) (item : Asked A) (more : List (Asked A)) → join_lists (served_behind (items, item), more) ≡ join_lists (items, item ∷ more)
+served_joined {A} (Good xs) (Good x) more = by (all_asked more)
   where
     by : (rest : Asked (List A)) → asked_as (λ q. q.0 ++ q.1) (both_asked (Good (xs ++ x ∷ [])) rest) ≡ asked_as (λ q. q.0 ++ q.1) (both_asked (Good xs) (asked_as (λ p. p.0 ∷ p.1) (both_asked (Good x) rest)))
     by (Good ys) = ap Good (append_assoc xs (x ∷ []) ys)
     by (Bad d) = refl
-put_joined (Good xs) (Bad d) more = refl
-put_joined (Bad d) item more = refl
+served_joined (Good xs) (Bad d) more = refl
+served_joined (Bad d) item more = refl
 
 asked_behind_joined : {A : Type 0} (items : Result (Asked (List A)) Refusal) (item : Result (Asked A) Refusal) (more : Result (List (Asked A)) Refusal) → asked_joined (asked_behind items item) more ≡ asked_joined items (in_front item more)
-asked_behind_joined (Ok xs) (Ok x) (Ok ys) = ap Ok (put_joined xs x ys)
+asked_behind_joined (Ok xs) (Ok x) (Ok ys) = ap Ok (served_joined xs x ys)
 asked_behind_joined (Ok xs) (Ok x) (Err t) = refl
 asked_behind_joined (Ok xs) (Err s) (Ok ys) = refl
 asked_behind_joined (Ok xs) (Err s) (Err t) = refl
@@ -112,21 +114,49 @@ nothing_before : {A : Type 0} (rest : Asked (List A)) → asked_as (λ q. q.0 ++
 nothing_before (Good xs) = refl
 nothing_before (Bad d) = refl
 
-pub nothing_asked : {A : Type 0} (more : Result (List (Asked A)) Refusal) → read_as all_asked more ≡ asked_joined (Ok (Good [])) more
+nothing_asked : {A : Type 0} (more : Result (List (Asked A)) Refusal) → read_as all_asked more ≡ asked_joined (Ok (Good [])) more
 nothing_asked (Ok ys) = ap Ok (sym (nothing_before (all_asked ys)))
 nothing_asked (Err r) = refl
 
-pub asked_none : {A : Type 0} (read : Field → Result (Asked A) Refusal) (start left : Forest) (items : Result (Asked (List A)) Refusal) → read_as all_asked (each (λ field. true) read start) ≡ asked_joined items (each (λ field. true) read left) → None ≡ first_element left → items ≡ read_as all_asked (each (λ field. true) read start)
+asked_none : {A : Type 0} (read : Field → Result (Asked A) Refusal) (start left : Forest) (items : Result (Asked (List A)) Refusal) → read_as all_asked (each (λ field. true) read start) ≡ asked_joined items (each (λ field. true) read left) → None ≡ first_element left → items ≡ read_as all_asked (each (λ field. true) read start)
 asked_none read start left items passed e =
     sym (passed ∙ ap (asked_joined items) (none_at (λ field. true) read left e) ∙ asked_nothing items)
 
-pub asked_on : {A : Type 0} (read : Field → Result (Asked A) Refusal) (start left others : Forest) (items new : Result (Asked (List A)) Refusal) (item : Result (Asked A) Refusal) (f : Field) → read_as all_asked (each (λ field. true) read start) ≡ asked_joined items (each (λ field. true) read left) → Some f ≡ first_element left → others ≡ other_elements left → item ≡ read f → new ≡ asked_behind items item → read_as all_asked (each (λ field. true) read start) ≡ asked_joined new (each (λ field. true) read others)
+asked_on : {A : Type 0} (read : Field → Result (Asked A) Refusal) (start left others : Forest) (items new : Result (Asked (List A)) Refusal) (item : Result (Asked A) Refusal) (f : Field) → read_as all_asked (each (λ field. true) read start) ≡ asked_joined items (each (λ field. true) read left) → Some f ≡ first_element left → others ≡ other_elements left → item ≡ read f → new ≡ asked_behind items item → read_as all_asked (each (λ field. true) read start) ≡ asked_joined new (each (λ field. true) read others)
 asked_on read start left others items new item f passed e o is more =
     passed ∙ ap (asked_joined items) (first_at (λ field. true) read left f e)
     ∙ sym (asked_behind_joined items (read f) (each (λ field. true) read (other_elements left)))
     ∙ ap (λ n. asked_joined n (each (λ field. true) read (other_elements left))) (ap (asked_behind items) (sym is) ∙ sym more)
     ∙ ap (λ q. asked_joined new (each (λ field. true) read q)) (sym o)
 
-pub ruleset each_steps = (nothing_joined, each_none, each_on, each_skipped, fewer)
+-- ---- as they are read, with want of memory
 
-pub ruleset asked_steps = (nothing_asked, asked_none, asked_on, fewer)
+pub nothing_passed : {A : Type 0} (whole : Result (List A) Refusal) → IsPassed read_joined whole whole (Ok [])
+nothing_passed whole = record { done = Ok []; read = refl; passed = nothing_joined whole }
+
+pub passed_none : {A : Type 0} (wanted : Field → Bool) (read : Field → Result A Refusal) (start left : Forest) (items : Result (List A) FieldFault) → IsPassed read_joined (each wanted read start) (each wanted read left) items → None ≡ first_element left → IsOrMemory (each wanted read start) items
+passed_none wanted read start left items passed e =
+    subst (λ w. IsOrMemory w items) (each_none wanted read start left passed.done passed.passed e) passed.read
+
+pub passed_on : {A : Type 0} (wanted : Field → Bool) (read : Field → Result A Refusal) (start left others : Forest) (items new : Result (List A) FieldFault) (item : Result A FieldFault) (f : Field) → IsPassed read_joined (each wanted read start) (each wanted read left) items → Some f ≡ first_element left → others ≡ other_elements left → wanted f ≡ true → IsOrMemory (read f) item → IsBehind read_behind items item new → IsPassed read_joined (each wanted read start) (each wanted read others) new
+passed_on wanted read start left others items new item f passed e o y is behind =
+    record { done = read_behind passed.done (read f); read = behind passed.done (read f) passed.read is; passed = each_on wanted read start left others passed.done (read_behind passed.done (read f)) (read f) f passed.passed e o y refl refl }
+
+pub passed_skipped : {A : Type 0} (wanted : Field → Bool) (read : Field → Result A Refusal) (start left others : Forest) (items : Result (List A) FieldFault) (f : Field) → IsPassed read_joined (each wanted read start) (each wanted read left) items → Some f ≡ first_element left → others ≡ other_elements left → wanted f ≡ false → IsPassed read_joined (each wanted read start) (each wanted read others) items
+passed_skipped wanted read start left others items f passed e o y =
+    record { done = passed.done; read = passed.read; passed = each_skipped wanted read start left others passed.done f passed.passed e o y }
+
+pub nothing_served : {A : Type 0} (more : Result (List (Asked A)) Refusal) → IsPassed asked_joined (read_as all_asked more) more (Ok (Good []))
+nothing_served more = record { done = Ok (Good []); read = refl; passed = nothing_asked more }
+
+pub served_none : {A : Type 0} (read : Field → Result (Asked A) Refusal) (start left : Forest) (items : Result (Asked (List A)) FieldFault) → IsPassed asked_joined (read_as all_asked (each (λ field. true) read start)) (each (λ field. true) read left) items → None ≡ first_element left → IsOrMemory (read_as all_asked (each (λ field. true) read start)) items
+served_none read start left items passed e =
+    subst (λ w. IsOrMemory w items) (asked_none read start left passed.done passed.passed e) passed.read
+
+pub served_on : {A : Type 0} (read : Field → Result (Asked A) Refusal) (start left others : Forest) (items new : Result (Asked (List A)) FieldFault) (item : Result (Asked A) FieldFault) (f : Field) → IsPassed asked_joined (read_as all_asked (each (λ field. true) read start)) (each (λ field. true) read left) items → Some f ≡ first_element left → others ≡ other_elements left → IsOrMemory (read f) item → IsBehind asked_behind items item new → IsPassed asked_joined (read_as all_asked (each (λ field. true) read start)) (each (λ field. true) read others) new
+served_on read start left others items new item f passed e o is behind =
+    record { done = asked_behind passed.done (read f); read = behind passed.done (read f) passed.read is; passed = asked_on read start left others passed.done (asked_behind passed.done (read f)) (read f) f passed.passed e o refl refl }
+
+pub ruleset each_steps = (nothing_passed, passed_none, passed_on, passed_skipped, fewer)
+
+pub ruleset asked_steps = (nothing_served, served_none, served_on, fewer)

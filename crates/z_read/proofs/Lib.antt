@@ -1,9 +1,11 @@
 pub mod ReadLemmas
 pub mod EachLemmas
 pub mod StructureLemmas
-pub mod RowLemmas
 pub mod OneAnswer
 pub mod SkippedLemmas
 pub mod OneFormLemmas
 pub mod OneFormParts
 pub mod OneFormUnits
+pub mod NumbersRead
+pub mod UnitLemmas
+pub mod RowLemmas

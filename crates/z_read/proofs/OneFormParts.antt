@@ -170,7 +170,7 @@ set_formed : (m : ℕ) (found : Option Field) → set_of (option_map (formed (ki
 set_formed m None = refl
 set_formed m (Some f) = by (has_tag f.tag (universal 6)) refl
   where
-    by : (b : Bool) → has_tag f.tag (universal 6) ≡ b → cond b (oid_of (formed (kind_in m) f)) (Err (Missing 6)) ≡ cond b (oid_of f) (Err (Missing 6))
+    by : (b : Bool) → has_tag f.tag (universal 6) ≡ b → cond b (oid_of (formed (kind_in m) f)) (Err (BadValue f.tag.number)) ≡ cond b (oid_of f) (Err (BadValue f.tag.number))
     by true e = oid_formed (kind_in m) f (subst (λ n. KeepsOctets (kind_in m n)) (sym (same_number (universal 6) f.tag e)) (string m 6 refl))
     by false e = refl
 

@@ -18,7 +18,7 @@ use Rattle.unit_forms.specs.Reading.PresentRequest.{place_in, form_in, present_i
 use Rattle.unit_forms.specs.Reading.Queries.{query_in}
 use Rattle.unit_forms.specs.Reading.Responses.{init_reply_in, counts_in, found_in, search_reply_in, returned_in, presented_in, present_reply_in, scanned_in, scan_reply_in}
 use Rattle.unit_forms.specs.Reading.Rows.{octets_of, bits_of, truth_of, integer_of, number_of, oid_of, context, universal, required, optional, optional_of, within}
-use Rattle.unit_forms.specs.Reading.ScanRequest.{ask_in, scan_in}
+use Rattle.unit_forms.specs.Reading.ScanRequest.{start_in, ask_in, scan_in}
 use Rattle.unit_forms.specs.Reading.SearchRequest.{databases_of, bounds_in, named_in, wanted_in, search_in}
 use Rattle.unit_forms.specs.Reading.Units.{numbered_request, request_of, numbered_reply, reply_of}
 use Rattle.z_read.specs.declared.fault.ReadFault.TheVariants.{Ber, UnknownUnit, Missing, BadValue, LeftOut, Memory}
@@ -113,7 +113,7 @@ abbrev scan_kind : ℕ → Kind
 scan_kind = holding (5 ∷ 7 ∷ []) []
 
 scan_formed : (x : Forest) → scan_in (in_one_form scan_kind x) ≡ scan_in x
-unfolding scan_in ask_in
+unfolding scan_in ask_in start_in
 scan_formed x =
     rw (maybe_octets scan_kind 2 refl x, some_databases scan_kind 3 x, maybe_oid scan_kind (universal 6) refl x, some_start scan_kind x, maybe_number scan_kind 5 refl x, required_formed scan_kind 6 (context 6 ∷ []) number_of (λ f is. number_formed scan_kind f (of_tag (λ m. KeepsInteger (scan_kind m)) (context 6) (λ c. refl) f is)) x, maybe_number scan_kind 7 refl x) refl
 
@@ -163,9 +163,8 @@ scan_reply_formed x =
 abbrev Alike : {A : Type 0} → (ℕ → Kind) → Forest → Forest → A → A → Type 0
 Alike kind x y a b = in_one_form kind x ≡ in_one_form kind y → a ≡ b
 
-alike : {A : Type 0} (kind : ℕ → Kind) (read : Forest → Result A Refusal) → ((x : Forest) → read (in_one_form kind x) ≡ read x) → (tag : Tag) (c d : List ℕ) (x y : Forest) → Alike kind x y (within read (field_of tag c x)) (within read (field_of tag d y))
-alike kind read keeps tag c d x y e =
-    ap (λ v. cond tag.constructed v (Err (refusal.BadValue tag.number))) (sym (keeps x) ∙ ap read e ∙ keeps y)
+alike : {A : Type 0} (kind : ℕ → Kind) (read : Forest → Result A Refusal) → ((x : Forest) → read (in_one_form kind x) ≡ read x) → (x y : Forest) → Alike kind x y (read x) (read y)
+alike kind read keeps x y e = sym (keeps x) ∙ ap read e ∙ keeps y
 
 pick : {A : Type 0} (b : Bool) (s t : ℕ → Kind) (x y : Forest) (f g h k : A) → Alike s x y f h → Alike t x y g k → Alike (cond b s t) x y (cond b f g) (cond b h k)
 pick true s t x y f g h k p q = p
@@ -177,11 +176,11 @@ request_alike tag c d x y = λ e. ap (λ v. cond (tag.class == 2) v (Err (refusa
   where
     numbered : Alike (request_kind tag.number) x y (numbered_request tag.number (field_of tag c x)) (numbered_request tag.number (field_of tag d y))
     numbered =
-        pick (tag.number == 20) init_kind _ x y _ _ _ _ (λ e. ap (read_as request.Init) (alike init_kind init_in init_formed tag c d x y e))
-        (pick (tag.number == 22) search_kind _ x y _ _ _ _ (λ e. ap (read_as request.Search) (alike search_kind search_in search_formed tag c d x y e))
-        (pick (tag.number == 24) present_kind _ x y _ _ _ _ (λ e. ap (read_as request.Present) (alike present_kind present_in present_formed tag c d x y e))
-        (pick (tag.number == 35) scan_kind _ x y _ _ _ _ (λ e. ap (read_as request.Scan) (alike scan_kind scan_in scan_formed tag c d x y e))
-        (λ e. ap (λ v. cond (tag.number == 48) (read_as request.Close v) (Err (refusal.UnknownUnit tag.number))) (alike close_kind close_in close_formed tag c d x y e)))))
+        pick (tag.number == 20) init_kind _ x y _ _ _ _ (λ e. ap (read_as request.Init) (alike init_kind init_in init_formed x y e))
+        (pick (tag.number == 22) search_kind _ x y _ _ _ _ (λ e. ap (read_as request.Search) (alike search_kind search_in search_formed x y e))
+        (pick (tag.number == 24) present_kind _ x y _ _ _ _ (λ e. ap (read_as request.Present) (alike present_kind present_in present_formed x y e))
+        (pick (tag.number == 35) scan_kind _ x y _ _ _ _ (λ e. ap (read_as request.Scan) (alike scan_kind scan_in scan_formed x y e))
+        (λ e. ap (λ v. cond (tag.number == 48) (read_as request.Close v) (Err (refusal.UnknownUnit tag.number))) (alike close_kind close_in close_formed x y e)))))
 
 reply_alike : (tag : Tag) (c d : List ℕ) (x y : Forest) → Alike (reply_kind tag.number) x y (reply_of (field_of tag c x)) (reply_of (field_of tag d y))
 unfolding reply_of
@@ -189,11 +188,11 @@ reply_alike tag c d x y = λ e. ap (λ v. cond (tag.class == 2) v (Err (refusal.
   where
     numbered : Alike (reply_kind tag.number) x y (numbered_reply tag.number (field_of tag c x)) (numbered_reply tag.number (field_of tag d y))
     numbered =
-        pick (tag.number == 21) init_reply_kind _ x y _ _ _ _ (alike init_reply_kind init_reply_in init_reply_formed tag c d x y)
-        (pick (tag.number == 23) search_reply_kind _ x y _ _ _ _ (alike search_reply_kind search_reply_in search_reply_formed tag c d x y)
-        (pick (tag.number == 25) present_reply_kind _ x y _ _ _ _ (alike present_reply_kind present_reply_in present_reply_formed tag c d x y)
-        (pick (tag.number == 36) scan_reply_kind _ x y _ _ _ _ (alike scan_reply_kind scan_reply_in scan_reply_formed tag c d x y)
-        (λ e. ap (λ v. cond (tag.number == 48) (read_as reply.Close v) (Err (refusal.UnknownUnit tag.number))) (alike close_kind close_in close_formed tag c d x y e)))))
+        pick (tag.number == 21) init_reply_kind _ x y _ _ _ _ (alike init_reply_kind init_reply_in init_reply_formed x y)
+        (pick (tag.number == 23) search_reply_kind _ x y _ _ _ _ (alike search_reply_kind search_reply_in search_reply_formed x y)
+        (pick (tag.number == 25) present_reply_kind _ x y _ _ _ _ (alike present_reply_kind present_reply_in present_reply_formed x y)
+        (pick (tag.number == 36) scan_reply_kind _ x y _ _ _ _ (alike scan_reply_kind scan_reply_in scan_reply_formed x y)
+        (λ e. ap (λ v. cond (tag.number == 48) (read_as reply.Close v) (Err (refusal.UnknownUnit tag.number))) (alike close_kind close_in close_formed x y e)))))
 
 -- ---- and units of one form have the same answers
 

@@ -16,8 +16,8 @@ use Rattle.unit_forms.specs.Reading.InitRequest.{init_in, init_response_in}
 use Rattle.unit_forms.specs.Reading.PresentRequest.{place_in, form_in, present_in}
 use Rattle.unit_forms.specs.Reading.Records.{body_in}
 use Rattle.unit_forms.specs.Reading.Responses.{init_reply_in, counts_in, found_in, search_reply_in, returned_in, presented_in, present_reply_in, scanned_in, listing_in, scan_reply_in}
-use Rattle.unit_forms.specs.Reading.Rows.{context, universal, within}
-use Rattle.unit_forms.specs.Reading.ScanRequest.{ask_in, scan_in}
+use Rattle.unit_forms.specs.Reading.Rows.{context, universal}
+use Rattle.unit_forms.specs.Reading.ScanRequest.{start_in, ask_in, scan_in}
 use Rattle.unit_forms.specs.Reading.SearchRequest.{bounds_in, named_in, wanted_in, search_in}
 use Rattle.unit_forms.specs.Reading.Units.{numbered_request, request_of, numbered_reply, reply_of}
 use Rattle.z_fields.proofs.IndexLemmas.{and_both, same_class}
@@ -101,7 +101,7 @@ abbrev scan_tags : List Tag
 scan_tags = universal 6 ∷ contexts (2 ∷ 3 ∷ 102 ∷ 5 ∷ 6 ∷ 7 ∷ [])
 
 scan_kept : (x : Forest) → scan_in (kept scan_tags x) ≡ scan_in x
-unfolding scan_in ask_in
+unfolding scan_in ask_in start_in
 scan_kept x =
     rw (one scan_tags 2 refl x, one scan_tags 3 refl x, first_kept scan_tags (universal 6 ∷ []) refl x, one scan_tags 102 refl x, one scan_tags 5 refl x, one scan_tags 6 refl x, one scan_tags 7 refl x) refl
 
@@ -152,9 +152,8 @@ scan_reply_kept x =
 abbrev Alike : {A : Type 0} → List Tag → Forest → Forest → A → A → Type 0
 Alike tags x y a b = kept tags x ≡ kept tags y → a ≡ b
 
-alike : {A : Type 0} (tags : List Tag) (read : Forest → Result A Refusal) → ((x : Forest) → read (kept tags x) ≡ read x) → (tag : Tag) (c d : List ℕ) (x y : Forest) → Alike tags x y (within read (field_of tag c x)) (within read (field_of tag d y))
-alike tags read keeps tag c d x y e =
-    ap (λ v. cond tag.constructed v (Err (refusal.BadValue tag.number))) (sym (keeps x) ∙ ap read e ∙ keeps y)
+alike : {A : Type 0} (tags : List Tag) (read : Forest → Result A Refusal) → ((x : Forest) → read (kept tags x) ≡ read x) → (x y : Forest) → Alike tags x y (read x) (read y)
+alike tags read keeps x y e = sym (keeps x) ∙ ap read e ∙ keeps y
 
 pick : {A : Type 0} (b : Bool) (s t : List Tag) (x y : Forest) (f g h k : A) → Alike s x y f h → Alike t x y g k → Alike (cond b s t) x y (cond b f g) (cond b h k)
 pick true s t x y f g h k p q = p
@@ -166,11 +165,11 @@ request_alike tag c d x y = λ e. ap (λ v. cond (tag.class == 2) v (Err (refusa
   where
     numbered : Alike (request_tags tag.number) x y (numbered_request tag.number (field_of tag c x)) (numbered_request tag.number (field_of tag d y))
     numbered =
-        pick (tag.number == 20) init_tags _ x y _ _ _ _ (λ e. ap (read_as request.Init) (alike init_tags init_in init_kept tag c d x y e))
-        (pick (tag.number == 22) search_tags _ x y _ _ _ _ (λ e. ap (read_as request.Search) (alike search_tags search_in search_kept tag c d x y e))
-        (pick (tag.number == 24) present_tags _ x y _ _ _ _ (λ e. ap (read_as request.Present) (alike present_tags present_in present_kept tag c d x y e))
-        (pick (tag.number == 35) scan_tags _ x y _ _ _ _ (λ e. ap (read_as request.Scan) (alike scan_tags scan_in scan_kept tag c d x y e))
-        (λ e. ap (λ v. cond (tag.number == 48) (read_as request.Close v) (Err (refusal.UnknownUnit tag.number))) (alike close_tags close_in close_kept tag c d x y e)))))
+        pick (tag.number == 20) init_tags _ x y _ _ _ _ (λ e. ap (read_as request.Init) (alike init_tags init_in init_kept x y e))
+        (pick (tag.number == 22) search_tags _ x y _ _ _ _ (λ e. ap (read_as request.Search) (alike search_tags search_in search_kept x y e))
+        (pick (tag.number == 24) present_tags _ x y _ _ _ _ (λ e. ap (read_as request.Present) (alike present_tags present_in present_kept x y e))
+        (pick (tag.number == 35) scan_tags _ x y _ _ _ _ (λ e. ap (read_as request.Scan) (alike scan_tags scan_in scan_kept x y e))
+        (λ e. ap (λ v. cond (tag.number == 48) (read_as request.Close v) (Err (refusal.UnknownUnit tag.number))) (alike close_tags close_in close_kept x y e)))))
 
 reply_alike : (tag : Tag) (c d : List ℕ) (x y : Forest) → Alike (reply_tags tag.number) x y (reply_of (field_of tag c x)) (reply_of (field_of tag d y))
 unfolding reply_of
@@ -178,11 +177,11 @@ reply_alike tag c d x y = λ e. ap (λ v. cond (tag.class == 2) v (Err (refusal.
   where
     numbered : Alike (reply_tags tag.number) x y (numbered_reply tag.number (field_of tag c x)) (numbered_reply tag.number (field_of tag d y))
     numbered =
-        pick (tag.number == 21) init_reply_tags _ x y _ _ _ _ (alike init_reply_tags init_reply_in init_reply_kept tag c d x y)
-        (pick (tag.number == 23) search_reply_tags _ x y _ _ _ _ (alike search_reply_tags search_reply_in search_reply_kept tag c d x y)
-        (pick (tag.number == 25) present_reply_tags _ x y _ _ _ _ (alike present_reply_tags present_reply_in present_reply_kept tag c d x y)
-        (pick (tag.number == 36) scan_reply_tags _ x y _ _ _ _ (alike scan_reply_tags scan_reply_in scan_reply_kept tag c d x y)
-        (λ e. ap (λ v. cond (tag.number == 48) (read_as reply.Close v) (Err (refusal.UnknownUnit tag.number))) (alike close_tags close_in close_kept tag c d x y e)))))
+        pick (tag.number == 21) init_reply_tags _ x y _ _ _ _ (alike init_reply_tags init_reply_in init_reply_kept x y)
+        (pick (tag.number == 23) search_reply_tags _ x y _ _ _ _ (alike search_reply_tags search_reply_in search_reply_kept x y)
+        (pick (tag.number == 25) present_reply_tags _ x y _ _ _ _ (alike present_reply_tags present_reply_in present_reply_kept x y)
+        (pick (tag.number == 36) scan_reply_tags _ x y _ _ _ _ (alike scan_reply_tags scan_reply_in scan_reply_kept x y)
+        (λ e. ap (λ v. cond (tag.number == 48) (read_as reply.Close v) (Err (refusal.UnknownUnit tag.number))) (alike close_tags close_in close_kept x y e)))))
 
 -- ---- and units with the same fields have the same answers
 

@@ -1,10 +1,13 @@
 -- What is true of every reading of units; the functions in src/laws.rt cite it (ANSI/NISO Z39.50-2003, the ASN.1 of its APDUs).
-use Rattle.std.specs.Prelude.{◌≡◌, ◌≢◌, ℕ, List, [], ◌∷◌, ◌==◌, Result, Err, if◌then◌else◌}
+use Rattle.std.specs.Prelude.{◌≡◌, ◌≢◌, ℕ, List, [], ◌∷◌, ◌==◌, Result, Ok, Err, if◌then◌else◌}
+use Rattle.z_types.specs.Numbers.{HasNumbersInRange}
+use Rattle.z_types.specs.declared.requests.Request.{Request}
 use Rattle.z_ber.specs.declared.tag.Tag.{Tag}
 use Rattle.z_ber.specs.Element.{Forest, none, leaf, branch}
 use Rattle.z_ber.specs.Place.{IsUnit}
 use Rattle.unit_forms.specs.Reading.Elements.{is_one_of}
 use Rattle.unit_forms.specs.Reading.Rows.{context, universal}
+use Rattle.unit_forms.specs.Reading.Units.{request_in}
 use Rattle.z_read.specs.declared.fault.ReadFault.{ReadFault}
 use Rattle.z_read.specs.declared.fault.ReadFault.TheVariants.{Memory}
 use Rattle.unit_forms.specs.Tags as numbers
@@ -155,3 +158,8 @@ pub record HaveSameFields (tags : ℕ → List Tag) (a b : List ℕ) : Type 0 wh
 abbrev pub SkippedChangeNothing : {A : Type 0} → (ℕ → List Tag) → (List ℕ → Result A ReadFault → Type 0) → Type 0
 SkippedChangeNothing {A} tags IsRead =
     (a b : List ℕ) (answer : Result A ReadFault) → HaveSameFields tags a b → IsRead a answer → IsRead b answer
+
+-- the numbers of every request that a unit's tree is read as are in the ranges of their fields
+abbrev pub ReadRequestsHaveNumbers : Type 0
+ReadRequestsHaveNumbers =
+    (tree : Forest) (request : Request) → request_in tree ≡ Ok request → HasNumbersInRange request

@@ -6,77 +6,73 @@ ghost use Rattle.unit_forms.specs.Reading.Answers.{read_as, each, all_asked};
 ghost use Rattle.unit_forms.specs.Reading.Elements.{first_of};
 ghost use Rattle.unit_forms.specs.Reading.Rows.{context as context_tag, required, required_of};
 ghost use Rattle.unit_forms.specs.Reading.Attributes.{value_of, value_choice, attr_in, attr_of, attrs_of, term_of, term_choice, is_attributes_first, operand_asked, attrs_and_term_in};
-ghost use Rattle.z_read.specs.Parts.{put_asked, asked_behind};
+ghost use Rattle.z_read.specs.Parts.{served_behind, asked_behind, IsBehind};
+ghost use Rattle.z_fields.specs.Answers.{IsOrMemory};
 
 use crate::diagnostics::other_form;
 use std::alloc::Global;
-use unit_forms::{Refusal, tags};
+use unit_forms::tags;
 use z_ber::Tag;
 use z_fields::{
-    Elements, Field, Fields, both, context, has_tag, integer_of, number_of, octets_of,
+    Elements, Field, FieldFault, Fields, both, context, has_tag, integer_of, number_of, octets_of,
     optional_oid, required_number, universal,
 };
 use z_types::{Asked, Attr, List, Memory, Term};
 
 /// A numeric value, or a complex one, which is not served.
-fn value_of(alloc: Global, field: &Field<'_>) -> Result<Result<Asked<u32>, Refusal>, Memory>
-    ensures { IfOk result (λ read. read ≡ value_of field.now) }
+fn value_of(alloc: Global, field: &Field<'_>) -> Result<Asked<u32>, FieldFault>
+    ensures { IsOrMemory (value_of field.now) result }
 {
     if field.tag().number == tags::ATTRIBUTE_VALUE_COMPLEX {
-        return Ok(Ok(Asked::Bad(other_form(alloc, tags::ATTRIBUTE_VALUE_COMPLEX)?)));
+        return Ok(Asked::Bad(other_form(alloc, tags::ATTRIBUTE_VALUE_COMPLEX)?));
     }
-    match number_of(field) {
-        Ok(value) => Ok(Ok(Asked::Good(value))),
-        Err(refusal) => Ok(Err(refusal)),
-    }
+    Ok(Asked::Good(number_of(field)?))
 }
 
 /// The value of an attribute.
-fn value_in(alloc: Global, fields: &Fields<'_>) -> Result<Result<Asked<u32>, Refusal>, Memory>
-    ensures { IfOk result (λ read. read
-        ≡ required_of numbers.attribute_value_numeric value_choice value_of fields.now) }
+fn value_in(alloc: Global, fields: &Fields<'_>) -> Result<Asked<u32>, FieldFault>
+    ensures { IsOrMemory
+        (required_of numbers.attribute_value_numeric value_choice value_of fields.now) result }
 {
     match fields.first_of(&[
         context(tags::ATTRIBUTE_VALUE_NUMERIC),
         context(tags::ATTRIBUTE_VALUE_COMPLEX),
     ]) {
         Some(field) => value_of(alloc, &field),
-        None => Ok(Err(Refusal::Missing(tags::ATTRIBUTE_VALUE_NUMERIC))),
+        None => Err(FieldFault::missing(tags::ATTRIBUTE_VALUE_NUMERIC)),
     }
 }
 
 /// The attribute of these fields.
-#[tactic(auto, unfolding(unit_forms::specs::Reading::Attributes::attr_in))]
-fn attr_in(alloc: Global, fields: &Fields<'_>) -> Result<Result<Asked<Attr>, Refusal>, Memory>
-    ensures { IfOk result (λ read. read ≡ attr_in fields.now) }
+#[tactic(auto, using(z_fields::proofs::AnswerLemmas::rows), unfolding(unit_forms::specs::Reading::Attributes::attr_in))]
+fn attr_in(alloc: Global, fields: &Fields<'_>) -> Result<Asked<Attr>, FieldFault>
+    ensures { IsOrMemory (attr_in fields.now) result }
 {
-    let set = optional_oid(alloc, fields, context(tags::ATTRIBUTE_SET))?;
+    let set = optional_oid(alloc, fields, context(tags::ATTRIBUTE_SET));
     let kind = required_number(fields, tags::ATTRIBUTE_TYPE);
-    let value = value_in(alloc, fields)?;
-    match both(set, both(kind, value)) {
-        Ok((set, (kind, value))) => match value {
-            Asked::Good(value) => Ok(Ok(Asked::Good(Attr { set, kind, value }))),
-            Asked::Bad(diag) => Ok(Ok(Asked::Bad(diag))),
-        },
-        Err(refusal) => Ok(Err(refusal)),
+    let value = value_in(alloc, fields);
+    let (set, (kind, value)) = both(set, both(kind, value))?;
+    match value {
+        Asked::Good(value) => Ok(Asked::Good(Attr { set, kind, value })),
+        Asked::Bad(diag) => Ok(Asked::Bad(diag)),
     }
 }
 
 /// An attribute, which is a SEQUENCE.
-fn attr_of(alloc: Global, field: &Field<'_>) -> Result<Result<Asked<Attr>, Refusal>, Memory>
-    ensures { IfOk result (λ read. read ≡ attr_of field.now) }
+fn attr_of(alloc: Global, field: &Field<'_>) -> Result<Asked<Attr>, FieldFault>
+    ensures { IsOrMemory (attr_of field.now) result }
 {
     let tag = field.tag();
     if has_tag(tag, universal(tags::SEQUENCE)) && tag.constructed {
         attr_in(alloc, &Fields::of(alloc, field))
     } else {
-        Ok(Err(Refusal::BadValue(tag.number)))
+        Err(FieldFault::bad_value(tag.number))
     }
 }
 
-/// Puts an attribute behind others, where all are served.
-fn put_asked(attrs: Asked<List<Attr>>, attr: Asked<Attr>) -> Result<Asked<List<Attr>>, Memory>
-    ensures { IfOk result (λ asked. asked ≡ put_asked (attrs, attr)) }
+/// An attribute behind others, where all are served.
+fn served_behind(attrs: Asked<List<Attr>>, attr: Asked<Attr>) -> Result<Asked<List<Attr>>, Memory>
+    ensures { IfOk result (λ asked. asked ≡ served_behind (attrs, attr)) }
 {
     match attrs {
         Asked::Good(mut attrs) => match attr {
@@ -90,35 +86,30 @@ fn put_asked(attrs: Asked<List<Attr>>, attr: Asked<Attr>) -> Result<Asked<List<A
     }
 }
 
-/// Puts an attribute behind others, where all are read.
-fn put_attr(
-    attrs: Result<Asked<List<Attr>>, Refusal>,
-    attr: Result<Asked<Attr>, Refusal>,
-) -> Result<Result<Asked<List<Attr>>, Refusal>, Memory>
-    ensures { IfOk result (λ read. read ≡ asked_behind attrs attr) }
+/// An attribute behind others, where all are read.
+#[tactic(auto, using(z_fields::proofs::AnswerLemmas::rows))]
+fn attr_behind(
+    attrs: Result<Asked<List<Attr>>, FieldFault>,
+    attr: Result<Asked<Attr>, FieldFault>,
+) -> Result<Asked<List<Attr>>, FieldFault>
+    ensures { IsBehind asked_behind attrs attr result }
 {
-    match both(attrs, attr) {
-        Ok((attrs, attr)) => Ok(Ok(put_asked(attrs, attr)?)),
-        Err(refusal) => Ok(Err(refusal)),
-    }
+    let (attrs, attr) = both(attrs, attr)?;
+    Ok(served_behind(attrs, attr)?)
 }
 
 /// The attributes that elements are, each of them.
 #[tactic(auto, using(crate::proofs::EachLemmas::asked_steps))]
-fn every_attr(
-    alloc: Global,
-    mut elements: Elements<'_>,
-) -> Result<Result<Asked<List<Attr>>, Refusal>, Memory>
-    ensures { IfOk result
-        (λ read. read ≡ read_as all_asked (each (λ field. true) attr_of elements.entry)) }
+fn every_attr(alloc: Global, mut elements: Elements<'_>) -> Result<Asked<List<Attr>>, FieldFault>
+    ensures { IsOrMemory (read_as all_asked (each (λ field. true) attr_of elements.entry)) result }
 {
     let mut attrs = Ok(Asked::Good(List::new(alloc)));
     loop {
         match elements.next() {
-            None => return Ok(attrs),
+            None => return attrs,
             Some(field) => {
-                let attr = attr_of(alloc, &field)?;
-                attrs = put_attr(attrs, attr)?;
+                let attr = attr_of(alloc, &field);
+                attrs = attr_behind(attrs, attr);
             }
         }
     }
@@ -126,21 +117,18 @@ fn every_attr(
 
 /// A list of attributes, which has to be there.
 #[tactic(auto, unfolding(unit_forms::specs::Reading::Attributes::attrs_in))]
-fn required_attrs(
-    alloc: Global,
-    fields: &Fields<'_>,
-) -> Result<Result<Asked<List<Attr>>, Refusal>, Memory>
-    ensures { IfOk result (λ read. read ≡ required numbers.attribute_list attrs_of fields.now) }
+fn required_attrs(alloc: Global, fields: &Fields<'_>) -> Result<Asked<List<Attr>>, FieldFault>
+    ensures { IsOrMemory (required numbers.attribute_list attrs_of fields.now) result }
 {
     match fields.first_of(&[context(tags::ATTRIBUTE_LIST)]) {
         Some(field) => {
             if field.tag().constructed {
                 every_attr(alloc, field.elements())
             } else {
-                Ok(Err(Refusal::BadValue(field.tag().number)))
+                Err(FieldFault::bad_value(field.tag().number))
             }
         }
-        None => Ok(Err(Refusal::Missing(tags::ATTRIBUTE_LIST))),
+        None => Err(FieldFault::missing(tags::ATTRIBUTE_LIST)),
     }
 }
 
@@ -161,39 +149,29 @@ pub fn term_choice() -> [Tag; 8]
 }
 
 /// A term, of a form that is served or another.
-fn term_of(alloc: Global, field: &Field<'_>) -> Result<Result<Asked<Term>, Refusal>, Memory>
-    ensures { IfOk result (λ read. read ≡ term_of field.now) }
+fn term_of(alloc: Global, field: &Field<'_>) -> Result<Asked<Term>, FieldFault>
+    ensures { IsOrMemory (term_of field.now) result }
 {
     let number = field.tag().number;
     if number == tags::GENERAL_TERM {
-        return match octets_of(alloc, field)? {
-            Ok(octets) => Ok(Ok(Asked::Good(Term::General(octets)))),
-            Err(refusal) => Ok(Err(refusal)),
-        };
+        return Ok(Asked::Good(Term::General(octets_of(alloc, field)?)));
     }
     if number == tags::NUMERIC_TERM {
-        return match integer_of(field) {
-            Ok(value) => Ok(Ok(Asked::Good(Term::Number(value)))),
-            Err(refusal) => Ok(Err(refusal)),
-        };
+        return Ok(Asked::Good(Term::Number(integer_of(field)?)));
     }
     if number == tags::CHARACTER_STRING_TERM {
-        return match octets_of(alloc, field)? {
-            Ok(octets) => Ok(Ok(Asked::Good(Term::Words(octets)))),
-            Err(refusal) => Ok(Err(refusal)),
-        };
+        return Ok(Asked::Good(Term::Words(octets_of(alloc, field)?)));
     }
-    Ok(Ok(Asked::Bad(other_form(alloc, number)?)))
+    Ok(Asked::Bad(other_form(alloc, number)?))
 }
 
 /// A term, which has to be there.
-fn required_term(alloc: Global, fields: &Fields<'_>) -> Result<Result<Asked<Term>, Refusal>, Memory>
-    ensures { IfOk result (λ read. read
-        ≡ required_of numbers.general_term term_choice term_of fields.now) }
+fn required_term(alloc: Global, fields: &Fields<'_>) -> Result<Asked<Term>, FieldFault>
+    ensures { IsOrMemory (required_of numbers.general_term term_choice term_of fields.now) result }
 {
     match fields.first_of(&term_choice()) {
         Some(field) => term_of(alloc, &field),
-        None => Ok(Err(Refusal::Missing(tags::GENERAL_TERM))),
+        None => Err(FieldFault::missing(tags::GENERAL_TERM)),
     }
 }
 
@@ -238,17 +216,15 @@ fn operand_asked(
 }
 
 /// The attributes and the term of these fields.
-#[tactic(auto, unfolding(unit_forms::specs::Reading::Attributes::attrs_and_term_in))]
+#[tactic(auto, using(z_fields::proofs::AnswerLemmas::rows), unfolding(unit_forms::specs::Reading::Attributes::attrs_and_term_in))]
 pub fn attrs_and_term_in(
     alloc: Global,
     fields: &Fields<'_>,
-) -> Result<Result<Asked<(List<Attr>, Term)>, Refusal>, Memory>
-    ensures { IfOk result (λ read. read ≡ attrs_and_term_in fields.now) }
+) -> Result<Asked<(List<Attr>, Term)>, FieldFault>
+    ensures { IsOrMemory (attrs_and_term_in fields.now) result }
 {
-    let attrs = required_attrs(alloc, fields)?;
-    let term = required_term(alloc, fields)?;
-    match both(attrs, term) {
-        Ok((attrs, term)) => Ok(Ok(operand_asked(fields, attrs, term))),
-        Err(refusal) => Ok(Err(refusal)),
-    }
+    let attrs = required_attrs(alloc, fields);
+    let term = required_term(alloc, fields);
+    let (attrs, term) = both(attrs, term)?;
+    Ok(operand_asked(fields, attrs, term))
 }

@@ -5,65 +5,64 @@ ghost use Rattle.std.specs.Fmt.{decimal};
 ghost use Rattle.unit_forms.specs.Tags as numbers;
 ghost use Rattle.unit_forms.specs.Reading.Rows.{octets_of as octets_in_field, number_of as number_in_field, universal as universal_tag, required_of, required_universal};
 ghost use Rattle.unit_forms.specs.Reading.Diagnostics.{diag_in, diag_of, other_query_type, other_form, proximity, specific_names, complex_composition, additional_ranges};
+ghost use Rattle.z_fields.specs.Answers.{IsOrMemory, told};
 
 use crate::each::Part;
 use std::alloc::Global;
-use unit_forms::{Refusal, tags};
-use z_fields::{Field, Fields, both, number_of, octets_of, required_oid, universal};
+use unit_forms::tags;
+use z_fields::{Field, FieldFault, Fields, both, number_of, octets_of, required_oid, universal};
 use z_types::{Condition, Diag, Memory, Text};
 
 /// The condition of a diagnostic.
-fn condition_in(fields: &Fields<'_>) -> Result<u32, Refusal>
-    ensures { result ≡ required_universal numbers.integer number_in_field fields.now }
+fn condition_in(fields: &Fields<'_>) -> Result<u32, FieldFault>
+    ensures { result ≡ told (required_universal numbers.integer number_in_field fields.now) }
 {
     match fields.first_of(&[universal(tags::INTEGER)]) {
         Some(field) => number_of(&field),
-        None => Err(Refusal::Missing(tags::INTEGER)),
+        None => Err(FieldFault::missing(tags::INTEGER)),
     }
 }
 
 /// The additional information, a VisibleString or a GeneralString.
-fn addinfo_in(alloc: Global, fields: &Fields<'_>) -> Result<Result<Text, Refusal>, Memory>
-    ensures { IfOk result (λ read. read ≡ required_of numbers.general_string
+fn addinfo_in(alloc: Global, fields: &Fields<'_>) -> Result<Text, FieldFault>
+    ensures { IsOrMemory (required_of numbers.general_string
         (universal_tag numbers.visible_string ∷ universal_tag numbers.general_string ∷ [])
-        octets_in_field fields.now) }
+        octets_in_field fields.now) result }
 {
     match fields.first_of(&[
         universal(tags::VISIBLE_STRING),
         universal(tags::GENERAL_STRING),
     ]) {
         Some(field) => octets_of(alloc, &field),
-        None => Ok(Err(Refusal::Missing(tags::GENERAL_STRING))),
+        None => Err(FieldFault::missing(tags::GENERAL_STRING)),
     }
 }
 
 /// The diagnostic of these fields.
-#[tactic(auto, unfolding(unit_forms::specs::Reading::Diagnostics::diag_in))]
-fn diag_in(alloc: Global, fields: &Fields<'_>) -> Result<Result<Diag, Refusal>, Memory>
-    ensures { IfOk result (λ read. read ≡ diag_in fields.now) }
+#[tactic(auto, using(z_fields::proofs::AnswerLemmas::rows), unfolding(unit_forms::specs::Reading::Diagnostics::diag_in))]
+fn diag_in(alloc: Global, fields: &Fields<'_>) -> Result<Diag, FieldFault>
+    ensures { IsOrMemory (diag_in fields.now) result }
 {
-    let set = required_oid(alloc, fields)?;
+    let set = required_oid(alloc, fields);
     let condition = condition_in(fields);
-    let addinfo = addinfo_in(alloc, fields)?;
-    match both(set, both(condition, addinfo)) {
-        Ok((set, (condition, addinfo))) => Ok(Ok(Diag {
-            set,
-            condition,
-            addinfo,
-        })),
-        Err(refusal) => Ok(Err(refusal)),
-    }
+    let addinfo = addinfo_in(alloc, fields);
+    let (set, (condition, addinfo)) = both(set, both(condition, addinfo))?;
+    Ok(Diag {
+        set,
+        condition,
+        addinfo,
+    })
 }
 
 /// A diagnostic, in its own tag or another.
-pub fn diag_of(alloc: Global, field: &Field<'_>) -> Result<Result<Diag, Refusal>, Memory>
-    ensures { IfOk result (λ read. read ≡ diag_of field.now) }
+pub fn diag_of(alloc: Global, field: &Field<'_>) -> Result<Diag, FieldFault>
+    ensures { IsOrMemory (diag_of field.now) result }
 {
     let tag = field.tag();
     if tag.constructed {
         diag_in(alloc, &Fields::of(alloc, field))
     } else {
-        Ok(Err(Refusal::BadValue(tag.number)))
+        Err(FieldFault::bad_value(tag.number))
     }
 }
 
@@ -72,7 +71,7 @@ impl Part for Diag {
 
     ghost reading = { diag_of_field };
 
-    fn read(alloc: Global, field: &Field<'_>) -> Result<Result<Diag, Refusal>, Memory> {
+    fn read(alloc: Global, field: &Field<'_>) -> Result<Diag, FieldFault> {
         diag_of(alloc, field)
     }
 }

@@ -1,36 +1,33 @@
 //! Element set names (ANSI/NISO Z39.50-2003, ElementSetNames), and the composition that a Present asks for.
 
-ghost use Rattle.std.specs.Prelude.{◌≡◌, IfOk};
 ghost use Rattle.unit_forms.specs.Reading.Rows.{optional};
 ghost use Rattle.unit_forms.specs.Reading.ElementNames.{name_of, names_in, names_of, composition_of, composition_or_none, composition_in};
+ghost use Rattle.z_fields.specs.Answers.{IsOrMemory};
 
 use crate::diagnostics::{additional_ranges, complex_composition, specific_names};
 use std::alloc::Global;
-use unit_forms::{Refusal, tags};
-use z_fields::{Field, Fields, context, octets_of};
-use z_types::{Asked, Memory, Text};
+use unit_forms::tags;
+use z_fields::{Field, FieldFault, Fields, context, octets_of};
+use z_types::{Asked, Text};
 
 /// A generic name, or names by database, which are not served.
-fn name_of(alloc: Global, field: &Field<'_>) -> Result<Result<Asked<Text>, Refusal>, Memory>
-    ensures { IfOk result (λ read. read ≡ name_of field.now) }
+fn name_of(alloc: Global, field: &Field<'_>) -> Result<Asked<Text>, FieldFault>
+    ensures { IsOrMemory (name_of field.now) result }
 {
     if field.tag().number != tags::GENERIC_ELEMENT_SET_NAME {
-        return Ok(Ok(Asked::Bad(specific_names(alloc)?)));
+        return Ok(Asked::Bad(specific_names(alloc)?));
     }
-    match octets_of(alloc, field)? {
-        Ok(name) => Ok(Ok(Asked::Good(name))),
-        Err(refusal) => Ok(Err(refusal)),
-    }
+    Ok(Asked::Good(octets_of(alloc, field)?))
 }
 
 /// Element set names, around one of the two.
 #[tactic(auto, unfolding(unit_forms::specs::Reading::ElementNames::names_in))]
-fn names_of(alloc: Global, field: &Field<'_>) -> Result<Result<Asked<Text>, Refusal>, Memory>
-    ensures { IfOk result (λ read. read ≡ names_of field.now) }
+fn names_of(alloc: Global, field: &Field<'_>) -> Result<Asked<Text>, FieldFault>
+    ensures { IsOrMemory (names_of field.now) result }
 {
     let tag = field.tag();
     if !tag.constructed {
-        return Ok(Err(Refusal::BadValue(tag.number)));
+        return Err(FieldFault::bad_value(tag.number));
     }
     let choice = [
         context(tags::GENERIC_ELEMENT_SET_NAME),
@@ -38,7 +35,7 @@ fn names_of(alloc: Global, field: &Field<'_>) -> Result<Result<Asked<Text>, Refu
     ];
     match field.elements().first_of(&choice) {
         Some(name) => name_of(alloc, &name),
-        None => Ok(Err(Refusal::Missing(tags::GENERIC_ELEMENT_SET_NAME))),
+        None => Err(FieldFault::missing(tags::GENERIC_ELEMENT_SET_NAME)),
     }
 }
 
@@ -47,32 +44,25 @@ pub fn optional_names(
     alloc: Global,
     fields: &Fields<'_>,
     number: u32,
-) -> Result<Result<Option<Asked<Text>>, Refusal>, Memory>
-    ensures { IfOk result (λ read. read ≡ optional number names_of fields.now) }
+) -> Result<Option<Asked<Text>>, FieldFault>
+    ensures { IsOrMemory (optional number names_of fields.now) result }
 {
     match fields.first_of(&[context(number)]) {
-        Some(field) => match names_of(alloc, &field)? {
-            Ok(names) => Ok(Ok(Some(names))),
-            Err(refusal) => Ok(Err(refusal)),
-        },
-        None => Ok(Ok(None)),
+        Some(field) => Ok(Some(names_of(alloc, &field)?)),
+        None => Ok(None),
     }
 }
 
 /// A simple composition, or a complex one, which is not served.
-fn composition_of(
-    alloc: Global,
-    field: &Field<'_>,
-) -> Result<Result<Asked<Option<Text>>, Refusal>, Memory>
-    ensures { IfOk result (λ read. read ≡ composition_of field.now) }
+fn composition_of(alloc: Global, field: &Field<'_>) -> Result<Asked<Option<Text>>, FieldFault>
+    ensures { IsOrMemory (composition_of field.now) result }
 {
     if field.tag().number != tags::RECORD_COMPOSITION_SIMPLE {
-        return Ok(Ok(Asked::Bad(complex_composition(alloc)?)));
+        return Ok(Asked::Bad(complex_composition(alloc)?));
     }
     match names_of(alloc, field)? {
-        Ok(Asked::Good(name)) => Ok(Ok(Asked::Good(Some(name)))),
-        Ok(Asked::Bad(diag)) => Ok(Ok(Asked::Bad(diag))),
-        Err(refusal) => Ok(Err(refusal)),
+        Asked::Good(name) => Ok(Asked::Good(Some(name))),
+        Asked::Bad(diag) => Ok(Asked::Bad(diag)),
     }
 }
 
@@ -80,32 +70,27 @@ fn composition_of(
 fn composition_or_none(
     alloc: Global,
     found: Option<Field<'_>>,
-) -> Result<Result<Asked<Option<Text>>, Refusal>, Memory>
-    ensures { IfOk result (λ read. read ≡ composition_or_none found.entry) }
+) -> Result<Asked<Option<Text>>, FieldFault>
+    ensures { IsOrMemory (composition_or_none found.entry) result }
 {
     match found {
         Some(field) => composition_of(alloc, &field),
-        None => Ok(Ok(Asked::Good(None))),
+        None => Ok(Asked::Good(None)),
     }
 }
 
 /// The composition that these fields ask for; additional ranges are not served.
 #[tactic(auto, unfolding(unit_forms::specs::Reading::ElementNames::composition_in))]
-pub fn composition_in(
-    alloc: Global,
-    fields: &Fields<'_>,
-) -> Result<Result<Asked<Option<Text>>, Refusal>, Memory>
-    ensures { IfOk result (λ read. read ≡ composition_in fields.now) }
+pub fn composition_in(alloc: Global, fields: &Fields<'_>) -> Result<Asked<Option<Text>>, FieldFault>
+    ensures { IsOrMemory (composition_in fields.now) result }
 {
     let found = fields.first_of(&[
         context(tags::RECORD_COMPOSITION_SIMPLE),
         context(tags::RECORD_COMPOSITION_COMPLEX),
     ]);
-    match composition_or_none(alloc, found)? {
-        Ok(composition) => match fields.first_of(&[context(tags::ADDITIONAL_RANGES)]) {
-            Some(_) => Ok(Ok(Asked::Bad(additional_ranges(alloc)?))),
-            None => Ok(Ok(composition)),
-        },
-        Err(refusal) => Ok(Err(refusal)),
+    let composition = composition_or_none(alloc, found)?;
+    match fields.first_of(&[context(tags::ADDITIONAL_RANGES)]) {
+        Some(_) => Ok(Asked::Bad(additional_ranges(alloc)?)),
+        None => Ok(composition),
     }
 }

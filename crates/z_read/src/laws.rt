@@ -1,7 +1,7 @@
 //! What is true of every reading of units. These functions do nothing; what they ensure is the law.
 
 ghost use Rattle.z_types.specs.OneValue.{HasOneReading};
-ghost use Rattle.z_read.specs.Laws.{IsAnswer, SkippedChangeNothing, request_tags, reply_tags};
+ghost use Rattle.z_read.specs.Laws.{IsAnswer, ReadRequestsHaveNumbers, SkippedChangeNothing, request_tags, reply_tags};
 ghost use Rattle.z_read.specs.OneForm.{FormChangesNothing, request_kind, reply_kind};
 ghost use Rattle.z_read.specs.Read.{IsRequestRead, IsReplyRead};
 
@@ -23,4 +23,10 @@ pub fn skipped_elements()
 pub fn one_form()
     ensures request { FormChangesNothing request_kind IsRequestRead }
     ensures reply { FormChangesNothing reply_kind IsReplyRead }
+{}
+
+/// The numbers of a request that is read are in the ranges of their fields: types and values of
+/// attributes too are at most 2147483647.
+pub fn numbers_in_range()
+    ensures { ReadRequestsHaveNumbers }
 {}

@@ -20,5 +20,5 @@ mod search_request;
 mod units;
 
 pub use fault::ReadFault;
-pub use laws::{one_answer, one_form, skipped_elements};
-pub use units::{read_reply, read_request};
+pub use laws::{numbers_in_range, one_answer, one_form, skipped_elements};
+pub use units::{read_reply, read_request, read_unit};

@@ -1,22 +1,23 @@
 //! A Search (ANSI/NISO Z39.50-2003, SearchRequest).
 
-ghost use Rattle.std.specs.Prelude.{◌≡◌, IfOk};
+ghost use Rattle.std.specs.Prelude.{◌≡◌};
 ghost use Rattle.unit_forms.specs.Tags as numbers;
-ghost use Rattle.unit_forms.specs.Reading.Answers.{read_as};
+ghost use Rattle.unit_forms.specs.Reading.Answers.{◌⊗◌};
 ghost use Rattle.unit_forms.specs.Reading.Rows.{oid_of, required, optional, within};
 ghost use Rattle.unit_forms.specs.Reading.Queries.{query_in};
 ghost use Rattle.unit_forms.specs.Reading.SearchRequest.{name_in, with_names, bounds_in, named_in, wanted_in, as_search, search_in};
+ghost use Rattle.z_fields.specs.Answers.{IsOrMemory};
 
 use crate::element_names::optional_names;
 use crate::lists::required_databases;
 use crate::queries::query_in;
 use std::alloc::Global;
-use unit_forms::{Refusal, tags};
+use unit_forms::tags;
 use z_fields::{
-    Fields, both, context, optional_octets, optional_oid, required_flag, required_number,
-    required_octets,
+    FieldFault, Fields, both, context, optional_octets, optional_oid, required_flag,
+    required_number, required_octets,
 };
-use z_types::{Asked, List, Memory, Oid, RpnQuery, Search, Text};
+use z_types::{Asked, List, Oid, RpnQuery, Search, Text};
 
 /// The referenceId, and the three bounds.
 type Bounds = (Option<Text>, (u32, (u32, u32)));
@@ -34,69 +35,61 @@ type Wanted = (
 type Parts = (Bounds, (Named, Wanted));
 
 /// The referenceId and the bounds of a Search.
-#[tactic(auto, unfolding(unit_forms::specs::Reading::SearchRequest::bounds_in))]
-fn bounds_in(alloc: Global, fields: &Fields<'_>) -> Result<Result<Bounds, Refusal>, Memory>
-    ensures { IfOk result (λ read. read ≡ bounds_in fields.now) }
+#[tactic(auto, using(z_fields::proofs::AnswerLemmas::rows), unfolding(unit_forms::specs::Reading::SearchRequest::bounds_in))]
+fn bounds_in(alloc: Global, fields: &Fields<'_>) -> Result<Bounds, FieldFault>
+    ensures { IsOrMemory (bounds_in fields.now) result }
 {
-    let ref_id = optional_octets(alloc, fields, tags::REFERENCE_ID)?;
+    let ref_id = optional_octets(alloc, fields, tags::REFERENCE_ID);
     let small = required_number(fields, tags::SMALL_SET_UPPER_BOUND);
     let large = required_number(fields, tags::LARGE_SET_LOWER_BOUND);
     let medium = required_number(fields, tags::MEDIUM_SET_PRESENT_NUMBER);
-    Ok(both(ref_id, both(small, both(large, medium))))
+    both(ref_id, both(small, both(large, medium)))
 }
 
 /// The result set and the databases of a Search.
-#[tactic(auto, unfolding(unit_forms::specs::Reading::SearchRequest::named_in))]
-fn named_in(alloc: Global, fields: &Fields<'_>) -> Result<Result<Named, Refusal>, Memory>
-    ensures { IfOk result (λ read. read ≡ named_in fields.now) }
+#[tactic(auto, using(z_fields::proofs::AnswerLemmas::rows), unfolding(unit_forms::specs::Reading::SearchRequest::named_in))]
+fn named_in(alloc: Global, fields: &Fields<'_>) -> Result<Named, FieldFault>
+    ensures { IsOrMemory (named_in fields.now) result }
 {
     let replace = required_flag(fields, tags::REPLACE_INDICATOR);
-    let set_name = required_octets(alloc, fields, tags::RESULT_SET_NAME)?;
-    let dbs = required_databases(alloc, fields, tags::DATABASE_NAMES)?;
-    Ok(both(replace, both(set_name, dbs)))
+    let set_name = required_octets(alloc, fields, tags::RESULT_SET_NAME);
+    let dbs = required_databases(alloc, fields, tags::DATABASE_NAMES);
+    both(replace, both(set_name, dbs))
 }
 
 /// The query, which has to be there.
-fn required_query(
-    alloc: Global,
-    fields: &Fields<'_>,
-) -> Result<Result<Asked<RpnQuery>, Refusal>, Memory>
-    ensures { IfOk result (λ read. read
-        ≡ required numbers.query (within query_in) fields.now) }
+fn required_query(alloc: Global, fields: &Fields<'_>) -> Result<Asked<RpnQuery>, FieldFault>
+    ensures { IsOrMemory (required numbers.query (within query_in) fields.now) result }
 {
     match fields.first_of(&[context(tags::QUERY)]) {
         Some(field) => {
             if field.tag().constructed {
                 query_in(alloc, field.elements())
             } else {
-                Ok(Err(Refusal::BadValue(field.tag().number)))
+                Err(FieldFault::bad_value(field.tag().number))
             }
         }
-        None => Ok(Err(Refusal::Missing(tags::QUERY))),
+        None => Err(FieldFault::missing(tags::QUERY)),
     }
 }
 
 /// The syntax of records that is preferred, where one is.
-fn optional_syntax(
-    alloc: Global,
-    fields: &Fields<'_>,
-) -> Result<Result<Option<Oid>, Refusal>, Memory>
-    ensures { IfOk result (λ read. read
-        ≡ optional numbers.preferred_record_syntax oid_of fields.now) }
+fn optional_syntax(alloc: Global, fields: &Fields<'_>) -> Result<Option<Oid>, FieldFault>
+    ensures { IsOrMemory (optional numbers.preferred_record_syntax oid_of fields.now) result }
 {
     optional_oid(alloc, fields, context(tags::PREFERRED_RECORD_SYNTAX))
 }
 
 /// The other fields of a Search.
-#[tactic(auto, unfolding(unit_forms::specs::Reading::SearchRequest::wanted_in))]
-fn wanted_in(alloc: Global, fields: &Fields<'_>) -> Result<Result<Wanted, Refusal>, Memory>
-    ensures { IfOk result (λ read. read ≡ wanted_in fields.now) }
+#[tactic(auto, using(z_fields::proofs::AnswerLemmas::rows), unfolding(unit_forms::specs::Reading::SearchRequest::wanted_in))]
+fn wanted_in(alloc: Global, fields: &Fields<'_>) -> Result<Wanted, FieldFault>
+    ensures { IsOrMemory (wanted_in fields.now) result }
 {
-    let small = optional_names(alloc, fields, tags::SMALL_SET_ELEMENT_SET_NAMES)?;
-    let medium = optional_names(alloc, fields, tags::MEDIUM_SET_ELEMENT_SET_NAMES)?;
-    let syntax = optional_syntax(alloc, fields)?;
-    let query = required_query(alloc, fields)?;
-    Ok(both(small, both(medium, both(syntax, query))))
+    let small = optional_names(alloc, fields, tags::SMALL_SET_ELEMENT_SET_NAMES);
+    let medium = optional_names(alloc, fields, tags::MEDIUM_SET_ELEMENT_SET_NAMES);
+    let syntax = optional_syntax(alloc, fields);
+    let query = required_query(alloc, fields);
+    both(small, both(medium, both(syntax, query)))
 }
 
 /// The query, or the diagnostic of element set names that are not served.
@@ -141,21 +134,21 @@ fn as_search(parts: Parts) -> Search
 }
 
 /// The parts of the Search of these fields.
-fn parts_in(alloc: Global, fields: &Fields<'_>) -> Result<Result<Parts, Refusal>, Memory>
-    ensures { IfOk result (λ read. read_as as_search read ≡ search_in fields.now) }
+#[tactic(auto, using(z_fields::proofs::AnswerLemmas::rows))]
+fn parts_in(alloc: Global, fields: &Fields<'_>) -> Result<Parts, FieldFault>
+    ensures { IsOrMemory
+        (bounds_in fields.now ⊗ named_in fields.now ⊗ wanted_in fields.now) result }
 {
-    let bounds = bounds_in(alloc, fields)?;
-    let named = named_in(alloc, fields)?;
-    let wanted = wanted_in(alloc, fields)?;
-    Ok(both(bounds, both(named, wanted)))
+    let bounds = bounds_in(alloc, fields);
+    let named = named_in(alloc, fields);
+    let wanted = wanted_in(alloc, fields);
+    both(bounds, both(named, wanted))
 }
 
 /// The Search of these fields.
-pub fn search_in(alloc: Global, fields: &Fields<'_>) -> Result<Result<Search, Refusal>, Memory>
-    ensures { IfOk result (λ read. read ≡ search_in fields.now) }
+#[tactic(auto, unfolding(unit_forms::specs::Reading::SearchRequest::search_in))]
+pub fn search_in(alloc: Global, fields: &Fields<'_>) -> Result<Search, FieldFault>
+    ensures { IsOrMemory (search_in fields.now) result }
 {
-    match parts_in(alloc, fields)? {
-        Ok(parts) => Ok(Ok(as_search(parts))),
-        Err(refusal) => Ok(Err(refusal)),
-    }
+    Ok(as_search(parts_in(alloc, fields)?))
 }

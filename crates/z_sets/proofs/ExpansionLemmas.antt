@@ -6,7 +6,8 @@ use Rattle.z_types.specs.declared.query.RpnQuery.{RpnQuery}
 use Rattle.z_types.specs.Bounds.{most_query_depth, most_query_nodes, most_query_cost, within32, within64}
 use Rattle.z_types.specs.Tree.{Tree, tree_size, leaf, operand, and, or, and_not}
 use Rattle.z_types.specs.QueryMeasures.{tree_depth, tree_cost, measures_of, joined}
-use Rattle.z_sets.specs.Sets.{StoredSet, stored, set_named, is_same}
+use Rattle.z_types.specs.Same.{is_same}
+use Rattle.z_sets.specs.Sets.{StoredSet, stored, set_named}
 use Rattle.z_sets.specs.Expansion.{IsExpansion, expanded, then_bounded, bounded, under, substituted, in_place_of, inside}
 use Rattle.z_sets.specs.Measured.{IsOrMemory, measures_in, names_a_set, tested, then_tested, tested_expansion}
 use Rattle.z_sets.specs.declared.fault.ExpandFault.{ExpandFault}

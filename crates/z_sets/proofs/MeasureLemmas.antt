@@ -7,7 +7,8 @@ use Rattle.z_types.specs.declared.known_set.KnownSet.{KnownSet}
 use Rattle.z_types.specs.declared.query.RpnQuery.{RpnQuery}
 use Rattle.z_types.specs.Tree.{Tree, tree_size, leaf, operand, and, or, and_not}
 use Rattle.z_types.specs.QueryMeasures.{tree_depth, tree_cost, measures_of, joined}
-use Rattle.z_sets.specs.Sets.{stored, is_same}
+use Rattle.z_types.specs.Same.{is_same}
+use Rattle.z_sets.specs.Sets.{stored}
 use Rattle.z_sets.specs.Expansion.{all_in_set, inside, under, in_place_of}
 use Rattle.z_sets.specs.Measured.{measures_in, measures_of_sets, expansion_measures}
 use Rattle.z_sets.specs.declared.fault.ExpandFault.{ExpandFault}

@@ -2,7 +2,8 @@
 use Rattle.std.proofs.Common.{◌≡◌, ℕ, List, [], find, map, option_map, Bool, true, false, cond, Option, None, Some, Result, Ok, Err}
 use Rattle.z_types.specs.declared.known_set.KnownSet.{KnownSet}
 use Rattle.z_types.specs.Tree.{Tree, operand}
-use Rattle.z_sets.specs.Sets.{stored, is_same}
+use Rattle.z_types.specs.Same.{is_same}
+use Rattle.z_sets.specs.Sets.{stored}
 use Rattle.z_sets.specs.Expansion.{substituted, in_place_of, inside}
 use Rattle.z_sets.specs.Measured.{IsOrMemory, expansion_measures, measures_in}
 use Rattle.z_sets.specs.Operands.{set_for, IsLentOrMemory}

@@ -7,7 +7,8 @@ use Rattle.std.proofs.lemmas.Bool.{ltb-false}
 use Rattle.z_types.specs.declared.known_set.KnownSet.{KnownSet}
 use Rattle.std.proofs.lemmas.List.{map-append}
 use Rattle.z_sets.specs.Operands.{others_than}
-use Rattle.z_sets.specs.Sets.{stored, set_named, is_same, with_set, without_set}
+use Rattle.z_types.specs.Same.{is_same}
+use Rattle.z_sets.specs.Sets.{stored, set_named, with_set, without_set}
 
 stored_one : (b : Bool) (set : KnownSet) (found : Option KnownSet) → option_map stored (cond b (Some set) found) ≡ cond b (Some (stored set)) (option_map stored found)
 stored_one true set found = refl

@@ -6,7 +6,8 @@ use Rattle.z_types.specs.declared.query.Attr.{Attr}
 use Rattle.z_types.specs.declared.query.RpnQuery.{RpnQuery}
 use Rattle.z_types.specs.Tree.{Tree, tree_size, leaf, operand, and, or, and_not}
 use Rattle.z_types.specs.QueryMeasures.{tree_depth, tree_cost}
-use Rattle.z_sets.specs.Sets.{StoredSet, stored, set_named, is_same}
+use Rattle.z_types.specs.Same.{is_same}
+use Rattle.z_sets.specs.Sets.{StoredSet, stored, set_named}
 use Rattle.z_sets.specs.declared.fault.ExpandFault.{ExpandFault}
 use Rattle.z_sets.specs.declared.fault.ExpandFault.TheVariants.{UnknownSet, OtherLegs, TooLarge, TooDeep, TooCostly, Memory}
 

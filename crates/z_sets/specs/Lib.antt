@@ -3,3 +3,4 @@ pub mod Fault
 pub mod Expansion
 pub mod Measured
 pub mod Operands
+pub mod Askable

@@ -2,7 +2,8 @@
 use Rattle.std.specs.Prelude.{◌≡◌, ℕ, List, Option, None, Some, Result, Ok, Err, filter, not, if◌then◌else◌}
 use Rattle.std.specs.Borrow.{Bor}
 use Rattle.z_types.specs.declared.known_set.KnownSet.{KnownSet}
-use Rattle.z_sets.specs.Sets.{is_same, known_set_named}
+use Rattle.z_types.specs.Same.{is_same}
+use Rattle.z_sets.specs.Sets.{known_set_named}
 use Rattle.z_sets.specs.declared.fault.ExpandFault.{ExpandFault}
 use Rattle.z_sets.specs.declared.fault.ExpandFault.TheVariants.{UnknownSet, OtherLegs, Memory}
 

@@ -1,6 +1,6 @@
 -- A client's result sets (ANSI/NISO Z39.50-2003, 3.2.2 Search, Result-set-name; that a set stands for legs and a query is this project's own)
-use Rattle.std.specs.Prelude.{◌≡◌, ℕ, ◌==◌, Bool, not, List, [], ◌∷◌, ◌++◌, Option, find, filter, map}
-use lib.Pointwise.{pointwise}
+use Rattle.z_types.specs.Same.{is_same}
+use Rattle.std.specs.Prelude.{◌≡◌, ℕ, not, List, [], ◌∷◌, ◌++◌, Option, find, filter, map}
 use Rattle.z_types.specs.declared.query.RpnQuery.{RpnQuery}
 use Rattle.z_types.specs.declared.known_set.KnownSet.{KnownSet}
 
@@ -17,10 +17,6 @@ stored known = record { name = known.name; legs = known.legs; query = known.quer
 -- sets that the gateway keeps, without their hits
 abbrev pub without_hits : List KnownSet → List StoredSet
 without_hits = map stored
-
--- two texts, lists of places or object identifiers are the same
-abbrev pub is_same : List ℕ → List ℕ → Bool
-is_same = pointwise ◌==◌
 
 -- the set of a name
 abbrev pub set_named : List ℕ → List StoredSet → Option StoredSet
@@ -43,5 +39,5 @@ abbrev pub with_set : StoredSet → List StoredSet → List StoredSet
 with_set set sets = without_set set.name sets ++ set ∷ []
 
 -- a set was put among those that the gateway keeps, in place of any of its name
-abbrev pub IsPut : KnownSet → (old new : List KnownSet) → Type 0
-IsPut set old new = without_hits new ≡ with_set (stored set) (without_hits old)
+abbrev pub IsStored : KnownSet → (old new : List KnownSet) → Type 0
+IsStored set old new = without_hits new ≡ with_set (stored set) (without_hits old)

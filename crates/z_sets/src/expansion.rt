@@ -2,6 +2,7 @@
 
 ghost use Rattle.std.specs.Prelude.{◌≡◌, IfOk, map};
 ghost use Rattle.z_types.specs.Tree.{operand};
+ghost use Rattle.z_sets.specs.Askable.{HasAskableExpansion};
 ghost use Rattle.z_sets.specs.Expansion.{IsExpansion, all_in_set, in_set, inside, substituted_among};
 ghost use Rattle.z_sets.specs.Measured.{IsOrMemory, tested_expansion};
 
@@ -15,14 +16,17 @@ use z_types::{Attr, KnownSet, List, Memory, Node, Oid, Rpn, RpnQuery, Text, copy
 /// where that set is one of these legs. An attribute of a stored query that names no attribute set
 /// gets that query's own, where the two queries' differ. It fails with the fault of the first operand
 /// from the left that has no such set; else where the whole would have more than 4096 nodes, then
-/// more than 48 levels, then a cost above 900000. Nothing is built before these tests are passed.
+/// more than 48 levels, then a cost above 900000. Nothing is built before these tests are passed. Targets
+/// may be asked for an expansion where no operand of a stored query is a result set, and all numbers are
+/// within their range.
 pub fn expand(
     alloc: Global,
     query: &RpnQuery,
     legs: &List<u32>,
     sets: &List<KnownSet>,
 ) -> Result<RpnQuery, ExpandFault>
-    ensures { IsExpansion query.now legs.now sets.now result }
+    ensures expansion { IsExpansion query.now legs.now sets.now result }
+    ensures askable { HasAskableExpansion query.now sets.now result }
 {
     if names_a_set(&query.root) {
         expand_among(alloc, query, legs, sets.as_slice())
@@ -105,23 +109,23 @@ fn build_operand(
     ensures { IsOrMemory (substituted_among arcs.now legs.now sets.now (operand name.now)) result }
 {
     let set = set_for(name, legs, sets)?;
-    Ok(put_inside(alloc, &set.query, arcs)?)
+    Ok(tree_inside(alloc, &set.query, arcs)?)
 }
 
 /// The structure of a stored query inside a query of this attribute set.
-fn put_inside(alloc: Global, query: &RpnQuery, arcs: &Oid) -> Result<Rpn, Memory>
+fn tree_inside(alloc: Global, query: &RpnQuery, arcs: &Oid) -> Result<Rpn, Memory>
     ensures { IfOk result (λ root. root ≡ inside arcs.now query.now) }
 {
     if query.attr_set == *arcs {
         copy(&query.root)
     } else {
-        put_in_set(alloc, &query.root, &query.attr_set)
+        tree_in_set(alloc, &query.root, &query.attr_set)
     }
 }
 
 /// The structure, in which each attribute that names no attribute set gets this one. It calls itself
 /// as deep as the structure is.
-fn put_in_set(alloc: Global, query: &Rpn, arcs: &Oid) -> Result<Rpn, Memory>
+fn tree_in_set(alloc: Global, query: &Rpn, arcs: &Oid) -> Result<Rpn, Memory>
     ensures { IfOk result (λ root. root ≡ all_in_set arcs.now query.now) }
 {
     match &query.node {
@@ -131,18 +135,18 @@ fn put_in_set(alloc: Global, query: &Rpn, arcs: &Oid) -> Result<Rpn, Memory>
         }
         Node::Set(name) => Ok(Rpn::operand(copy(name)?)),
         Node::And(left, right) => {
-            let left = put_in_set(alloc, left, arcs)?;
-            let right = put_in_set(alloc, right, arcs)?;
+            let left = tree_in_set(alloc, left, arcs)?;
+            let right = tree_in_set(alloc, right, arcs)?;
             Rpn::and(alloc, left, right)
         }
         Node::Or(left, right) => {
-            let left = put_in_set(alloc, left, arcs)?;
-            let right = put_in_set(alloc, right, arcs)?;
+            let left = tree_in_set(alloc, left, arcs)?;
+            let right = tree_in_set(alloc, right, arcs)?;
             Rpn::or(alloc, left, right)
         }
         Node::AndNot(left, right) => {
-            let left = put_in_set(alloc, left, arcs)?;
-            let right = put_in_set(alloc, right, arcs)?;
+            let left = tree_in_set(alloc, left, arcs)?;
+            let right = tree_in_set(alloc, right, arcs)?;
             Rpn::and_not(alloc, left, right)
         }
     }

@@ -9,4 +9,4 @@ mod sets;
 
 pub use expansion::expand;
 pub use fault::ExpandFault;
-pub use sets::{find_set, put_set, remove_set};
+pub use sets::{find_set, remove_set, store_set};

@@ -3,7 +3,8 @@
 ghost use Rattle.std.specs.Prelude.{◌≡◌, ◌≤◌, [], ◌∷◌, ◌++◌, option_map, not, OnOk, OnErr, vec_len, vec_capacity};
 ghost use Rattle.std.specs.List.{position};
 ghost use Rattle.std.specs.Option.{option_copied};
-ghost use Rattle.z_sets.specs.Sets.{is_same, stored, without_hits, known_set_named, stored_set_named, without_set, IsPut};
+ghost use Rattle.z_types.specs.Same.{is_same};
+ghost use Rattle.z_sets.specs.Sets.{stored, without_hits, known_set_named, stored_set_named, without_set, IsStored};
 ghost use Rattle.z_sets.specs.Operands.{set_among, IsLentOrMemory, others_than};
 
 use crate::ExpandFault;
@@ -54,13 +55,13 @@ pub(crate) fn set_for<'a>(
 }
 
 /// Puts a set behind the others, in place of any of its name. Without memory nothing is changed.
-pub fn put_set(alloc: Global, sets: &mut List<KnownSet>, set: KnownSet) -> Result<(), Memory>
+pub fn store_set(alloc: Global, sets: &mut List<KnownSet>, set: KnownSet) -> Result<(), Memory>
     ensures ok { OnOk result (sets.new ≡ others_than set.name sets.old ++ set ∷ []) }
-    ensures stored { OnOk result (IsPut set sets.old sets.new) }
+    ensures stored { OnOk result (IsStored set sets.old sets.new) }
     ensures err { OnErr result (sets.new ≡ sets.old) }
 {
     let mut items = replace(sets, List::new(alloc)).into_vec();
-    let put = put_in(&mut items, set);
+    let put = store_in(&mut items, set);
     *sets = List::from_vec(items);
     put
 }
@@ -75,8 +76,8 @@ pub fn remove_set(alloc: Global, sets: &mut List<KnownSet>, name: &[u8])
     *sets = List::from_vec(items);
 }
 
-/// `put_set` in a vector.
-fn put_in(items: &mut Vec<KnownSet>, set: KnownSet) -> Result<(), Memory>
+/// `store_set` in a vector.
+fn store_in(items: &mut Vec<KnownSet>, set: KnownSet) -> Result<(), Memory>
     ensures ok { OnOk result (items.new.items ≡ others_than set.name items.old.items ++ set ∷ []) }
     ensures err { OnErr result (items.new.items ≡ items.old.items) }
 {

@@ -1,6 +1,6 @@
 -- The bib-1 diagnostic set (ANSI/NISO Z39.50-2003, Appendix 4 ERR): its conditions that the gateway and the test targets give or know
-use Rattle.std.specs.Prelude.{ℕ, Bool, ◌==◌, ◌&&◌, ◌||◌, List, [], ◌∷◌}
-use lib.Pointwise.{pointwise}
+use Rattle.std.specs.Prelude.{◌≡◌, ◌⊎◌, ℕ, Bool, ◌==◌, ◌&&◌, ◌||◌, List, [], ◌∷◌}
+use Rattle.z_types.specs.Same.{is_same}
 use Rattle.z_types.specs.declared.conditions.Condition.{Condition}
 use Rattle.z_types.specs.declared.conditions.Condition.TheVariants as condition
 use Rattle.z_types.specs.declared.diagnostic.Diag.{Diag}
@@ -40,5 +40,12 @@ bib1 condition addinfo =
 -- the diagnostic says that the target has no such result set, or no longer
 abbrev pub is_gone : Diag → Bool
 is_gone diag =
-    pointwise ◌==◌ diag.set bib1_diagnostics
-    && ((diag.condition == condition_number condition.ResultSetNoLongerExists) || (diag.condition == condition_number condition.ResultSetDoesNotExist))
+    is_same diag.set bib1_diagnostics
+    && ((diag.condition == condition_number condition.ResultSetNoLongerExists)
+    || (diag.condition == condition_number condition.ResultSetDoesNotExist))
+
+-- the same, as a fact
+pub record IsGone (diag : Diag) : Type 0 where
+  pub set : diag.set ≡ bib1_diagnostics
+  pub condition : (diag.condition ≡ condition_number condition.ResultSetNoLongerExists)
+      ⊎ (diag.condition ≡ condition_number condition.ResultSetDoesNotExist)

@@ -1,6 +1,10 @@
+pub mod Same
+pub mod Counts
+pub mod Digits
 pub mod Bib1
 pub mod Bounds
 pub mod Exact
+pub mod Numbers
 pub mod Oid
 pub mod OneValue
 pub mod ReadAs
@@ -14,3 +18,4 @@ pub mod equality
 pub mod MergedOrder
 pub mod QueryMeasures
 pub mod Shown
+pub mod Services

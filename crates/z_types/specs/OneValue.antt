@@ -1,4 +1,4 @@
--- That octets stand for one value (this project's own)
+-- For a law alone: that octets stand for one value (this project's own)
 use Rattle.std.specs.Prelude.{◌≡◌, ℕ, List}
 
 -- values of a kind that have the same written form are the same value

@@ -1,4 +1,4 @@
--- What octets are read as (this project's own): the value of a kind whose written form they are, or begin with, exactly where there is one
+-- For contracts alone: what octets are read as (this project's own): the value of a kind whose written form they are, or begin with, exactly where there is one
 use Rattle.std.specs.Prelude.{◌≡◌, ℕ, List, ◌++◌, Option, None, Some}
 use Rattle.std.specs.Borrow.{Bor}
 

@@ -1,4 +1,4 @@
--- The structure of a query as it is kept behind pointers (this project's own)
+-- For contracts alone: the structure of a query as it is kept behind pointers (this project's own)
 use Rattle.z_types.specs.Tree.{Tree, leaf, operand, and, or, and_not}
 use Rattle.z_types.specs.declared.query.Node.{Node}
 use Rattle.z_types.specs.declared.query.Node.TheVariants.{Leaf, Set, And, Or, AndNot}

@@ -1,4 +1,4 @@
--- That tests and copies are exact, for each shared type (this project's own). `Tests` has lists, options and
+-- For proofs alone: that tests and copies are exact, for each shared type (this project's own). `Tests` has lists, options and
 -- numbers, `Parts` what follows from the parts of a value, and each other file is named as the types' own.
 pub mod Tests
 pub mod Parts

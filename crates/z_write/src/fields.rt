@@ -66,7 +66,6 @@ pub(crate) fn put_octets(out: &mut Text, number: u32, octets: &[u8]) -> Result<(
     put_bytes(out, Tag::context(number), octets)
 }
 
-/// Its length.
 pub(crate) fn octets_len(number: u32, octets: &[u8]) -> Result<usize, Memory>
     requires { number < 2 ^ 31 }
     ensures { IfOk result (λ len. len ≡ length (octets_field number octets.now)) }
@@ -83,7 +82,6 @@ pub(crate) fn put_integer(out: &mut Text, number: u32, value: i64) -> Result<(),
     put_int(out, Tag::context(number), value)
 }
 
-/// Its length.
 pub(crate) fn integer_len(number: u32, value: i64) -> Result<usize, Memory>
     requires { number < 2 ^ 31 }
     ensures { IfOk result (λ len. len ≡ length (integer_field number value)) }
@@ -100,7 +98,6 @@ pub(crate) fn put_number(out: &mut Text, number: u32, value: u32) -> Result<(), 
     put_integer(out, number, i64::from(value))
 }
 
-/// Its length.
 pub(crate) fn number_len(number: u32, value: u32) -> Result<usize, Memory>
     requires { number < 2 ^ 31 }
     ensures { IfOk result (λ len. len ≡ length (number_field number value)) }
@@ -117,7 +114,6 @@ pub(crate) fn put_boolean(out: &mut Text, number: u32, value: bool) -> Result<()
     put_bool(out, Tag::context(number), value)
 }
 
-/// Its length.
 #[tactic(auto, unfolding(z_ber::specs::Written::bool_octets))]
 pub(crate) fn boolean_len(number: u32, value: bool) -> Result<usize, Memory>
     requires { number < 2 ^ 31 }
@@ -135,7 +131,6 @@ pub(crate) fn put_bits(out: &mut Text, number: u32, value: u32) -> Result<(), Me
     z_ber::put_bits(out, Tag::context(number), value)
 }
 
-/// Its length.
 pub(crate) fn bits_len(number: u32, value: u32) -> Result<usize, Memory>
     requires { number < 2 ^ 31 }
     ensures { IfOk result (λ len. len ≡ length (bits_field number value)) }
@@ -152,7 +147,6 @@ fn put_identifier(out: &mut Text, number: u32, value: &Oid) -> Result<(), Memory
     put_oid(out, Tag::context(number), value)
 }
 
-/// Its length.
 fn identifier_len(number: u32, value: &Oid) -> Result<usize, Memory>
     requires { number < 2 ^ 31 }
     ensures { IfOk result (λ len. len ≡ length (identifier_field number value.now)) }
@@ -168,7 +162,6 @@ pub(crate) fn put_object_identifier(out: &mut Text, value: &Oid) -> Result<(), M
     put_oid(out, OBJECT_IDENTIFIER, value)
 }
 
-/// Its length.
 pub(crate) fn object_identifier_len(value: &Oid) -> Result<usize, Memory>
     ensures { IfOk result (λ len. len ≡ length (object_identifier value.now)) }
 {
@@ -183,7 +176,6 @@ pub(crate) fn put_plain_integer(out: &mut Text, value: u32) -> Result<(), Memory
     put_int(out, INTEGER, i64::from(value))
 }
 
-/// Its length.
 pub(crate) fn plain_integer_len(value: u32) -> Result<usize, Memory>
     ensures { IfOk result (λ len. len ≡ length (integer value)) }
 {
@@ -198,7 +190,6 @@ pub(crate) fn put_general_string(out: &mut Text, octets: &[u8]) -> Result<(), Me
     put_bytes(out, GENERAL_STRING, octets)
 }
 
-/// Its length.
 pub(crate) fn general_string_len(octets: &[u8]) -> Result<usize, Memory>
     ensures { IfOk result (λ len. len ≡ length (general_string octets.now)) }
 {
@@ -221,7 +212,6 @@ pub(crate) fn put_optional_octets(
     }
 }
 
-/// Its length.
 pub(crate) fn optional_octets_len(number: u32, value: &Option<Text>) -> Result<usize, Memory>
     requires { number < 2 ^ 31 }
     ensures { IfOk result (λ len. len ≡ length (optional (octets_field number) value.now)) }
@@ -248,7 +238,6 @@ pub(crate) fn put_optional_number(
     }
 }
 
-/// Its length.
 pub(crate) fn optional_number_len(number: u32, value: Option<u32>) -> Result<usize, Memory>
     requires { number < 2 ^ 31 }
     ensures { IfOk result (λ len. len ≡ length (optional (number_field number) value)) }
@@ -275,7 +264,6 @@ pub(crate) fn put_optional_identifier(
     }
 }
 
-/// Its length.
 pub(crate) fn optional_identifier_len(number: u32, value: &Option<Oid>) -> Result<usize, Memory>
     requires { number < 2 ^ 31 }
     ensures { IfOk result (λ len. len ≡ length (optional (identifier_field number) value.now)) }
@@ -300,7 +288,6 @@ pub(crate) fn put_optional_object_identifier(
     }
 }
 
-/// Its length.
 pub(crate) fn optional_object_identifier_len(value: &Option<Oid>) -> Result<usize, Memory>
     ensures { IfOk result (λ len. len ≡ length (optional object_identifier value.now)) }
 {
@@ -318,7 +305,6 @@ pub(crate) fn put_ref_id(out: &mut Text, ref_id: &Option<Text>) -> Result<(), Me
     put_optional_octets(out, tags::REFERENCE_ID, ref_id)
 }
 
-/// Its length.
 pub(crate) fn ref_id_len(ref_id: &Option<Text>) -> Result<usize, Memory>
     ensures { IfOk result (λ len. len ≡ length (ref_id_field ref_id.now)) }
 {

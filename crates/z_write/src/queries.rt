@@ -29,7 +29,6 @@ pub(crate) fn put_term(out: &mut Text, term: &Term) -> Result<(), Memory>
     }
 }
 
-/// Its length.
 pub(crate) fn term_len(term: &Term) -> Result<usize, Memory>
     ensures { IfOk result (λ len. len ≡ length (term_octets term.now)) }
 {
@@ -51,7 +50,6 @@ fn put_attr_fields(out: &mut Text, attr: &Attr) -> Result<(), Memory>
     put_number(out, tags::ATTRIBUTE_VALUE_NUMERIC, attr.value)
 }
 
-/// Its length.
 #[tactic(auto, unfolding(unit_forms::specs::Query::attr_fields))]
 fn attr_fields_len(attr: &Attr) -> Result<usize, Memory>
     ensures { IfOk result (λ len. len ≡ length (attr_fields attr.now)) }
@@ -73,7 +71,6 @@ fn put_attr(out: &mut Text, attr: &Attr) -> Result<(), Memory>
     put_attr_fields(out, attr)
 }
 
-/// Its length.
 fn attr_len(attr: &Attr) -> Result<usize, Memory>
     ensures { IfOk result (λ len. len ≡ length (attr_octets attr.now)) }
 {
@@ -91,7 +88,6 @@ fn put_attrs(out: &mut Text, attrs: &[Attr]) -> Result<(), Memory>
     Ok(())
 }
 
-/// Its length.
 fn attrs_len(attrs: &[Attr]) -> Result<usize, Memory>
     ensures { IfOk result (λ len. len ≡ length (flat_map attr_octets attrs.now)) }
 {
@@ -114,7 +110,6 @@ fn put_attributes_plus_term(out: &mut Text, attrs: &List<Attr>, term: &Term) -> 
     put_term(out, term)
 }
 
-/// Their length.
 fn attributes_plus_term_len(attrs: &List<Attr>, term: &Term) -> Result<usize, Memory>
     ensures { IfOk result (λ len. len ≡ length (attributes_plus_term attrs.now term.now)) }
 {
@@ -135,7 +130,6 @@ pub(crate) fn put_operand(out: &mut Text, attrs: &List<Attr>, term: &Term) -> Re
     put_attributes_plus_term(out, attrs, term)
 }
 
-/// Their length.
 pub(crate) fn operand_len(attrs: &List<Attr>, term: &Term) -> Result<usize, Memory>
     ensures { IfOk result (λ len. len ≡
         length (tree_field attributes_plus_term_tag (attributes_plus_term attrs.now term.now))) }

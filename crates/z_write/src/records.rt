@@ -30,7 +30,6 @@ fn put_diag_fields(out: &mut Text, diag: &Diag) -> Result<(), Memory>
     put_general_string(out, diag.addinfo.as_slice())
 }
 
-/// Its length.
 #[tactic(auto, unfolding(unit_forms::specs::Records::diag_fields))]
 fn diag_fields_len(diag: &Diag) -> Result<usize, Memory>
     ensures { IfOk result (λ len. len ≡ length (diag_fields diag.now)) }
@@ -52,7 +51,6 @@ fn put_diag(out: &mut Text, diag: &Diag) -> Result<(), Memory>
     put_diag_fields(out, diag)
 }
 
-/// Its length.
 fn diag_len(diag: &Diag) -> Result<usize, Memory>
     ensures { IfOk result (λ len. len ≡ length (diag_octets diag.now)) }
 {
@@ -70,7 +68,6 @@ pub(crate) fn put_diags(out: &mut Text, diags: &[Diag]) -> Result<(), Memory>
     Ok(())
 }
 
-/// Its length.
 pub(crate) fn diags_len(diags: &[Diag]) -> Result<usize, Memory>
     ensures { IfOk result (λ len. len ≡ length (flat_map diag_octets diags.now)) }
 {
@@ -94,7 +91,6 @@ fn put_encoding(out: &mut Text, form: Form, bytes: &[u8]) -> Result<(), Memory>
     }
 }
 
-/// Their length.
 fn encoding_len(form: Form, bytes: &[u8]) -> Result<usize, Memory>
     ensures { IfOk result (λ len. len ≡ length (element (encoding_tag form) bytes.now)) }
 {
@@ -119,7 +115,6 @@ fn put_external_fields(out: &mut Text, syntax: &Oid, form: Form, bytes: &[u8]) -
     put_encoding(out, form, bytes)
 }
 
-/// Its length.
 fn external_fields_len(syntax: &Oid, form: Form, bytes: &[u8]) -> Result<usize, Memory>
     ensures { IfOk result (λ len. len ≡
         length ((object_identifier syntax.now ++ element (encoding_tag form) bytes.now))) }
@@ -137,7 +132,6 @@ fn put_external(out: &mut Text, syntax: &Oid, form: Form, bytes: &[u8]) -> Resul
     put_external_fields(out, syntax, form, bytes)
 }
 
-/// Its length.
 fn external_len(syntax: &Oid, form: Form, bytes: &[u8]) -> Result<usize, Memory>
     ensures { IfOk result (λ len. len ≡ length (external_octets syntax.now form bytes.now)) }
 {
@@ -168,7 +162,6 @@ fn put_item(out: &mut Text, item: &Item) -> Result<(), Memory>
     }
 }
 
-/// Its length.
 #[tactic(auto, unfolding(unit_forms::specs::Records::item_octets))]
 fn item_len(item: &Item) -> Result<usize, Memory>
     ensures { IfOk result (λ len. len ≡ length (item_octets item.now)) }
@@ -201,7 +194,6 @@ fn put_named_fields(out: &mut Text, named: &NamedRecord) -> Result<(), Memory>
     put_item(out, &named.item)
 }
 
-/// Their length.
 fn named_fields_len(named: &NamedRecord) -> Result<usize, Memory>
     ensures { IfOk result (λ len. len ≡ length (named_fields named.now)) }
 {
@@ -221,7 +213,6 @@ fn put_named(out: &mut Text, named: &NamedRecord) -> Result<(), Memory>
     put_named_fields(out, named)
 }
 
-/// Its length.
 #[tactic(auto, unfolding(unit_forms::specs::Records::named_octets))]
 fn named_len(named: &NamedRecord) -> Result<usize, Memory>
     ensures { IfOk result (λ len. len ≡ length (named_octets named.now)) }
@@ -240,7 +231,6 @@ fn put_records(out: &mut Text, records: &[NamedRecord]) -> Result<(), Memory>
     Ok(())
 }
 
-/// Its length.
 fn records_len(records: &[NamedRecord]) -> Result<usize, Memory>
     ensures { IfOk result (λ len. len ≡ length (flat_map named_octets records.now)) }
 {
@@ -273,7 +263,6 @@ pub(crate) fn put_body(out: &mut Text, body: &Body) -> Result<(), Memory>
     }
 }
 
-/// Their length.
 #[tactic(auto, unfolding(unit_forms::specs::Records::body_octets))]
 pub(crate) fn body_len(body: &Body) -> Result<usize, Memory>
     ensures { IfOk result (λ len. len ≡ length (body_octets body.now)) }
@@ -306,7 +295,6 @@ fn put_response_records(out: &mut Text, records: &List<NamedRecord>) -> Result<(
     put_records(out, records.as_slice())
 }
 
-/// Their length.
 #[tactic(auto, unfolding(unit_forms::specs::Records::body_octets))]
 fn response_records_len(records: &List<NamedRecord>) -> Result<usize, Memory>
     ensures { IfOk result (λ len. len ≡ length (body_octets (Body.Records records.now))) }

@@ -33,7 +33,6 @@ fn put_implementation(out: &mut Text) -> Result<(), Memory>
     put_octets(out, tags::IMPLEMENTATION_VERSION, b"1")
 }
 
-/// Its length.
 #[tactic(auto, unfolding(unit_forms::specs::Replies::implementation_fields))]
 fn implementation_len() -> Result<usize, Memory>
     ensures { IfOk result (λ len. len ≡ length (implementation_fields)) }
@@ -56,7 +55,6 @@ fn put_init_reply_fields(out: &mut Text, init: &Init, accepted: bool) -> Result<
     put_implementation(out)
 }
 
-/// Its length.
 fn init_reply_fields_len(init: &Init, accepted: bool) -> Result<usize, Memory>
     ensures { IfOk result (λ len. len ≡ length (init_reply_fields init.now accepted)) }
 {
@@ -86,7 +84,6 @@ fn put_search_reply_head(
     put_number(out, tags::NEXT_RESULT_SET_POSITION, next)
 }
 
-/// Their length.
 fn search_reply_head_len(
     ref_id: &Option<Text>,
     count: u32,
@@ -125,7 +122,6 @@ fn put_search_reply_fields(
     put_body(out, body)
 }
 
-/// Their length.
 #[tactic(auto, unfolding(unit_forms::specs::Replies::search_reply_fields))]
 fn search_reply_fields_len(
     ref_id: &Option<Text>,
@@ -168,7 +164,6 @@ fn put_present_reply_fields(
     put_body(out, body)
 }
 
-/// Its length.
 #[tactic(auto, unfolding(unit_forms::specs::Replies::present_reply_fields))]
 fn present_reply_fields_len(
     ref_id: &Option<Text>,

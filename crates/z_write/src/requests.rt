@@ -40,7 +40,6 @@ pub(crate) fn put_init_fields(out: &mut Text, init: &Init) -> Result<(), Memory>
     put_number(out, tags::EXCEPTIONAL_RECORD_SIZE, init.exceptional)
 }
 
-/// Its length.
 #[tactic(auto, unfolding(unit_forms::specs::Requests::init_fields))]
 pub(crate) fn init_fields_len(init: &Init) -> Result<usize, Memory>
     ensures { IfOk result (λ len. len ≡ length (init_fields init.now)) }
@@ -65,7 +64,6 @@ fn put_database_names(out: &mut Text, dbs: &[Text]) -> Result<(), Memory>
     Ok(())
 }
 
-/// Its length.
 fn database_names_len(dbs: &[Text]) -> Result<usize, Memory>
     ensures { IfOk result (λ len. len ≡ length (database_names dbs.now)) }
 {
@@ -88,7 +86,6 @@ fn put_databases(out: &mut Text, number: u32, dbs: &List<Text>) -> Result<(), Me
     put_database_names(out, dbs.as_slice())
 }
 
-/// Its length.
 fn databases_len(number: u32, dbs: &List<Text>) -> Result<usize, Memory>
     requires { number < 2 ^ 31 }
     ensures { IfOk result (λ len. len ≡ length (tree_field number (database_names dbs.now))) }
@@ -114,7 +111,6 @@ fn put_element_name(out: &mut Text, number: u32, name: &Option<Text>) -> Result<
     }
 }
 
-/// Its length.
 fn element_name_len(number: u32, name: &Option<Text>) -> Result<usize, Memory>
     requires { number < 2 ^ 31 }
     ensures { IfOk result (λ len. len ≡ length (optional (element_name_field number) name.now)) }
@@ -136,7 +132,6 @@ fn put_syntax(out: &mut Text, syntax: &Option<Oid>) -> Result<(), Memory>
     put_optional_identifier(out, tags::PREFERRED_RECORD_SYNTAX, syntax)
 }
 
-/// Its length.
 fn syntax_len(syntax: &Option<Oid>) -> Result<usize, Memory>
     ensures { IfOk result (λ len. len ≡ length (syntax_field syntax.now)) }
 {
@@ -158,7 +153,6 @@ fn put_search_head(out: &mut Text, search: &Search) -> Result<(), Memory>
     put_databases(out, tags::DATABASE_NAMES, &search.dbs)
 }
 
-/// Their length.
 fn search_head_len(search: &Search) -> Result<usize, Memory>
     ensures { IfOk result (λ len. len ≡ length (search_head search.now)) }
 {
@@ -208,7 +202,6 @@ fn put_search_fields(alloc: Global, out: &mut Text, search: &Search) -> Result<(
     put_query_field(alloc, out, &search.query)
 }
 
-/// Their length.
 #[tactic(auto, unfolding(unit_forms::specs::Requests::search_fields))]
 fn search_fields_len(alloc: Global, search: &Search) -> Result<usize, Memory>
     ensures { IfOk result (λ len. len ≡ length (search_fields search.now)) }
@@ -234,7 +227,6 @@ fn put_composition(out: &mut Text, asked: &Asked<Option<Text>>) -> Result<(), Me
     }
 }
 
-/// Its length.
 fn composition_len(asked: &Asked<Option<Text>>) -> Result<usize, Memory>
     ensures { IfOk result (λ len. len ≡ length (composition_field asked.now)) }
 {
@@ -265,7 +257,6 @@ fn put_present_head(out: &mut Text, present: &Present) -> Result<(), Memory>
     put_number(out, tags::NUMBER_OF_RECORDS_REQUESTED, present.number)
 }
 
-/// Their length.
 fn present_head_len(present: &Present) -> Result<usize, Memory>
     ensures { IfOk result (λ len. len ≡ length (present_head present.now)) }
 {
@@ -288,7 +279,6 @@ fn put_present_fields(out: &mut Text, present: &Present) -> Result<(), Memory>
     put_syntax(out, &present.syntax)
 }
 
-/// Their length.
 #[tactic(auto, unfolding(unit_forms::specs::Requests::present_fields))]
 fn present_fields_len(present: &Present) -> Result<usize, Memory>
     ensures { IfOk result (λ len. len ≡ length (present_fields present.now)) }
@@ -313,7 +303,6 @@ fn put_scan_ask(out: &mut Text, ask: &ScanAsk) -> Result<(), Memory>
     put_optional_number(out, tags::PREFERRED_POSITION_IN_RESPONSE, ask.position)
 }
 
-/// Its length.
 #[tactic(auto, unfolding(unit_forms::specs::Requests::scan_ask_fields))]
 fn scan_ask_len(ask: &ScanAsk) -> Result<usize, Memory>
     ensures { IfOk result (λ len. len ≡ length (scan_ask_fields ask.now)) }
@@ -338,7 +327,6 @@ fn put_scan_asked(out: &mut Text, asked: &Asked<ScanAsk>) -> Result<(), Memory>
     }
 }
 
-/// Its length.
 fn scan_asked_len(asked: &Asked<ScanAsk>) -> Result<usize, Memory>
     ensures { IfOk result (λ len. len ≡ length (scan_asked_fields asked.now)) }
 {
@@ -359,7 +347,6 @@ fn put_scan_fields(out: &mut Text, scan: &Scan) -> Result<(), Memory>
     put_scan_asked(out, &scan.ask)
 }
 
-/// Its length.
 #[tactic(auto, unfolding(unit_forms::specs::Requests::scan_fields))]
 fn scan_fields_len(scan: &Scan) -> Result<usize, Memory>
     ensures { IfOk result (λ len. len ≡ length (scan_fields scan.now)) }
@@ -382,7 +369,6 @@ fn put_close_fields(out: &mut Text, close: &Close) -> Result<(), Memory>
     put_optional_octets(out, tags::DIAGNOSTIC_INFORMATION, &close.info)
 }
 
-/// Its length.
 #[tactic(auto, unfolding(unit_forms::specs::Requests::close_fields))]
 fn close_fields_len(close: &Close) -> Result<usize, Memory>
     ensures { IfOk result (λ len. len ≡ length (close_fields close.now)) }

@@ -28,7 +28,6 @@ fn put_term_info(out: &mut Text, entry: &ScanEntry) -> Result<(), Memory>
     put_optional_number(out, tags::GLOBAL_OCCURRENCES, entry.occurrences)
 }
 
-/// Its length.
 fn term_info_len(entry: &ScanEntry) -> Result<usize, Memory>
     ensures { IfOk result (λ len. len ≡ length (term_info_fields entry.now)) }
 {
@@ -52,7 +51,6 @@ fn put_entry(out: &mut Text, entry: &ScanEntry) -> Result<(), Memory>
     put_term_info(out, entry)
 }
 
-/// Its length.
 #[tactic(auto, unfolding(unit_forms::specs::Replies::entry_octets))]
 fn entry_len(entry: &ScanEntry) -> Result<usize, Memory>
     ensures { IfOk result (λ len. len ≡ length (entry_octets entry.now)) }
@@ -74,7 +72,6 @@ fn put_entries(out: &mut Text, entries: &[ScanEntry]) -> Result<(), Memory>
     Ok(())
 }
 
-/// Its length.
 fn entries_len(entries: &[ScanEntry]) -> Result<usize, Memory>
     ensures { IfOk result (λ len. len ≡ length (flat_map entry_octets entries.now)) }
 {
@@ -102,7 +99,6 @@ fn put_list_entries(out: &mut Text, entries: &[ScanEntry], diags: &[Diag]) -> Re
     put_entries(out, entries)
 }
 
-/// Their length.
 fn list_entries_len(entries: &[ScanEntry], diags: &[Diag]) -> Result<usize, Memory>
     ensures { IfOk result (λ len. len ≡ length (list_entries_field entries.now diags.now)) }
 {
@@ -129,7 +125,6 @@ fn put_scan_diags(out: &mut Text, diags: &[Diag]) -> Result<(), Memory>
     put_diags(out, diags)
 }
 
-/// Their length.
 fn scan_diags_len(diags: &[Diag]) -> Result<usize, Memory>
     ensures { IfOk result (λ len. len ≡ length (scan_diags_field diags.now)) }
 {
@@ -150,7 +145,6 @@ fn put_listed(out: &mut Text, entries: &[ScanEntry], diags: &[Diag]) -> Result<(
     put_scan_diags(out, diags)
 }
 
-/// Their length.
 #[tactic(auto, unfolding(unit_forms::specs::Replies::list_entries))]
 fn listed_len(entries: &[ScanEntry], diags: &[Diag]) -> Result<usize, Memory>
     ensures { IfOk result (λ len. len ≡ length (list_entries entries.now diags.now)) }
@@ -167,7 +161,6 @@ fn put_entries_returned(out: &mut Text, entries: &[ScanEntry]) -> Result<(), Mem
     put_integer(out, tags::NUMBER_OF_ENTRIES_RETURNED, entries.len() as i64)
 }
 
-/// Its length.
 fn entries_returned_len(entries: &[ScanEntry]) -> Result<usize, Memory>
     ensures { IfOk result (λ len. len ≡
         length (number_field number_of_entries_returned (length entries.now))) }
@@ -190,7 +183,6 @@ fn put_scan_entries(out: &mut Text, entries: &[ScanEntry], diags: &[Diag]) -> Re
     put_listed(out, entries, diags)
 }
 
-/// Their length.
 fn scan_entries_len(entries: &[ScanEntry], diags: &[Diag]) -> Result<usize, Memory>
     ensures { IfOk result (λ len. len ≡
         length (tree_field scan_entries (list_entries entries.now diags.now))) }
@@ -221,7 +213,6 @@ fn put_scan_reply_fields(
     put_scan_entries(out, answer.entries.as_slice(), diags.as_slice())
 }
 
-/// Their length.
 #[tactic(auto, unfolding(unit_forms::specs::Replies::scan_reply_fields))]
 fn scan_reply_fields_len(
     ref_id: &Option<Text>,

@@ -33,7 +33,6 @@ fn put_leaf(out: &mut Text, attrs: &List<Attr>, term: &Term) -> Result<(), Memor
     put_operand(out, attrs, term)
 }
 
-/// Its length.
 #[tactic(auto, unfolding(unit_forms::specs::Query::leaf_octets))]
 fn leaf_len(attrs: &List<Attr>, term: &Term) -> Result<usize, Memory>
     ensures { IfOk result (λ len. len ≡ length (leaf_octets attrs.now term.now)) }
@@ -56,7 +55,6 @@ fn put_set(out: &mut Text, name: &Text) -> Result<(), Memory>
     put_octets(out, tags::RESULT_SET_ID, name.as_slice())
 }
 
-/// Its length.
 fn set_len(name: &Text) -> Result<usize, Memory>
     ensures { IfOk result (λ len. len ≡
         length (tree_field operand (octets_field result_set_id name.now))) }
@@ -80,7 +78,6 @@ fn put_operator(out: &mut Text, operator: u32) -> Result<(), Memory>
     put_octets(out, operator, &[])
 }
 
-/// Its length.
 fn operator_len(operator: u32) -> Result<usize, Memory>
     requires { operator < 2 ^ 31 }
     ensures { IfOk result (λ len. len ≡ length (operator_octets operator)) }
@@ -207,7 +204,6 @@ fn put_query(alloc: Global, out: &mut Text, query: &RpnQuery) -> Result<(), Memo
     put_root(out, &mut lens, &query.root)
 }
 
-/// Its length.
 #[tactic(auto, unfolding(unit_forms::specs::Query::query_octets))]
 fn query_len(alloc: Global, query: &RpnQuery) -> Result<usize, Memory>
     ensures { IfOk result (λ len. len ≡ length (query_octets query.now)) }
@@ -231,7 +227,6 @@ pub(crate) fn put_asked(
     }
 }
 
-/// Its length.
 pub(crate) fn asked_len(alloc: Global, asked: &Asked<RpnQuery>) -> Result<usize, Memory>
     ensures { IfOk result (λ len. len ≡ length (asked_octets asked.now)) }
 {

@@ -28,7 +28,7 @@ abbrev attr_with : Option (List ℕ) → ℕ → ℕ → Attr
 attr_with set kind value = record { set = set; kind = kind; value = value }
 
 abbrev as_attr : Option (List ℕ) × (ℕ × Asked ℕ) → Asked Attr
-as_attr p = asked_as (attr_with p.0 p.1.0) p.1.1
+as_attr (set, (kind, value)) = asked_as (attr_with set kind) value
 
 -- AttributeElement: attributeSet [1] OPTIONAL, attributeType [120], attributeValue
 unfoldable pub attr_in : Forest → Result (Asked Attr) Refusal
@@ -75,8 +75,8 @@ is_attributes_first (Some field) = field.tag.number == numbers.attribute_list
 
 -- attributes and a term, of which the first from the left tells what is not served
 abbrev pub operand_asked : Bool → Asked (List Attr) × Asked Term → Asked (List Attr × Term)
-operand_asked attributes_first p =
-    if attributes_first then both_asked p.0 p.1 else asked_as (λ q. (q.1, q.0)) (both_asked p.1 p.0)
+operand_asked attributes_first (attrs, term) =
+    if attributes_first then both_asked attrs term else asked_as (λ q. (q.1, q.0)) (both_asked term attrs)
 
 -- AttributesPlusTerm: AttributeList [44], Term
 unfoldable pub attrs_and_term_in : Forest → Result (Asked (List Attr × Term)) Refusal

@@ -8,7 +8,7 @@ use Rattle.unit_forms.specs.Reading.Rows.{octets_of, number_of, required, option
 use Rattle.unit_forms.specs.Tags as numbers
 
 abbrev as_close : Option (List ℕ) × (ℕ × Option (List ℕ)) → Close
-as_close p = record { ref_id = p.0; reason = p.1.0; info = p.1.1 }
+as_close (ref_id, (reason, info)) = record { ref_id = ref_id; reason = reason; info = info }
 
 -- referenceId [2] OPTIONAL, closeReason [211], diagnosticInformation [3] OPTIONAL
 unfoldable pub close_in : Forest → Result Close Refusal

@@ -12,7 +12,7 @@ use Rattle.unit_forms.specs.Reading.Answers.{◌⊗◌, read_as}
 use Rattle.unit_forms.specs.Reading.Rows.{octets_of, number_of, oid_of, universal, required_of, within, required_universal}
 
 abbrev as_diag : List ℕ × (ℕ × List ℕ) → Diag
-as_diag p = record { set = p.0; condition = p.1.0; addinfo = p.1.1 }
+as_diag (set, (condition, addinfo)) = record { set = set; condition = condition; addinfo = addinfo }
 
 -- diagnosticSetId, an OBJECT IDENTIFIER; condition, an INTEGER; addinfo, a VisibleString or a GeneralString
 unfoldable pub diag_in : Forest → Result Diag Refusal

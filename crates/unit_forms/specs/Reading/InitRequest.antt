@@ -8,8 +8,13 @@ use Rattle.unit_forms.specs.Reading.Rows.{octets_of, bits_of, number_of, truth_o
 use Rattle.unit_forms.specs.Tags as numbers
 
 abbrev as_init : Option (List ℕ) × (ℕ × (ℕ × (ℕ × ℕ))) → Init
-as_init p =
-    record { ref_id = p.0; versions = p.1.0; options = p.1.1.0; preferred = p.1.1.1.0; exceptional = p.1.1.1.1 }
+as_init (ref_id, (versions, (options, (preferred, exceptional)))) = record {
+  ref_id = ref_id;
+  versions = versions;
+  options = options;
+  preferred = preferred;
+  exceptional = exceptional;
+}
 
 -- referenceId [2] OPTIONAL, protocolVersion [3], options [4], preferredMessageSize [5], exceptionalRecordSize [6]
 unfoldable pub init_in : Forest → Result Init Refusal

@@ -10,7 +10,10 @@ use Rattle.unit_forms.specs.Reading.Rows.{octets_of, integer_of, number_of, oid_
 use Rattle.unit_forms.specs.Tags as numbers
 
 -- referenceId [2] OPTIONAL, resultSetId [31], resultSetStartPoint [30], numberOfRecordsRequested [29]
-unfoldable pub place_in : Forest → Result (Option (List ℕ) × (List ℕ × (ℤ × ℕ))) Refusal
+abbrev pub Place : Type 0
+Place = Option (List ℕ) × (List ℕ × (ℤ × ℕ))
+
+unfoldable pub place_in : Forest → Result Place Refusal
 place_in fields =
     optional numbers.reference_id octets_of fields
     ⊗ required numbers.result_set_id octets_of fields
@@ -18,17 +21,20 @@ place_in fields =
     ⊗ required numbers.number_of_records_requested number_of fields
 
 -- recordComposition OPTIONAL, preferredRecordSyntax [104] OPTIONAL
-unfoldable pub form_in : Forest → Result (Asked (Option (List ℕ)) × Option (List ℕ)) Refusal
+abbrev pub RecordForm : Type 0
+RecordForm = Asked (Option (List ℕ)) × Option (List ℕ)
+
+unfoldable pub form_in : Forest → Result RecordForm Refusal
 form_in fields = composition_in fields ⊗ optional numbers.preferred_record_syntax oid_of fields
 
-abbrev as_present : (Option (List ℕ) × (List ℕ × (ℤ × ℕ))) × (Asked (Option (List ℕ)) × Option (List ℕ)) → Present
-as_present p = record {
-  ref_id = p.0.0;
-  set_name = p.0.1.0;
-  start = p.0.1.1.0;
-  number = p.0.1.1.1;
-  element = p.1.0;
-  syntax = p.1.1;
+abbrev as_present : Place × RecordForm → Present
+as_present ((ref_id, (set_name, (start, number))), (element, syntax)) = record {
+  ref_id = ref_id;
+  set_name = set_name;
+  start = start;
+  number = number;
+  element = element;
+  syntax = syntax;
 }
 
 -- PresentRequest

@@ -53,21 +53,21 @@ joined (l, (r, AndNot)) = and_not l r
 
 -- two structures and an operator, of which the first from the left tells what is not served
 abbrev pub join_asked : Asked Tree × (Asked Tree × Asked Operator) → Asked Tree
-join_asked p = asked_as joined (both_asked p.0 (both_asked p.1.0 p.1.1))
+join_asked (left, (right, operator)) = asked_as joined (both_asked left (both_asked right operator))
 
 -- two structures and an operator, each read or refused
 abbrev pub joined_of :
     Result (Asked Tree) Refusal → Result (Asked Tree) Refusal → Result (Asked Operator) Refusal → Result (Asked Tree) Refusal
 joined_of left right operator = read_as join_asked (left ⊗ right ⊗ operator)
 
--- RPNStructure: [0] round an operand, or [1] round two structures and an operator
+-- RPNStructure: [0] round an operand, or [1] round two structures and an operator; an element of another tag or form has a bad value
 abbrev pub structure_with : Tag → Result (Asked Tree) Refusal → Result (Asked Tree) Refusal → Result (Asked Tree) Refusal
 structure_with tag alone both =
     if has_tag tag (context numbers.operand) || has_tag tag (context numbers.rpn_rpn_op)
     then (if tag.constructed then (if tag.number == numbers.operand then alone else both) else Err (BadValue tag.number))
-    else Err (Missing numbers.operand)
+    else Err (BadValue tag.number)
 
--- the structure that the element at a place is; an element without elements in it has no structure in it
+-- the structure that the element at a place is, which is missing where no element is there; an element without elements in it has no structure in it
 unfoldable pub structure_at : ℕ → Forest → Result (Asked Tree) Refusal
 structure_at place none = Err (Missing numbers.operand)
 structure_at (suc place) (leaf tag contents others) = structure_at place others
@@ -77,16 +77,16 @@ structure_at zero (leaf tag contents others) =
 structure_at zero (branch tag contents inner others) =
     structure_with tag (operand_in inner) (joined_of (structure_at 0 inner) (structure_at 1 inner) (operator_in inner))
 
--- the attribute set of a query, its first element
+-- the attribute set of a query, its first element, which has the tag of an OBJECT IDENTIFIER
 abbrev pub set_of : Option Field → Result (List ℕ) Refusal
 set_of None = Err (Missing numbers.object_identifier)
-set_of (Some field) = if has_tag field.tag (universal numbers.object_identifier) then oid_of field else Err (Missing numbers.object_identifier)
+set_of (Some field) = if has_tag field.tag (universal numbers.object_identifier) then oid_of field else Err (BadValue field.tag.number)
 
 abbrev query_with : List ℕ → Tree → RpnQuery
 query_with set root = record { attr_set = set; root = root }
 
 abbrev as_query : List ℕ × Asked Tree → Asked RpnQuery
-as_query p = asked_as (query_with p.0) p.1
+as_query (set, root) = asked_as (query_with set) root
 
 -- RPNQuery: the attribute set and the structure, by their places
 unfoldable pub rpn_query_in : Forest → Result (Asked RpnQuery) Refusal

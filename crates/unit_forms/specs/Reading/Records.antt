@@ -47,7 +47,7 @@ encoding_of field =
     else read_as (λ octets. (Arbitrary, octets)) (value_or (BadValue numbers.arbitrary) (kept_if field.contents (bits_in field.contents)))))
 
 abbrev as_record : List ℕ × (Form × List ℕ) → Item
-as_record p = Record p.0 p.1.0 p.1.1
+as_record (syntax, (form, octets)) = Record syntax form octets
 
 -- X.690, 8.18: EXTERNAL: direct-reference, and the encoding
 unfoldable pub external_in : Forest → Result Item Refusal
@@ -67,7 +67,7 @@ item_in elements =
     required_of numbers.retrieval_record (context numbers.retrieval_record ∷ context numbers.surrogate_diagnostic ∷ []) item_of elements
 
 abbrev as_named : Option (List ℕ) × Item → NamedRecord
-as_named p = record { name = p.0; item = p.1 }
+as_named (name, item) = record { name = name; item = item }
 
 -- NamePlusRecord: databaseName [0] OPTIONAL, record [1]
 unfoldable pub named_in : Forest → Result NamedRecord Refusal

@@ -22,13 +22,16 @@ use Rattle.unit_forms.specs.Tags as numbers
 
 -- an InitializeResponse
 abbrev as_init_reply : Init × Bool → Reply
-as_init_reply p = reply.Init p.0 p.1
+as_init_reply (init, result) = reply.Init init result
 
 unfoldable pub init_reply_in : Forest → Result Reply Refusal
 init_reply_in fields = read_as as_init_reply (init_response_in fields)
 
 -- referenceId [2] OPTIONAL, resultCount [23], numberOfRecordsReturned [24], nextResultSetPosition [25]
-unfoldable pub counts_in : Forest → Result (Option (List ℕ) × (ℕ × (ℕ × ℕ))) Refusal
+abbrev pub Counts : Type 0
+Counts = Option (List ℕ) × (ℕ × (ℕ × ℕ))
+
+unfoldable pub counts_in : Forest → Result Counts Refusal
 counts_in fields =
     optional numbers.reference_id octets_of fields
     ⊗ required numbers.result_count number_of fields
@@ -36,19 +39,25 @@ counts_in fields =
     ⊗ required numbers.next_result_set_position number_of fields
 
 -- searchStatus [22], presentStatus [27] OPTIONAL, records OPTIONAL
-unfoldable pub found_in : Forest → Result (Bool × (Option ℕ × Body)) Refusal
+abbrev pub Found : Type 0
+Found = Bool × (Option ℕ × Body)
+
+unfoldable pub found_in : Forest → Result Found Refusal
 found_in fields =
     required numbers.search_status truth_of fields ⊗ optional numbers.present_status number_of fields ⊗ body_in fields
 
-abbrev as_search_reply : (Option (List ℕ) × (ℕ × (ℕ × ℕ))) × (Bool × (Option ℕ × Body)) → Reply
-as_search_reply p = reply.Search p.0.0 p.0.1.0 p.0.1.1.0 p.0.1.1.1 p.1.0 p.1.1.0 p.1.1.1
+abbrev as_search_reply : Counts × Found → Reply
+as_search_reply ((ref_id, (count, (returned, next))), (ok, (status, body))) = reply.Search ref_id count returned next ok status body
 
 -- SearchResponse
 unfoldable pub search_reply_in : Forest → Result Reply Refusal
 search_reply_in fields = read_as as_search_reply (counts_in fields ⊗ found_in fields)
 
 -- referenceId [2] OPTIONAL, numberOfRecordsReturned [24], nextResultSetPosition [25]
-unfoldable pub returned_in : Forest → Result (Option (List ℕ) × (ℕ × ℕ)) Refusal
+abbrev pub Returned : Type 0
+Returned = Option (List ℕ) × (ℕ × ℕ)
+
+unfoldable pub returned_in : Forest → Result Returned Refusal
 returned_in fields =
     optional numbers.reference_id octets_of fields
     ⊗ required numbers.number_of_records_returned number_of fields
@@ -58,8 +67,8 @@ returned_in fields =
 unfoldable pub presented_in : Forest → Result (ℕ × Body) Refusal
 presented_in fields = required numbers.present_status number_of fields ⊗ body_in fields
 
-abbrev as_present_reply : (Option (List ℕ) × (ℕ × ℕ)) × (ℕ × Body) → Reply
-as_present_reply p = reply.Present p.0.0 p.0.1.0 p.0.1.1 p.1.0 p.1.1
+abbrev as_present_reply : Returned × (ℕ × Body) → Reply
+as_present_reply ((ref_id, (returned, next)), (status, body)) = reply.Present ref_id returned next status body
 
 -- PresentResponse
 unfoldable pub present_reply_in : Forest → Result Reply Refusal
@@ -74,7 +83,7 @@ entry_term_of field =
     else Err (LeftOut field.tag.number)))
 
 abbrev as_entry : Term × Option ℕ → ScanEntry
-as_entry p = record { term = p.0; occurrences = p.1 }
+as_entry (term, occurrences) = record { term = term; occurrences = occurrences }
 
 -- TermInfo: Term, globalOccurrences [2] OPTIONAL
 unfoldable pub entry_in : Forest → Result ScanEntry Refusal
@@ -100,7 +109,7 @@ abbrev pub Listed : Type 0
 Listed = List ScanEntry × List Diag
 
 abbrev as_listed : Option (List ScanEntry) × Option (List Diag) → Listed
-as_listed p = (or_empty p.0, or_empty p.1)
+as_listed (entries, diags) = (or_empty entries, or_empty diags)
 
 -- ListEntries: entries [1] OPTIONAL, nonsurrogateDiagnostics [2] OPTIONAL
 unfoldable pub listed_in : Forest → Result Listed Refusal
@@ -118,17 +127,21 @@ unfoldable pub listing_in : Forest → Result Listed Refusal
 listing_in fields = read_as listed_or_nothing (optional numbers.scan_entries (within listed_in) fields)
 
 -- referenceId [2] OPTIONAL, scanStatus [4], numberOfEntriesReturned [5]
-unfoldable pub scanned_in : Forest → Result (Option (List ℕ) × (ℕ × ℕ)) Refusal
+abbrev pub Scanned : Type 0
+Scanned = Option (List ℕ) × (ℕ × ℕ)
+
+unfoldable pub scanned_in : Forest → Result Scanned Refusal
 scanned_in fields =
     optional numbers.reference_id octets_of fields
     ⊗ required numbers.scan_status number_of fields
     ⊗ required numbers.number_of_entries_returned number_of fields
 
-abbrev answer_of : Option ℕ → Listed → ScanAnswer
-answer_of position listed = record { position = position; entries = listed.0 }
+abbrev answer_with : Option ℕ → List ScanEntry → ScanAnswer
+answer_with position entries = record { position = position; entries = entries }
 
-abbrev as_scan_reply : (Option (List ℕ) × (ℕ × ℕ)) × (Option ℕ × Listed) → Reply
-as_scan_reply p = reply.Scan p.0.0 p.0.1.0 (answer_of p.1.0 p.1.1) p.1.1.1
+-- the number of entries is not compared with them
+abbrev as_scan_reply : Scanned × (Option ℕ × Listed) → Reply
+as_scan_reply ((ref_id, (status, number)), (position, (entries, diags))) = reply.Scan ref_id status (answer_with position entries) diags
 
 -- ScanResponse, with positionOfTerm [6] OPTIONAL
 unfoldable pub scan_reply_in : Forest → Result Reply Refusal

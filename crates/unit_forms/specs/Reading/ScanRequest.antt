@@ -17,31 +17,34 @@ use Rattle.unit_forms.specs.Tags as numbers
 abbrev pub Start : Type 0
 Start = Option (List ℕ) × (Asked (List Attr × Term) × (Option ℕ × (ℕ × Option ℕ)))
 
-abbrev ask_with : Start → List Attr × Term → ScanAsk
-ask_with p start = record {
-  attr_set = p.0;
-  attrs = start.0;
-  term = start.1;
-  step = p.1.1.0;
-  number = p.1.1.1.0;
-  position = p.1.1.1.1;
+abbrev pub ask_with : Option (List ℕ) → Option ℕ → ℕ → Option ℕ → List Attr × Term → ScanAsk
+ask_with attr_set step number position (attrs, term) = record {
+  attr_set = attr_set;
+  attrs = attrs;
+  term = term;
+  step = step;
+  number = number;
+  position = position;
 }
 
-abbrev as_ask : Start → Asked ScanAsk
-as_ask p = asked_as (ask_with p) p.1.0
+-- what is asked, where the attributes and the term are served
+abbrev pub as_ask : Start → Asked ScanAsk
+as_ask (attr_set, (operand, (step, (number, position)))) = asked_as (ask_with attr_set step number position) operand
 
 -- attributeSet OPTIONAL, an OBJECT IDENTIFIER; termListAndStartPoint [102]; stepSize [5] OPTIONAL; numberOfTermsRequested [6]; preferredPositionInResponse [7] OPTIONAL
-unfoldable pub ask_in : Forest → Result (Asked ScanAsk) Refusal
-ask_in fields =
-    read_as as_ask (
+unfoldable pub start_in : Forest → Result Start Refusal
+start_in fields =
     optional_of (universal numbers.object_identifier ∷ []) oid_of fields
     ⊗ required numbers.term_list_and_start_point (within attrs_and_term_in) fields
     ⊗ optional numbers.step_size number_of fields
     ⊗ required numbers.number_of_terms_requested number_of fields
-    ⊗ optional numbers.preferred_position_in_response number_of fields)
+    ⊗ optional numbers.preferred_position_in_response number_of fields
+
+unfoldable pub ask_in : Forest → Result (Asked ScanAsk) Refusal
+ask_in fields = read_as as_ask (start_in fields)
 
 abbrev as_scan : Option (List ℕ) × (List (List ℕ) × Asked ScanAsk) → Scan
-as_scan p = record { ref_id = p.0; dbs = p.1.0; ask = p.1.1 }
+as_scan (ref_id, (dbs, ask)) = record { ref_id = ref_id; dbs = dbs; ask = ask }
 
 -- referenceId [2] OPTIONAL, databaseNames [3], and what is asked for
 unfoldable pub scan_in : Forest → Result Scan Refusal

@@ -66,18 +66,18 @@ wanted_in fields =
     ⊗ required numbers.query (within query_in) fields
 
 abbrev pub as_search : Bounds × (Named × Wanted) → Search
-as_search p = record {
-  ref_id = p.0.0;
-  small = p.0.1.0;
-  large = p.0.1.1.0;
-  medium = p.0.1.1.1;
-  replace = p.1.0.0;
-  set_name = p.1.0.1.0;
-  dbs = p.1.0.1.1;
-  small_element = name_in p.1.1.0;
-  medium_element = name_in p.1.1.1.0;
-  syntax = p.1.1.1.1.0;
-  query = with_names p.1.1.1.0 (with_names p.1.1.0 p.1.1.1.1.1);
+as_search ((ref_id, (small, (large, medium))), ((replace, (set_name, dbs)), (small_names, (medium_names, (syntax, query))))) = record {
+  ref_id = ref_id;
+  small = small;
+  large = large;
+  medium = medium;
+  replace = replace;
+  set_name = set_name;
+  dbs = dbs;
+  small_element = name_in small_names;
+  medium_element = name_in medium_names;
+  syntax = syntax;
+  query = with_names medium_names (with_names small_names query);
 }
 
 -- SearchRequest

@@ -1,4 +1,4 @@
--- Addresses are tested and copied exactly (this project's own)
+-- For proofs alone: addresses are tested and copied exactly (this project's own)
 use Rattle.std.proofs.Common.{ap}
 use Rattle.z_types.specs.Exact.{EqIsExact, CloneIsExact}
 use Rattle.z_types.specs.equality.Tests.{numbers_exact}

@@ -1,4 +1,4 @@
--- What a session is asked for is tested and copied exactly (this project's own)
+-- For proofs alone: what a session is asked for is tested and copied exactly (this project's own)
 use Rattle.std.specs.Prelude.{ℕ, List, Option}
 use Rattle.std.proofs.Common.{ap}
 use Rattle.z_types.specs.Exact.{EqIsExact, CloneIsExact}

@@ -1,4 +1,4 @@
--- What a request asks for, or its diagnostic, is tested and copied exactly (this project's own)
+-- For proofs alone: what a request asks for, or its diagnostic, is tested and copied exactly (this project's own)
 use Rattle.std.specs.Prelude.{◌≡◌, Bool, true, false, refl}
 use Rattle.std.specs.Cmp.{IsEquivalence, IsPartialEquivalence, partial_equiv_from_equiv}
 use Rattle.std.proofs.Common.{ap}

@@ -1,4 +1,4 @@
--- Diagnostics are tested and copied exactly (this project's own)
+-- For proofs alone: diagnostics are tested and copied exactly (this project's own)
 use Rattle.std.specs.Prelude.{refl}
 use Rattle.z_types.specs.equality.Parts.{Exactness, part, ◌⊗◌, made_of, number, text}
 use Rattle.z_types.specs.declared.diagnostic.Diag.{Diag}

@@ -1,4 +1,4 @@
--- Keys of result sets are tested and copied exactly (this project's own)
+-- For proofs alone: keys of result sets are tested and copied exactly (this project's own)
 use Rattle.std.specs.Prelude.{refl}
 use Rattle.z_types.specs.equality.Parts.{Exactness, part, ◌⊗◌, made_of, text, list}
 use Rattle.z_types.specs.equality.RpnQuery.{rpn_query}

@@ -1,4 +1,4 @@
--- Result sets of a client are tested and copied exactly (this project's own)
+-- For proofs alone: result sets of a client are tested and copied exactly (this project's own)
 use Rattle.std.specs.Prelude.{refl}
 use Rattle.z_types.specs.equality.Parts.{Exactness, part, ◌⊗◌, made_of, number, text, list}
 use Rattle.z_types.specs.equality.RpnQuery.{rpn_query}

@@ -1,4 +1,4 @@
--- Limits are tested exactly (this project's own)
+-- For proofs alone: limits are tested exactly (this project's own)
 use Rattle.std.specs.Prelude.{refl}
 use Rattle.z_types.specs.equality.Parts.{Exactness, part, ◌⊗◌, made_of, number}
 use Rattle.z_types.specs.declared.limits.Limits.{Limits}

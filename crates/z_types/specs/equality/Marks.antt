@@ -1,4 +1,4 @@
--- Marks and ends are tested exactly (this project's own)
+-- For proofs alone: marks and ends are tested exactly (this project's own)
 use Rattle.std.specs.Prelude.{refl}
 use Rattle.std.proofs.Common.{ap}
 use Rattle.z_types.specs.Exact.{EqIsExact}

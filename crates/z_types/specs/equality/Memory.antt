@@ -1,4 +1,4 @@
--- Want of memory is tested exactly (this project's own)
+-- For proofs alone: want of memory is tested exactly (this project's own)
 use Rattle.std.specs.Prelude.{refl}
 use Rattle.z_types.specs.Exact.{EqIsExact}
 use Rattle.z_types.specs.contracts.memory.MemoryPartialEq.TheImpl as memory_test

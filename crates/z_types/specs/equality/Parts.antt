@@ -1,4 +1,4 @@
--- Values that are tested and copied part by part, each part exactly, are so themselves (this project's own)
+-- For proofs alone: values that are tested and copied part by part, each part exactly, are so themselves (this project's own)
 use Rattle.std.specs.Prelude.{◌≡◌, ℕ, ℤ, Bool, true, ◌&&◌, List, Option}
 use Rattle.std.proofs.Common.{ap, sym, ◌∙◌}
 use Rattle.z_types.specs.Exact.{EqIsExact, CloneIsExact}

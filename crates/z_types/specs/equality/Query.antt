@@ -1,8 +1,9 @@
--- The parts of queries, and their structures, are tested and copied exactly (this project's own)
-use Rattle.std.specs.Prelude.{◌≡◌, refl, Bool, true, false, ◌&&◌, ◌==◌}
+-- For proofs alone: the parts of queries, and their structures, are tested and copied exactly (this project's own)
+use Rattle.std.specs.Prelude.{◌≡◌, refl, Bool, true, false, ◌&&◌}
 use Rattle.std.specs.Cmp.{IsEquivalence, IsPartialEquivalence, partial_equiv_from_equiv}
 use Rattle.std.proofs.Common.{ap}
 use lib.Pointwise.{pointwise}
+use Rattle.z_types.specs.Same.{is_same}
 use Rattle.z_types.specs.Exact.{EqIsExact, CloneIsExact}
 use Rattle.z_types.specs.equality.Tests.{both_true, exact_equiv, itself_cloned, lists_exact, text_exact, ints_exact}
 use Rattle.z_types.specs.equality.Parts.{Exactness, part, ◌⊗◌, made_of, shown, number, text, option}
@@ -49,7 +50,7 @@ term = shown term_exact term_cloned
 -- the nodes are alike, and so are their parts
 abbrev pub tree_eq : Tree → Tree → Bool
 tree_eq (leaf attrs term) (leaf others other) = pointwise attr_eq attrs others && term_eq term other
-tree_eq (operand name) (operand other) = pointwise ◌==◌ name other
+tree_eq (operand name) (operand other) = is_same name other
 tree_eq (and l r) (and m s) = tree_eq l m && tree_eq r s
 tree_eq (or l r) (or m s) = tree_eq l m && tree_eq r s
 tree_eq (and_not l r) (and_not m s) = tree_eq l m && tree_eq r s

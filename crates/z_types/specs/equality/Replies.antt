@@ -1,4 +1,4 @@
--- Replies are tested and copied exactly (this project's own)
+-- For proofs alone: replies are tested and copied exactly (this project's own)
 use Rattle.std.specs.Prelude.{ℕ, Bool, List, Option}
 use Rattle.std.proofs.Common.{ap}
 use Rattle.z_types.specs.Exact.{EqIsExact, CloneIsExact}

@@ -1,4 +1,4 @@
--- What a scan asks and answers is tested and copied exactly (this project's own)
+-- For proofs alone: what a scan asks and answers is tested and copied exactly (this project's own)
 use Rattle.std.specs.Prelude.{refl}
 use Rattle.z_types.specs.equality.Parts.{Exactness, part, ◌⊗◌, made_of, number, text, list, option}
 use Rattle.z_types.specs.equality.Query.{attr, term}

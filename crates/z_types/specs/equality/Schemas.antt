@@ -1,4 +1,4 @@
--- Schemas are tested and copied exactly (this project's own)
+-- For proofs alone: schemas are tested and copied exactly (this project's own)
 use Rattle.std.specs.Prelude.{refl}
 use Rattle.z_types.specs.equality.Parts.{Exactness, part, ◌⊗◌, made_of, text}
 use Rattle.z_types.specs.declared.schemas.Schema.{Schema}

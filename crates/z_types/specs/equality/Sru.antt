@@ -1,4 +1,4 @@
--- Answers to SRU clients are tested and copied exactly (this project's own)
+-- For proofs alone: answers to SRU clients are tested and copied exactly (this project's own)
 use Rattle.std.specs.Prelude.{refl}
 use Rattle.std.proofs.Common.{ap}
 use Rattle.z_types.specs.Exact.{EqIsExact, CloneIsExact}

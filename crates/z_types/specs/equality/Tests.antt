@@ -1,4 +1,4 @@
--- Tests and copies of lists, options, numbers and yes or no are exact (this project's own)
+-- For proofs alone: tests and copies of lists, options, numbers and yes or no are exact (this project's own)
 use Rattle.std.specs.Prelude.{◌≡◌, ℕ, Bool, true, false, ◌&&◌, ◌==◌, [], ◌∷◌, refl, Option, None, Some}
 use Rattle.std.specs.List.{AllZip}
 use Rattle.std.specs.Option.{option_eq}

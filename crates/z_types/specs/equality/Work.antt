@@ -1,4 +1,4 @@
--- What is asked of the targets is tested and copied exactly (this project's own)
+-- For proofs alone: what is asked of the targets is tested and copied exactly (this project's own)
 use Rattle.std.specs.Prelude.{ℕ, List, Option}
 use Rattle.std.proofs.Common.{ap}
 use Rattle.z_types.specs.Exact.{EqIsExact, CloneIsExact}

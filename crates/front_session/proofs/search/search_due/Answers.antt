@@ -3,7 +3,7 @@ use Rattle.gateway_rules.specs.Asking.{query_work}
 use Rattle.gateway_rules.specs.Checks.{search_checks}
 use Rattle.front_session.specs.Refusals.{client_with}
 use Rattle.front_session.proofs.CheckLemmas.{due_refused}
-use Rattle.front_session.proofs.SearchLemmas.{search_fails, search_works}
+use Rattle.front_session.proofs.SearchLemmas.{search_fails, search_works, search-ready}
 use Rattle.front_session.proofs.search.search_due.Goals as goal
 
 pub returns-in_err-legs-clause-due : goal.returns-in_err-legs-clause-due
@@ -18,10 +18,15 @@ pub returns-in_err-query-clause-due : goal.returns-in_err-query-clause-due
 returns-in_err-query-clause-due c =
     let p = err_from_is_err_and c.from_residual-in_err-query.result c.from_residual-in_err-query.ensures.1 in
     let client = client_with c.args.spent.now c.args.sets.now in
-    rw (p.1, p.2) (search_fails c.args.route.now client c.args.search.now c.in_ok-legs.legs c.in_err-query.field-0.0 c.in_ok-legs.ensures.0 c.in_ok-legs.ensures.1 c.in_err-query.ensures)
+    rw (p.1, p.2) (search_fails c.args.route.now client c.args.search.now c.in_ok-legs.legs c.in_err-query.field-0.0 c.in_ok-legs.ensures.0 c.in_ok-legs.ensures.1.found c.in_err-query.ensures.expansion)
 
 pub returns-clause-due : goal.returns-clause-due
 returns-clause-due c =
     let client = client_with c.args.spent.now c.args.sets.now in
-    let works = search_works c.args.route.now client c.args.search.now c.in_ok-legs.legs c.in_ok-query.query c.in_ok-legs.ensures.0 c.in_ok-legs.ensures.1 c.in_ok-query.ensures in
+    let works = search_works c.args.route.now client c.args.search.now c.in_ok-legs.legs c.in_ok-query.query c.in_ok-legs.ensures.0 c.in_ok-legs.ensures.1.found c.in_ok-query.ensures.expansion in
     rw (c.in_ok-search_work.ensures, c.room_left-room.ensures.room, c.parts.ensures.same) works
+
+pub returns-clause-ready : goal.returns-clause-ready
+returns-clause-ready c =
+    search-ready c.args.route.now c.args.search.now c.in_ok-legs.legs c.in_ok-query.query c.room_left-room.result c.args.spent.now.records _
+    c.in_ok-search_work.ensures c.in_ok-legs.ensures.1 c.in_ok-query.ensures.askable c.room_left-room.ensures.few c.room_left-room.ensures.fits

@@ -1,4 +1,4 @@
-use Rattle.gateway_rules.proofs.Parts.{rest-ends}
+use Rattle.gateway_rules.proofs.Runs.{rest-ends}
 use Rattle.gateway_rules.proofs.laws.rest_ends.Goals as goal
 
 pub returns : goal.returns

@@ -1,4 +1,4 @@
-use Rattle.gateway_rules.proofs.Parts.{runs-go-on}
+use Rattle.gateway_rules.proofs.Runs.{runs-go-on}
 use Rattle.gateway_rules.proofs.laws.runs_go_on.Goals as goal
 
 pub returns : goal.returns

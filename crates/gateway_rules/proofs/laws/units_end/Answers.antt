@@ -1,4 +1,4 @@
-use Rattle.gateway_rules.proofs.Parts.{units-end}
+use Rattle.gateway_rules.proofs.Runs.{units-end}
 use Rattle.gateway_rules.proofs.laws.units_end.Goals as goal
 
 pub returns : goal.returns

@@ -20,7 +20,7 @@ loop-behind-preserved g c =
     let w = c.args.wanted in
     let f = record_at g.T.World c.args.route.now w.legs.now w.query.now (option_copied w.syntax) (option_copied w.element) in
     records_more f c.args.hits.now c.args.first c.loop-behind.behind (c.args.first + c.loop-behind.behind) _ c.loop-behind.records
-    c.put.new.records c.in-Good.record c.requires.counted refl (rw c.as_slice.ensures at c.locate-leg.ensures)
+    c.push_next.new.records c.in-Good.record c.requires.counted refl (rw c.as_slice.ensures at c.locate-leg.ensures)
     c.loop-behind.invariant c.in-Good.ensures c.in-Ok.ensures
 
 pub returns : goal.returns

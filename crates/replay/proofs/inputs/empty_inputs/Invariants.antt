@@ -1,5 +1,5 @@
 use Rattle.std.proofs.Common.{◌≤◌, ◌-◌, length}
-use Rattle.replay.specs.Inputs.{AreEmpty}
+use Rattle.replay.specs.steps.Inputs.{AreEmpty}
 use Rattle.replay.proofs.inputs.empty_inputs.Given as goal
 
 abbrev pub invariant-empty : goal.invariant-empty

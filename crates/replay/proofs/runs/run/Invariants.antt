@@ -1,4 +1,4 @@
-use Rattle.replay.specs.Report.{AreReportsUpto}
+use Rattle.replay.specs.steps.Reports.{AreReportsUpto}
 use Rattle.replay.proofs.runs.run.Given as goal
 
 abbrev pub invariant-loop-place : goal.invariant-loop-place

@@ -1,5 +1,5 @@
 use Rattle.std.proofs.Common.{◌≡◌, drop}
-use Rattle.sru_request.specs.Choices.{number_after}
+use Rattle.z_types.specs.Digits.{number_after}
 use Rattle.sru_request.proofs.number.number_written.Given as goal
 
 -- the number so far goes on by the digits that are left

@@ -1,5 +1,7 @@
-use Rattle.std.proofs.Common.{◌≡◌, ◌≤◌, []}
+use Rattle.std.proofs.Common.{◌≡◌, [], false}
 use Rattle.z_ber.specs.Due.{Stands}
+use Rattle.gw_outside.specs.Counts.{WireCounts, nothing}
+use Rattle.gw_outside.specs.Happened.{AreSame}
 use Rattle.z_client.specs.Arrivals.{CameFrom}
 use Rattle.z_client.proofs.arrivals.await_unit.Given as goal
 
@@ -7,7 +9,8 @@ abbrev pub invariant-loop : goal.invariant-loop
 invariant-loop g l = record {
   stands : Stands (g.N.Link.Linked.arrived l.link) l.scan.passed l.scan.opened;
   peer : g.N.Link.Linked.arrived l.fn.link ≡ []
-      → CameFrom (g.N.Link.Linked.peer l.fn.link) (g.N.Link.Linked.peer l.link) (g.N.Link.Linked.arrived l.link);
-  faults : g.N.Wire.faults l.fn.wire ≤ g.N.Wire.faults l.wire;
-  waits : g.N.Wire.waits l.wire ≡ g.N.Wire.waits l.fn.wire;
+      → CameFrom g.N.Watched.exact (g.N.Link.Linked.peer l.fn.link) (g.N.Link.Linked.peer l.link) (g.N.Link.Linked.arrived l.link)
+      (g.N.Watched.counts l.fn.wire) (g.N.Watched.counts l.wire);
+  happened : AreSame (g.N.Watched.happened l.fn.wire) (g.N.Watched.happened l.wire);
+  counts : WireCounts false nothing (g.N.Watched.counts l.fn.wire) (g.N.Watched.counts l.wire);
 }

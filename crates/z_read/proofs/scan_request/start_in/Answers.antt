@@ -1,7 +1,14 @@
-use Rattle.z_read.proofs.RowLemmas.{ask_rows}
+use Rattle.unit_forms.specs.Reading.ScanRequest.{start_in}
+use Rattle.z_read.proofs.RowLemmas.{both_rows, told_row}
 use Rattle.z_read.proofs.scan_request.start_in.Goals as goal
 
 pub returns : goal.returns
+unfolding start_in
 returns c =
-    ask_rows _ _ _ _ _ _ _ _ _ _ c.in_ok-attr_set.ensures c.in_ok-start.ensures c.optional_number-step.ensures
-    c.required_number-number.ensures c.optional_number-position.ensures c.both.ensures c.both-2.ensures c.both-3.ensures c.both-4.ensures
+    both_rows _ _ _ _ _ c.optional_set-attr_set.ensures
+    (both_rows _ _ _ _ _ c.required_start-start.ensures
+    (both_rows _ _ _ _ _ (told_row _ _ c.optional_number-step.ensures)
+    (both_rows _ _ _ _ _ (told_row _ _ c.required_number-number.ensures) (told_row _ _ c.optional_number-position.ensures) c.both.ensures)
+    c.both-2.ensures)
+    c.both-3.ensures)
+    c.both-4.ensures

@@ -1,6 +1,6 @@
 use Rattle.std.proofs.Common.{rules, not}
 use Rattle.std.proofs.lemmas.Fn.{filter_same}
-use Rattle.z_sets.specs.Sets.{is_same}
+use Rattle.z_types.specs.Same.{is_same}
 use Rattle.z_sets.proofs.sets.remove_in.Goals as goal
 
 pub returns-clause-others : goal.returns-clause-others

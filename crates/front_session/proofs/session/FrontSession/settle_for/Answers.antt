@@ -9,4 +9,4 @@ end-requires-clause-records c =
 pub end-requires-clause-after : goal.end-requires-clause-after
 end-requires-clause-after c =
     rw (c.in_ok-answer.ensures.is_good, c.in_ok-answer.ensures.hits)
-    (each-behind c.args.pending.request c.args.pending.work c.args.outcome c.args.self.now.sets c.requires.waits.begins c.requires.fits c.requires.kept.sets)
+    (each-behind c.args.pending.request c.args.pending.work c.args.outcome c.args.self.now.sets c.requires.waits.begins c.requires.waits.asks c.requires.fits c.requires.kept.sets)

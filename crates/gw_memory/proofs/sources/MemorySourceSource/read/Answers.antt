@@ -1,5 +1,6 @@
 use Rattle.std.proofs.Common.{◌≡◌, ◌∙◌, ◌+◌, ◌<◌, ◌++◌, ℕ, List, Some, length, min, take, drop, subst, sym, ap, refl, arith}
 use Rattle.std.proofs.lemmas.List.{take-append-drop, drop-drop}
+use Rattle.std.proofs.Math.Seq.{take-add}
 use Rattle.gw_outside.specs.declared.sources.Got.TheVariants.{Bytes}
 use Rattle.gw_outside.specs.Sources.{GotFits}
 use Rattle.gw_memory.proofs.sources.MemorySourceSource.read.Goals as goal
@@ -26,3 +27,12 @@ returns-clause-fits c =
     (subst (λ left. count ≡ min (length left) (length c.args.into.now)) e c.fill-count.ensures.count)
     (subst (λ left. take count into ≡ take count left) e c.fill-count.ensures.front)
     c.fill-count.ensures.behind
+
+-- what was given is what had been given and what is given now
+pub returns-clause-given : goal.returns-clause-given
+returns-clause-given c =
+    let given = c.args.self.now.given in
+    let count = c.fill-count.result in
+    let bytes = c.args.self.now.bytes in
+    let front = c.fill-count.ensures.front ∙ ap (λ left. take count left) c.left-left.ensures.left in
+    ap Some (take-add given count bytes ∙ ap (λ piece. take given bytes ++ piece) (sym front))

@@ -1,0 +1,55 @@
+//! One session: its files, and whether its replay prints its page.
+
+use gateway_top::{Status, top};
+use gw_memory::{MemoryFiles, MemorySink};
+use std::alloc::Global;
+use std::{fs, io, rt};
+use test_target::TestWorld;
+use z_types::{List, Memory, Text};
+
+/// Whether the replay of the session in this folder prints its page.
+pub(crate) fn has_its_page<R: rt::Files + AllocGlobal>(
+    runtime: &R,
+    folder: &str,
+) -> io::Result<bool> {
+    let alloc = runtime.alloc();
+    let route = text_of(runtime, folder, "route.toml")?;
+    let script = text_of(runtime, folder, "script")?;
+    let page = text_of(runtime, folder, "page")?;
+    match prints(alloc, route, script, page.as_slice()) {
+        Ok(has_page) => Ok(has_page),
+        Err(Memory) => Err(io::Error::from(io::ErrorKind::OutOfMemory)),
+    }
+}
+
+/// The octets of a file in a folder.
+fn text_of<R: rt::Files + AllocGlobal>(runtime: &R, folder: &str, name: &str) -> io::Result<Text> {
+    let path = format!(in runtime.alloc(); "{folder}/{name}")?;
+    Ok(Text::from_vec(fs::read(runtime, path.as_str())?))
+}
+
+/// Whether a replay ends well, and prints this page and nothing else.
+fn prints(alloc: Global, route: Text, script: Text, page: &[u8]) -> Result<bool, Memory> {
+    let mut files = files(alloc, route, script)?;
+    let words = [
+        word(alloc, b"replay")?,
+        word(alloc, b"route")?,
+        word(alloc, b"script")?,
+    ];
+    let mut out = MemorySink::new(alloc, List::new(alloc));
+    let status = top(alloc, &words, &mut files, &mut out, &TestWorld);
+    Ok(status == Status::Ok && out.received() == page)
+}
+
+/// The files `route` and `script`.
+fn files(alloc: Global, route: Text, script: Text) -> Result<MemoryFiles, Memory> {
+    let mut files = List::new(alloc);
+    files.push((word(alloc, b"route")?, route))?;
+    files.push((word(alloc, b"script")?, script))?;
+    Ok(MemoryFiles::new(files, List::new(alloc)))
+}
+
+/// A text of these octets.
+fn word(alloc: Global, octets: &[u8]) -> Result<Text, Memory> {
+    Text::copy_of(alloc, octets)
+}

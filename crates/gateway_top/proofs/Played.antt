@@ -1,0 +1,70 @@
+-- A route played by the files as they were left is one played by them as they were at first.
+use Rattle.std.proofs.Common.{◌≡◌, ◌≤◌, ℕ, List, Option, Some, None, IfSome, subst, inr, arith}
+use Rattle.z_types.specs.Counts.{Rose}
+use Rattle.z_types.specs.declared.world.World as world
+use Rattle.route_config.specs.declared.route.Route.{Route}
+use Rattle.gateway_top.specs.Configs.{IsConfigurationOf, first_real}
+use Rattle.gateway_top.specs.Outcome.{ScriptPlayed, RoutePlayed, ReplayDone, IsMemoryOr}
+use Rattle.gateway_top.specs.Outside.{FileReads, SinkWrites}
+use Rattle.gateway_top.specs.declared.status.Status.{Status}
+use Rattle.gateway_top.specs.declared.status.Status.TheVariants as status
+
+-- what files have, how their faults rose, and which read failed last
+abbrev reads : (List ℕ → Option (List ℕ)) → (before after : ℕ) → Option (List ℕ) → FileReads
+reads contents before after failed = record { contents = contents; faults = before; faults_after = after; failed_after = failed }
+
+-- a count that rose later rose
+rose-earlier : (f g after : ℕ) → f ≤ g → Rose g after → Rose f after
+rose-earlier f g after le rose = omega (arith, rose)
+
+-- the same, of the files that were read before
+route-earlier : {W : Type 0} (w : world.Ghosts W) (real : Option (List ℕ)) (route : Route) (script : List ℕ)
+    (c d : List ℕ → Option (List ℕ)) (f g after : ℕ) (failed : Option (List ℕ)) (writes : SinkWrites) (ended : Status)
+    → d script ≡ c script → f ≤ g
+    → RoutePlayed w real route script (reads d g after failed) writes ended
+    → RoutePlayed w real route script (reads c f after failed) writes ended
+route-earlier w (Some name) route script c d f g after failed writes ended e le h = h
+route-earlier w None route script c d f g after failed writes status.ReadFault e le h =
+    (rose-earlier f g after le h.0, h.1, h.2)
+route-earlier w None route script c d f g after failed writes status.Ok e le h =
+    subst (λ (o : Option (List ℕ)). ScriptPlayed w route o writes status.Ok) e h
+route-earlier w None route script c d f g after failed writes status.Words e le h =
+    subst (λ (o : Option (List ℕ)). ScriptPlayed w route o writes status.Words) e h
+route-earlier w None route script c d f g after failed writes status.Config e le h =
+    subst (λ (o : Option (List ℕ)). ScriptPlayed w route o writes status.Config) e h
+route-earlier w None route script c d f g after failed writes status.Script e le h =
+    subst (λ (o : Option (List ℕ)). ScriptPlayed w route o writes status.Script) e h
+route-earlier w None route script c d f g after failed writes status.WriteFault e le h =
+    subst (λ (o : Option (List ℕ)). ScriptPlayed w route o writes status.WriteFault) e h
+route-earlier w None route script c d f g after failed writes status.Memory e le h =
+    subst (λ (o : Option (List ℕ)). ScriptPlayed w route o writes status.Memory) e h
+route-earlier w None route script c d f g after failed writes status.RealTarget e le h =
+    subst (λ (o : Option (List ℕ)). ScriptPlayed w route o writes status.RealTarget) e h
+
+-- a configuration that was taken is none that is refused
+never-config : {W : Type 0} (w : world.Ghosts W) (real : Option (List ℕ)) (route : Route) (script : List ℕ)
+    (files : FileReads) (writes : SinkWrites) → RoutePlayed w real route script files writes status.Config → ⊥
+never-config w (Some name) route script files writes h = let e = h.0 in cc
+never-config w None route script files writes h = h
+
+-- a configuration was taken, and its route played by the files as they were left
+pub taken-played : {W : Type 0} (w : world.Ghosts W) (config script : List ℕ) (route : Route)
+    (c d : List ℕ → Option (List ℕ)) (f g after : ℕ) (failed : Option (List ℕ)) (writes : SinkWrites) (ended : Status)
+    → ((other : List ℕ) → d other ≡ c other) → f ≤ g → IfSome (c config) (IsConfigurationOf route)
+    → IsMemoryOr ended writes (RoutePlayed w (first_real route) route script (reads d g after failed) writes ended)
+    → ReplayDone w config script (reads c f after failed) writes ended
+taken-played w config script route c d f g after failed writes status.Memory e le taken h = h
+taken-played w config script route c d f g after failed writes status.Config e le taken h =
+    absurd (never-config w (first_real route) route script (reads d g after failed) writes h)
+taken-played w config script route c d f g after failed writes status.ReadFault e le taken h =
+    inr (route, taken, route-earlier w (first_real route) route script c d f g after failed writes status.ReadFault (e script) le h)
+taken-played w config script route c d f g after failed writes status.Ok e le taken h =
+    (route, taken, route-earlier w (first_real route) route script c d f g after failed writes status.Ok (e script) le h)
+taken-played w config script route c d f g after failed writes status.Words e le taken h =
+    (route, taken, route-earlier w (first_real route) route script c d f g after failed writes status.Words (e script) le h)
+taken-played w config script route c d f g after failed writes status.Script e le taken h =
+    (route, taken, route-earlier w (first_real route) route script c d f g after failed writes status.Script (e script) le h)
+taken-played w config script route c d f g after failed writes status.WriteFault e le taken h =
+    (route, taken, route-earlier w (first_real route) route script c d f g after failed writes status.WriteFault (e script) le h)
+taken-played w config script route c d f g after failed writes status.RealTarget e le taken h =
+    (route, taken, route-earlier w (first_real route) route script c d f g after failed writes status.RealTarget (e script) le h)

@@ -1,0 +1,52 @@
+-- The main theorem: what is printed of a replay, and of a configuration that is checked.
+--
+-- A replay of the configuration and the script of two files printed the page of one report, and nothing else.
+-- In that report each client that the script names, once and in ascending order, and no other, was written the
+-- answers to the octets that it was fed, in whatever order the script feeds, runs and ends its clients: those
+-- of a route with private sessions with the targets and no pool, under the marks that the report lists: one for
+-- each request that is answered, and each of them Plain. No other client, no session with a target and no clock is
+-- in that answer. Where every mark is Plain, octets have one answer (`one_answer` of `gateway_rules`), and how a
+-- connection ends follows from its octets and the route alone (`one_end`). So two replays, by targets that mean the
+-- same, that feed a client the same octets write it the same, under the same marks, and end its connection the same.
+use Rattle.std.specs.Prelude.{◌≡◌, ℕ, List, [], ◌∷◌, Some, codes}
+use Rattle.z_types.specs.declared.world.World as world
+use Rattle.route_config.specs.declared.route.Route.{Route}
+use Rattle.script.specs.declared.event.Event.{Event}
+use Rattle.gateway_top.specs.Configs.{IsConfigurationOf}
+use Rattle.gateway_top.specs.Lines.{Received, check_line}
+use Rattle.gateway_top.specs.Outcome.{HasPrinted, IsPlayable}
+use Rattle.gateway_top.specs.Outside.{FileReads, SinkWrites}
+use Rattle.gateway_top.specs.declared.status.Status.{Status}
+use Rattle.gateway_top.specs.declared.status.Status.TheVariants.{Ok}
+
+-- the configuration and the script were replayed, and the page is what was printed
+pub record IsReplay {W : Type 0} (w : world.Ghosts W) (config script : List ℕ)
+    (writes : SinkWrites) : Type 0 where
+  pub route : Route
+  pub configured : IsConfigurationOf route config
+  pub events : List Event
+  pub scripted : IsPlayable route events script
+  pub printed : HasPrinted w route events writes
+
+-- the configuration was checked, and that it is good is what was printed
+pub record IsCheck (config : List ℕ) (writes : SinkWrites) : Type 0 where
+  pub route : Route
+  pub configured : IsConfigurationOf route config
+  pub printed : Received writes (check_line route)
+
+-- `replay` at Ok: the files that it names were replayed, where they are told
+abbrev pub IsReplayHeadline : {W : Type 0} → world.Ghosts W → List (List ℕ) → FileReads → SinkWrites
+    → Status → Type 0
+IsReplayHeadline w words reads writes ended =
+    (config script config_text script_text : List ℕ)
+    → ended ≡ Ok → words ≡ codes "replay" ∷ config ∷ script ∷ []
+    → reads.contents config ≡ Some config_text → reads.contents script ≡ Some script_text
+    → IsReplay w config_text script_text writes
+
+-- `check` at Ok: the file that it names was checked, where it is told
+abbrev pub IsCheckHeadline : List (List ℕ) → FileReads → SinkWrites → Status → Type 0
+IsCheckHeadline words reads writes ended =
+    (config config_text : List ℕ)
+    → ended ≡ Ok → words ≡ codes "check" ∷ config ∷ []
+    → reads.contents config ≡ Some config_text
+    → IsCheck config_text writes

@@ -1,0 +1,61 @@
+//! What the program tells of itself.
+
+ghost use Rattle.gateway_top.specs.Itself.{IsProgramDone, IsTold, own_text};
+ghost use Rattle.gateway_top.specs.Outside.{file_reads, sink_writes};
+ghost use Rattle.std.specs.Prelude.{◌≡◌};
+ghost use Rattle.std.specs.Option.{option_copied};
+
+use crate::calls::top;
+use crate::status::Status;
+use gw_outside::{Files, Sink, Targets, write_all};
+use std::alloc::Global;
+use z_types::Text;
+
+/// What `--help` prints.
+const HELP: &[u8] = b"Zaklumen, a gateway for Z39.50 and SRU.\n\n\
+check CONFIG          reads a configuration, and prints how many databases and classes it has\n\
+replay CONFIG SCRIPT  plays the octets that a script feeds to clients, and prints what they are answered\n\
+--help                prints this\n\
+--version             prints the version\n";
+
+/// What `--version` prints.
+const VERSION: &[u8] = b"zaklumen 0.1.0\n";
+
+/// One command: what the program tells of itself, and else what `top` does.
+pub fn command<T: Targets, F: Files, K: Sink>(
+    alloc: Global,
+    words: &[Text],
+    files: &mut F,
+    out: &mut K,
+    targets: &T,
+) -> Status
+    ensures { IsProgramDone T.World words.now
+        (file_reads F.Files files.old files.new) (sink_writes K.Sink out.old out.new) result }
+{
+    match own_text(words) {
+        Some(text) => tell(out, text),
+        None => top(alloc, words, files, out, targets),
+    }
+}
+
+/// The text of the program's own that these words ask for.
+fn own_text(words: &[Text]) -> Option<&'static [u8]>
+    ensures { option_copied result ≡ own_text words.now }
+{
+    match words {
+        [word] if word.as_slice() == b"--help".as_slice() => Some(HELP),
+        [word] if word.as_slice() == b"--version".as_slice() => Some(VERSION),
+        _ => None,
+    }
+}
+
+/// Prints a text of the program's own.
+fn tell<K: Sink>(out: &mut K, text: &[u8]) -> Status
+    ensures { IsTold text.now (sink_writes K.Sink out.old out.new) result }
+{
+    if write_all(out, text) {
+        Status::Ok
+    } else {
+        Status::WriteFault
+    }
+}

@@ -1,0 +1,112 @@
+//! A script, read and played.
+
+ghost use Rattle.std.specs.Prelude.{◌≤◌, length, Some};
+ghost use Rattle.std.specs.List.{AllByRecursion};
+ghost use Rattle.script.specs.Events.{HasClient};
+ghost use Rattle.gateway_top.specs.Outcome.{IsRefusal, IsUnreadTold, Played, ScriptPlayed, ScriptDone};
+ghost use Rattle.gateway_top.specs.Outside.{file_reads, sink_writes};
+
+use crate::say::{fault_line, say, script_line};
+use crate::status::Status;
+use gw_outside::{FileGot, Files, Sink, Targets, write_all};
+use replay::{print, run};
+use route_config::{Route, target_names};
+use script::{Event, ScriptFault, read_script};
+use std::alloc::Global;
+use z_types::{List, Text};
+
+/// The most octets of a script.
+const SCRIPT_LIMIT: usize = 16_777_216;
+
+/// Plays the script of a name.
+pub(crate) fn play_script<T: Targets, F: Files, K: Sink>(
+    alloc: Global,
+    route: &Route,
+    targets: &T,
+    files: &mut F,
+    name: &Text,
+    out: &mut K,
+) -> Status
+    ensures { ScriptDone T.World route.now name.now
+        (file_reads F.Files files.old files.new) (sink_writes K.Sink out.old out.new) result }
+{
+    match files.read_all(alloc, name, SCRIPT_LIMIT) {
+        FileGot::Whole(text) => play_text(alloc, route, targets, text.as_slice(), out),
+        FileGot::Longer => refuse(alloc, out, 0),
+        FileGot::Failed => unread(alloc, out, name),
+        FileGot::Memory => Status::Memory,
+    }
+}
+
+/// Tells that the file of a name could not be read.
+pub(crate) fn unread<K: Sink>(alloc: Global, out: &mut K, name: &Text) -> Status
+    ensures { IsUnreadTold name.now (sink_writes K.Sink out.old out.new) result }
+{
+    match fault_line(alloc, name) {
+        Ok(line) => {
+            say(out, line.as_slice());
+            Status::ReadFault
+        }
+        Err(_) => Status::Memory,
+    }
+}
+
+/// Plays a script of these octets.
+fn play_text<T: Targets, K: Sink>(
+    alloc: Global,
+    route: &Route,
+    targets: &T,
+    text: &[u8],
+    out: &mut K,
+) -> Status
+    requires { length text.now ≤ 16777216 }
+    ensures { ScriptPlayed T.World route.now (Some text.now)
+        (sink_writes K.Sink out.old out.new) result }
+{
+    let Ok(names) = target_names(alloc, route) else {
+        return Status::Memory;
+    };
+    match read_script(alloc, text, &names) {
+        Ok(events) => play(alloc, route, targets, &events, out),
+        Err(ScriptFault::Line(number)) => refuse(alloc, out, number),
+        Err(ScriptFault::TooMany(number)) => refuse(alloc, out, number),
+        Err(ScriptFault::Memory) => Status::Memory,
+    }
+}
+
+/// Refuses a script at a line.
+fn refuse<K: Sink>(alloc: Global, out: &mut K, number: u64) -> Status
+    ensures { IsRefusal number (sink_writes K.Sink out.old out.new) result }
+{
+    match script_line(alloc, number) {
+        Ok(line) => {
+            say(out, line.as_slice());
+            Status::Script
+        }
+        Err(_) => Status::Memory,
+    }
+}
+
+/// Plays events, and prints the page of their report.
+fn play<T: Targets, K: Sink>(
+    alloc: Global,
+    route: &Route,
+    targets: &T,
+    events: &List<Event>,
+    out: &mut K,
+) -> Status
+    requires { AllByRecursion HasClient events.now }
+    ensures { Played T.World route.now events.now (sink_writes K.Sink out.old out.new) result }
+{
+    let Ok(report) = run(alloc, route, targets, events) else {
+        return Status::Memory;
+    };
+    let Ok(text) = print(alloc, &report) else {
+        return Status::Memory;
+    };
+    if write_all(out, text.as_slice()) {
+        Status::Ok
+    } else {
+        Status::WriteFault
+    }
+}

@@ -1,0 +1,11 @@
+pub mod AccountSteps
+pub mod Ends
+pub mod Own
+pub mod Fetched
+pub mod Heards
+pub mod Opened
+pub mod Asked
+pub mod Lacks
+pub mod Settled
+pub mod Replied
+pub mod AwaitedLemmas

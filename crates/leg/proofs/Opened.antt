@@ -1,0 +1,59 @@
+-- How a leg opens a session
+use Rattle.std.proofs.Common.{◌≡◌, ◌<◌, ℕ, List, [], length, Contains, Option, None, Some, refl, subst, sym, arith}
+use Rattle.std.proofs.lemmas.List.Elements.{Contains-get_or}
+use Rattle.std.specs.List.{IsDistinct}
+use Rattle.z_types.specs.declared.key.SetKey.{SetKey}
+use Rattle.z_types.specs.declared.address.Address.{Address}
+use Rattle.z_types.specs.declared.address.Address.TheVariants.{Test}
+use Rattle.z_types.specs.declared.sitting.Sitting as sitting
+use Rattle.z_types.specs.declared.world.World as world
+use Rattle.gw_outside.specs.Sessions.{IfSession}
+use Rattle.gw_outside.specs.declared.backends.Opening.{Opening}
+use Rattle.gw_outside.specs.declared.backends.Opening.TheVariants as opening
+use Rattle.pool_sets.specs.Kept.{TableKept}
+use Rattle.leg.specs.declared.phases.Held.{Held}
+use Rattle.leg.specs.declared.tasks.Task.{Task}
+use Rattle.leg.specs.declared.tasks.Task.TheVariants.{Hits, Records, Scan}
+use Rattle.leg.specs.Kept.{ItemsKept}
+use Rattle.leg.specs.Tasks.{MayDo}
+use Rattle.pool_sets.specs.Plain.{address_at}
+use Rattle.pool_sets.specs.Doors.{LacksWanted}
+use Rattle.pool_sets.specs.Table.{Table, empty_table, same_key, set_of}
+
+-- the address that was named is one of the members'
+pub named_among : (at : List Address) (member : ℕ) (address : Address) → member < length at → address ≡ address_at at member → Contains at address
+named_among at member address within e =
+    let P : Address → Type 0 = Contains at in subst P (sym e) (Contains-get_or at member (Test 0) within)
+
+-- what holds of a session that was opened
+pub if_session : {S : Type 0} (P Q : S → Type 0) (made : Opening S) → ((s : S) → P s → Q s) → IfSession made P → IfSession made Q
+if_session P Q (opening.Session session) h k = h session k
+if_session P Q (opening.Failed linked) h k = tt
+if_session P Q opening.Memory h k = tt
+
+-- no key stands twice where there is none
+none_twice : IsDistinct same_key []
+unfolding IsDistinct
+none_twice = tt
+
+-- a table without sets lacks the set that is wanted
+pub empty_lacks : (want : Option SetKey) (table : Table) (most : ℕ) → table ≡ empty_table most → LacksWanted want table
+empty_lacks None table most e = tt
+empty_lacks (Some key) table most e = subst (λ (x : Table). set_of key x ≡ None) (sym e) refl
+
+module _ {W S : Type 0} (w : world.Ghosts W) (t : sitting.Ghosts S W) where
+  none_kept : (u : S) (address : Address) (most : ℕ) → t.address u ≡ address
+      → TableKept w t (record { session = u; table = empty_table most; address = address })
+  none_kept u address most a = record { same_address = a; each = λ i d h. absurd (omega arith); once = none_twice }
+
+  -- a table without sets is kept
+  pub empty_kept : (u : S) (table : Table) (address : Address) (most : ℕ) → table ≡ empty_table most → t.address u ≡ address
+      → TableKept w t (record { session = u; table = table; address = address })
+  empty_kept u table address most e a =
+      subst (λ (x : Table). TableKept w t (record { session = u; table = x; address = address })) (sym e) (none_kept u address most a)
+
+  -- at first there are no records
+  pub no_items : (task : Task) (held : Held S) → MayDo task → ItemsKept w t task held []
+  no_items (Records key first count syntax element) held m = (let some = m.1.some in omega arith, λ told. tt)
+  no_items (Hits key) held m = refl
+  no_items (Scan scan) held m = refl

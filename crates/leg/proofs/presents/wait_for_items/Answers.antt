@@ -1,0 +1,42 @@
+use Rattle.std.proofs.Common.{sym, subst, refl}
+use Rattle.z_types.specs.declared.address.Address.{Address}
+use Rattle.gw_outside.specs.Sessions.{LookCounts}
+use Rattle.leg.specs.Deeds.{heard, rises_of}
+use Rattle.leg.specs.Tasks.{want_of}
+use Rattle.leg.proofs.AccountSteps.{looks_grow}
+use Rattle.leg.proofs.Heards.{present_heard}
+use Rattle.leg.proofs.presents.wait_for_items.Goals as goal
+
+pub returns : goal.returns
+returns g c = record {
+  step = λ now door.
+      let f = c.after_present.ensures.follows now door.counts.most in
+      let l = c.look-heard.ensures in
+      let deed = heard c.look-heard.result c.look-heard.new.session in
+      let before = g.B.Watched.counts c.args.backend.now in
+      let after = g.B.Watched.counts c.look-heard.new.self in
+      record {
+        law = record {
+          deed = deed;
+          due = record { fits = l.fits; waits = l.pending; address = l.address };
+          goes = f.goes;
+          account = f.account;
+          looks = looks_grow c.args.terms.now.class (rises_of (want_of c.args.task.now) deed) c.args.held.given c.args.looks c.look-heard.result c.args.account.now c.after_present.new.account f.account c.requires.counts.account.most_looks;
+          pool = refl;
+          door_counts = refl;
+          backend_moves = record {
+            counts = subst (λ (x : Address). LookCounts g.B.Watched.exact (g.W.World.told x) c.look-heard.result before after) (sym l.address) l.counts;
+            happened = l.happened;
+          };
+        };
+        done = f.done;
+        holds = f.holds;
+      };
+}
+
+pub after_present-requires-clause-heard : goal.after_present-requires-clause-heard
+after_present-requires-clause-heard g c =
+    let l = c.look-heard.ensures in
+    let k = c.requires.kept.session in
+    present_heard g.W.World g.S.Sitting c.args.task.now c.args.held c.args.items c.args.slot c.args.hits c.look-heard.new.session c.look-heard.result k.0 k.1 k.2
+    l.fits l.worlds l.pending l.made l.address

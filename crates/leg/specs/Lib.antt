@@ -1,0 +1,11 @@
+pub mod Terms
+pub mod Tasks
+pub mod Accounts
+pub mod Phases
+pub mod Deeds
+pub mod Rules
+pub mod Right
+pub mod Kept
+pub mod LegView
+pub mod Turns
+pub mod steps

@@ -1,5 +1,0 @@
-use Rattle.link_rows.specs.Stories.{IsStage}
-use Rattle.link_rows.proofs.plays.take_steps.Given as goal
-
-abbrev pub invariant-loop-step : goal.invariant-loop-step
-invariant-loop-step g l = IsStage g.B.Session.Sitting l.play.stage l.play.hits

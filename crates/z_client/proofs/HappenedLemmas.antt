@@ -1,0 +1,54 @@
+-- What is made to happen to links stays, or becomes less (this project's own)
+use Rattle.std.proofs.Common.{arith, ◌≡◌, ◌∙◌, ◌≢◌, ◌⊎◌, inl, inr, ℕ, ◌≤◌, true, false, Option, None, Some, List, refl, sym, subst}
+use Rattle.std.proofs.Math.Dec.{eqb}
+use Rattle.std.proofs.lemmas.Bool.Decides.{eqb_tells}
+use Rattle.z_types.specs.declared.address.Address.{Address}
+use Rattle.z_types.specs.declared.address.Address.TheVariants.{Test, Tcp}
+use Rattle.gw_outside.specs.declared.backends.Opening.{Opening}
+use Rattle.gw_outside.specs.declared.backends.Opening.TheVariants as opened
+use Rattle.gw_outside.specs.declared.wires.Sent.TheVariants as sent
+use Rattle.gw_outside.specs.Happened.{Happened, AreSame, AreLess, IsMade, IsAsked}
+use Rattle.gw_outside.specs.Peers.{Peer}
+use Rattle.gw_outside.specs.Sessions.{OpenHappens}
+use Rattle.gw_outside.specs.Wires.{SendHappens, IsSentTo, IsRequestUnit}
+use Rattle.z_client.specs.Units.{init_request}
+
+pub same_self : (h : Happened) → AreSame h h
+same_self h = record { steady = refl; of_target = λ target. refl }
+
+pub same_again : (a b c : Happened) → AreSame a b → AreSame b c → AreSame a c
+same_again a b c s t = record { steady = t.steady ∙ s.steady; of_target = λ target. t.of_target target ∙ s.of_target target }
+
+pub less_self : (h : Happened) → AreLess h h
+less_self h = record { steady = refl; presents = λ target. omega arith; delay = λ target. refl; cut = λ target. refl }
+
+pub same_less : (a b c : Happened) → AreSame a b → AreLess b c → AreLess a c
+same_less a b c s l = record {
+  steady = l.steady ∙ s.steady;
+  presents = λ target. subst (λ h. (c.of_target target).presents ≤ h.presents) (s.of_target target) (l.presents target);
+  delay = λ target. subst (λ h. (c.of_target target).delay ≡ h.delay) (s.of_target target) (l.delay target);
+  cut = λ target. subst (λ h. (c.of_target target).cut ≡ h.cut) (s.of_target target) (l.cut target);
+}
+
+pub then_opens : {S : Type 0} (result : Opening S) (a b c : Happened) → AreSame a b → OpenHappens result b c → OpenHappens result a c
+then_opens (opened.Session session) a b c s o = same_again a b c s o
+then_opens (opened.Failed linked) a b c s o = same_again a b c s o
+then_opens opened.Memory a b c s o = same_less a b c s o
+
+module _ (a b : Happened) where
+  made_same : (own target : ℕ) → IsMade own (λ happening. happening) a b → ((eqb own target ≡ true) × (own ≡ target)) ⊎ ((eqb own target ≡ false) × (own ≢ target))
+      → b.of_target target ≡ a.of_target target
+  made_same own target m (inl e) = subst (λ at. b.of_target at ≡ a.of_target at) e.1 m.own
+  made_same own target m (inr e) = m.others target (λ is. e.1 (sym is))
+
+  address_same : (address : Address) → IsAsked address init_request a b → AreSame a b
+  address_same (Test own) s = record { steady = s.steady; of_target = λ target. made_same own target s (eqb_tells own target) }
+  address_same (Tcp host port) s = s
+
+  -- an Init leaves all that is to happen
+  init_same : (peer : Option Peer) → IsSentTo peer init_request a b → AreSame a b
+  init_same None s = s
+  init_same (Some peer) s = address_same peer.address s
+
+  pub greeted_same : (unit : List ℕ) (peer : Option Peer) → IsRequestUnit unit init_request → SendHappens unit peer a b sent.Sent → AreSame a b
+  greeted_same unit peer is s = init_same peer (s init_request is)

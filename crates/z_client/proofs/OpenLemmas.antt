@@ -1,0 +1,23 @@
+-- A session that was opened (this project's own)
+use Rattle.std.proofs.Common.{[], Option, None, Some, subst}
+use Rattle.z_types.specs.declared.address.Address.{Address}
+use Rattle.z_types.specs.declared.world.World as world
+use Rattle.gw_outside.specs.Happened.{Happened, AreSame}
+use Rattle.gw_outside.specs.Peers.{Peer, new_peer, TakesRequest}
+use Rattle.gw_outside.specs.Sessions.{IfSession}
+use Rattle.gw_outside.specs.declared.backends.Opening.{Opening}
+use Rattle.gw_outside.specs.declared.backends.Opening.TheVariants as opened
+use Rattle.z_client.specs.Units.{init_request, TookInit}
+
+-- what follows of a session follows of the one that was opened
+pub if_session : {S : Type 0} (result : Opening S) (P Q : S → Type 0) → ((s : S) → P s → Q s) → IfSession result P → IfSession result Q
+if_session (opened.Session session) P Q f is = f session is
+if_session (opened.Failed linked) P Q f is = tt
+if_session opened.Memory P Q f is = tt
+
+-- a dial changes nothing of what an Init finds
+pub took_same : {W : Type 0} (w : world.Ghosts W) (before now : Happened) (address : Address) (peer : Option Peer) → AreSame before now → TookInit w now address peer
+    → TookInit w before address peer
+took_same w before now address None same took = tt
+took_same w before now address (Some peer) same took =
+    subst (λ steady. TakesRequest w steady [] init_request (new_peer address) peer) same.steady took
