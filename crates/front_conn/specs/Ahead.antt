@@ -1,5 +1,5 @@
--- Words of contracts alone: what a connection goes on with: its end, octets that begin no unit, or a unit (ANSI/NISO
--- Z39.50-2003, 4.2; X.690:2021, 8.1)
+-- For contracts alone: what a connection goes on with: its end, octets that begin no unit, or a
+-- unit (ANSI/NISO Z39.50-2003, 4.2; X.690:2021, 8.1)
 use Rattle.std.specs.Prelude.{◌≡◌, ℕ, Bool, true, false, List, [], ◌∷◌, length, ◌==◌, ◌&&◌, if◌then◌else◌}
 use Rattle.std.specs.Char.{is_ascii_alphabetic}
 use Rattle.z_types.specs.declared.marks.End.{End}

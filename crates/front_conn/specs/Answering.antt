@@ -1,4 +1,5 @@
--- Words of contracts alone: how a unit is answered where targets are asked at once (ANSI/NISO Z39.50-2003, 4.2)
+-- For contracts alone: how a unit is answered where targets are asked at once (ANSI/NISO
+-- Z39.50-2003, 4.2)
 use Rattle.std.specs.Prelude.{◌≡◌, ℕ, ◌+◌, ◌||◌, List, ◌++◌, Option, None, Some}
 use Rattle.std.specs.List.{AllByRecursion}
 use Rattle.z_types.specs.declared.marks.End.{End}

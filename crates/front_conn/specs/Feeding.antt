@@ -1,4 +1,4 @@
--- Words of contracts alone: what comes on a connection (this project's own)
+-- For contracts alone: what comes on a connection (this project's own)
 use Rattle.std.specs.Prelude.{◌≡◌, ℕ, ◌++◌, true, false, List, [], Option, None, Some}
 use Rattle.z_types.specs.declared.marks.End.{End}
 use Rattle.z_types.specs.declared.world.World as world

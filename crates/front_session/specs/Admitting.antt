@@ -1,4 +1,5 @@
--- Words of contracts alone: how a request is admitted and settled (ANSI/NISO Z39.50-2003, 4.2; this project's own)
+-- For contracts alone: how a request is admitted and settled (ANSI/NISO Z39.50-2003, 4.2; this
+-- project's own)
 use Rattle.std.specs.Prelude.{◌≡◌, ◌⊎◌, ℕ, Bool, ◌+◌, ◌||◌, List, [], None, Some, option_map, unwrap_or, Contains}
 use Rattle.std.specs.List.{AllByRecursion}
 use Rattle.z_types.specs.declared.known_set.KnownSet.{KnownSet}

@@ -1,4 +1,4 @@
--- Words of contracts alone: the parts of what a Present is due (this project's own)
+-- For contracts alone: the parts of what a Present is due (this project's own)
 use Rattle.std.specs.Prelude.{◌≡◌, ℕ, false, List, nat_abs, None, Some, Result, Ok, Err}
 use Rattle.std.specs.Borrow.{Bor}
 use Rattle.z_types.specs.MergedOrder.{total}

@@ -1,4 +1,4 @@
--- Words of contracts alone: how checks answer (this project's own)
+-- For contracts alone: how checks answer (this project's own)
 use Rattle.std.specs.Prelude.{◌≡◌, ℕ, List, [], ◌∷◌, map, Option, None, Some, Result, Ok, Err}
 use Rattle.std.specs.Borrow.{Bor}
 use Rattle.z_types.specs.declared.diagnostic.Diag.{Diag}

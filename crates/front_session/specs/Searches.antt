@@ -1,4 +1,4 @@
--- Words of contracts alone: the parts of what a Search is due (this project's own)
+-- For contracts alone: the parts of what a Search is due (this project's own)
 use Rattle.std.specs.Prelude.{◌≡◌, ℕ, List, false, None, Result, Ok, Err}
 use Rattle.z_types.specs.declared.conditions.Condition.TheVariants as condition
 use Rattle.z_types.specs.declared.diagnostic.Diag.{Diag}

@@ -1,4 +1,4 @@
--- Words of contracts alone: a session as contracts see it (this project's own)
+-- For contracts alone: a session as contracts see it (this project's own)
 use Rattle.std.specs.Prelude.{option_map}
 use Rattle.front_session.specs.Sessions.{SessionState}
 use Rattle.front_session.specs.WaitingOf.{waiting_of}

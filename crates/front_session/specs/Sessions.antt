@@ -1,4 +1,4 @@
--- Words of contracts alone: what is kept of a client between its requests (this project's own)
+-- For contracts alone: what is kept of a client between its requests (this project's own)
 use Rattle.std.specs.Prelude.{◌≡◌, ◌<◌, ◌≤◌, ◌+◌, ◌^◌, ℕ, Bool, false, List, [], map, length, All, Option, None, IfSome}
 use Rattle.z_types.specs.declared.known_set.KnownSet.{KnownSet}
 use Rattle.z_types.specs.declared.requests.Request.{Request}

@@ -1,4 +1,4 @@
--- Words of contracts alone: the parts of what an outcome leaves (this project's own)
+-- For contracts alone: the parts of what an outcome leaves (this project's own)
 use Rattle.std.specs.Prelude.{◌≡◌, ◌+◌, ℕ, Bool, true, false, List, [], ◌∷◌, ◌++◌, is_none, Option, None, Some}
 use Rattle.z_types.specs.declared.diagnostic.Diag.{Diag}
 use Rattle.z_types.specs.declared.known_set.KnownSet.{KnownSet}

@@ -1,4 +1,4 @@
--- Words of contracts alone: a request that waits, as contracts see it (this project's own)
+-- For contracts alone: a request that waits, as contracts see it (this project's own)
 use Rattle.front_session.specs.Sessions.{Waiting}
 use Rattle.front_session.specs.declared.settle.Pending.{Pending}
 

@@ -1,4 +1,5 @@
--- Words of contracts alone: how a unit is begun and ended (ANSI/NISO Z39.50-2003, 4.2): octets of one request in, its reply's octets out
+-- For contracts alone: how a unit is begun and ended (ANSI/NISO Z39.50-2003, 4.2): octets of one
+-- request in, its reply's octets out
 use Rattle.std.specs.Prelude.{◌≡◌, ℕ, List, ◌++◌, Option, None, Some, Result, Ok, Err}
 use Rattle.z_types.specs.declared.marks.Mark.{Mark}
 use Rattle.z_types.specs.declared.marks.Mark.TheVariants.{Plain}

@@ -1,6 +1,6 @@
 -- The answers to a client's octets (ANSI/NISO Z39.50-2003, 4.2; X.690:2021, 8.1): those of a route with private sessions and
 -- no pool, under the marks that are listed; and how the connection ends, whatever the marks
-use Rattle.std.specs.Prelude.{◌≡◌, ◌⊎◌, ℕ, List, [], ◌∷◌, ◌++◌, length, Option, None, Some, map, flat_map}
+use Rattle.std.specs.Prelude.{◌≡◌, ◌⊎◌, ℕ, List, [], ◌∷◌, ◌++◌, length, None, Some, map, flat_map}
 use Rattle.std.specs.Prelude.{if◌then◌else◌, IfSome}
 use Rattle.std.specs.Char.{is_ascii_alphabetic}
 use Rattle.std.specs.List.{AllByRecursion}

@@ -1,4 +1,4 @@
--- That octets have one answer (this project's own)
+-- For a law alone: that octets have one answer (this project's own)
 use Rattle.std.specs.Prelude.{◌≡◌, ℕ, List, Option}
 use Rattle.std.specs.List.{AllByRecursion}
 use Rattle.z_types.specs.declared.marks.End.{End}

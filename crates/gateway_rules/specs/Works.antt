@@ -1,4 +1,5 @@
--- Words of contracts alone: which works are begun, what they may ask of targets, and which outcomes fit them (this project's own)
+-- For contracts alone: which works are begun, what they may ask of targets, and which outcomes fit
+-- them (this project's own)
 use Rattle.std.specs.Prelude.{◌≡◌, ◌≢◌, ◌+◌, ◌≤◌, length, false}
 use Rattle.z_types.specs.Numbers.{ScanHasNumbers}
 use Rattle.z_types.specs.QueryMeasures.{leaf_cost}

@@ -106,7 +106,8 @@ impl<I: Source, O: Sink> Accept for MemoryAccept<I, O> {
 
     fn close(&mut self, input: I, output: O)
         requires { IfSome (Some
-            (self.old.total - (deque_len self.old.waiting + vec_len self.old.closed))) (λ count. 0 < count) }
+            (self.old.total - (deque_len self.old.waiting + vec_len self.old.closed)))
+            (λ count. 0 < count) }
         ensures closed { Some self.new.closed.items
             ≡ option_map (λ before. before ++ (input, output) ∷ []) (Some self.old.closed.items) }
         ensures left { Some (deque_len self.new.waiting) ≡ Some (deque_len self.old.waiting) }

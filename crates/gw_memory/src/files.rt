@@ -1,6 +1,6 @@
 //! Files in memory.
 
-ghost use Rattle.std.specs.Prelude.{◌≡◌, ◌≢◌, ◌≤◌, ℕ, List, IfSome, Some};
+ghost use Rattle.std.specs.Prelude.{◌≡◌, ◌≢◌, ◌≤◌, ℕ, List, Some};
 ghost use Rattle.z_types.specs.Counts.{Rose, one_more};
 ghost use Rattle.gw_memory.specs.Planned.{new_calls, after_call, read_fails, is_failed_read, IsPlannedRead};
 ghost use Rattle.std.specs.Option.{option_copied};

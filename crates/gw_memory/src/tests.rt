@@ -1,7 +1,10 @@
 //! Each object in memory gives and takes what was stated, and fails at the calls that are listed.
 
+ghost use Rattle.std.specs.Prelude.{IfOk};
+ghost use Rattle.gw_outside.specs.Accepts.{IsUntouched};
+
 use crate::*;
-use gw_outside::{Clock, FileGot, Files, Got, Sink, Source, Took, write_all};
+use gw_outside::{Accept, Accepted, Clock, FileGot, Files, Got, Sink, Source, Took, write_all};
 use std::alloc::Global;
 use std::test::Fail;
 use z_types::{List, Memory, Text};
@@ -90,5 +93,48 @@ fn a_clock_goes_on_to_its_last_moment(rt: HostRuntime) -> Result<(), Fail> {
     let mut clock = MemoryClock::new(numbers(alloc, &[7, 5])?);
     assert_eq!(rt; [clock.now(), clock.now(), clock.now()], [7, 5, 5]);
     assert_eq!(rt; MemoryClock::new(List::new(alloc)).now(), 0);
+    Ok(())
+}
+
+/// A connection of which nothing was read or written.
+fn connection(alloc: Global, octets: &[u8]) -> Result<(MemorySource, MemorySink), Memory>
+    ensures untouched { IfOk result (λ new. IsUntouched
+        ⟦<MemorySource as Source>⟧ ⟦<MemorySink as Sink>⟧ new.0 new.1) }
+{
+    let input = MemorySource::new(Text::copy_of(alloc, octets)?, List::new(alloc));
+    Ok((input, MemorySink::new(alloc, List::new(alloc))))
+}
+
+/// An acceptor of two connections, whose second accept fails.
+fn acceptor(alloc: Global) -> Result<MemoryAccept<MemorySource, MemorySink>, Memory> {
+    let mut connections = List::new(alloc);
+    connections.push(connection(alloc, b"a")?)?;
+    connections.push(connection(alloc, b"b")?)?;
+    MemoryAccept::new(alloc, connections, numbers(alloc, &[2])?)
+}
+
+/// What is read of the next connection, which is handed back: one octet, or a mark of its own.
+fn next_octet(accept: &mut MemoryAccept<MemorySource, MemorySink>) -> u8 {
+    match accept.accept() {
+        Accepted::Connection(mut input, output) => {
+            let mut octet = [b'?'];
+            let _ = input.read(&mut octet);
+            accept.close(input, output);
+            octet[0]
+        }
+        Accepted::Ended => b'.',
+        Accepted::Failed => b'!',
+    }
+}
+
+#[test]
+fn connections_are_handed_out_in_order_and_kept_when_they_are_handed_back(
+    rt: HostRuntime,
+) -> Result<(), Fail> {
+    let mut accept = acceptor(rt.alloc())?;
+    for (wanted, closed) in [(b'a', 1), (b'!', 1), (b'b', 2), (b'.', 2), (b'.', 2)] {
+        assert_eq!(rt; next_octet(&mut accept), wanted);
+        assert_eq!(rt; accept.closed().len(), closed);
+    }
     Ok(())
 }

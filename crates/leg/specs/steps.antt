@@ -1,4 +1,4 @@
--- Words of contracts alone, a file for each thing that they speak of (this project's own)
+-- For contracts alone, a file for each thing that they speak of (this project's own)
 pub mod Replies
 pub mod Follows
 pub mod Awaited

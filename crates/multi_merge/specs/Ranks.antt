@@ -1,4 +1,4 @@
--- How many records stand in the merged order up to a rank (this project's own)
+-- For contracts alone: how many records stand in the merged order up to a rank (this project's own)
 use Rattle.std.specs.Prelude.{ℕ, ◌-◌, ◌<◌, ◌≤◌, List, min}
 use Rattle.std.specs.List.{sum_by}
 

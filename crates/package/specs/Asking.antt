@@ -1,4 +1,5 @@
--- That a session with a target may be asked for what a work asks of it (this project's own)
+-- For contracts alone: that a session with a target may be asked for what a work asks of it (this
+-- project's own)
 use Rattle.std.specs.Prelude.{◌≡◌, ◌⊎◌, ℕ, ◌+◌, ◌≤◌, List, Option, Some}
 use Rattle.z_types.specs.Numbers.{IsNumber}
 use Rattle.z_types.specs.declared.ask.Ask.TheVariants.{Search, Present, Scan}

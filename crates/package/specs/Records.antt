@@ -1,4 +1,4 @@
--- What is answered for a place of a result set (this project's own)
+-- For contracts alone: what is answered for a place of a result set (this project's own)
 use Rattle.std.specs.Prelude.{◌≡◌, Option, None, Some, Result, Ok, Err}
 use Rattle.z_types.specs.declared.diagnostic.Diag.{Diag}
 use Rattle.gw_outside.specs.declared.targets.TargetAnswer.{TargetAnswer}

@@ -1,4 +1,4 @@
--- Which sessions count for a member, in words that contracts alone use (this project's own)
+-- For contracts alone: which sessions count for a member (this project's own)
 use Rattle.std.specs.Prelude.{ℕ, Bool, true, not, ◌&&◌, List, Option, None, Some}
 use Rattle.z_types.specs.declared.address.Address.{Address}
 use Rattle.pool_sets.specs.Sessions.{Session, is_of_member}

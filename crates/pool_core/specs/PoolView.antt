@@ -1,4 +1,4 @@
--- A pool of one thread, in words that contracts alone use (this project's own)
+-- For contracts alone: a pool of one thread (this project's own)
 use Rattle.std.specs.Prelude.{◌≡◌, ℕ, ◌<◌, ◌≤◌, ◌^◌, List, [], ◌∷◌, length, All, Bool, true, false, is_some, Option, position}
 use Rattle.z_types.specs.declared.address.Address.{Address}
 use Rattle.z_types.specs.declared.sitting.Sitting as sitting

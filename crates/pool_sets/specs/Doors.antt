@@ -1,4 +1,4 @@
--- What a door answers, told or not, in words that contracts alone use (this project's own)
+-- For contracts alone: what a door answers, told or not (this project's own)
 use Rattle.std.specs.Prelude.{◌≡◌, ℕ, ◌<◌, ◌≤◌, List, length, Contains, Option, None, Some, IfSome}
 use Rattle.z_types.specs.declared.key.SetKey.{SetKey}
 use Rattle.z_types.specs.declared.address.Address.{Address}

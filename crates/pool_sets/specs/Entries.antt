@@ -1,4 +1,4 @@
--- The sets of a table one by one, in words that contracts alone use (this project's own)
+-- For contracts alone: the sets of a table one by one (this project's own)
 use Rattle.std.specs.Prelude.{◌≢◌, ℕ, ◌<◌, nat_eq, ◌==◌, List, map, find, All, Option, option_map, length}
 use Rattle.std.specs.Borrow.{Bor}
 use Rattle.std.specs.List.{AllByRecursion, IsDistinct}

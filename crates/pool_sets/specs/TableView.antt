@@ -1,4 +1,4 @@
--- The sets of a table as its cache has them, in words that contracts alone use (this project's own)
+-- For contracts alone: the sets of a table as its cache has them (this project's own)
 use Rattle.std.specs.Prelude.{ℕ, ◌^◌, ◌<◌, ◌≤◌, ◌-◌, nat_le, nat_eq, Bool, false, Option, None, Some, List, [], ◌∷◌, map, take, length}
 use Rattle.std.specs.List.{AllByRecursion}
 use Rattle.std.specs.Map.{keys_of, remove_entry}

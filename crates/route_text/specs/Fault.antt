@@ -1,4 +1,5 @@
--- How a refusal is told (this project's own): its number, and the text that is printed behind it. Want of memory has neither.
+-- For contracts alone: how a refusal is told (this project's own): its number, and the text that is
+-- printed behind it. Want of memory has neither.
 use Rattle.std.specs.Prelude.{ℕ, List, [], ◌∷◌, ◌++◌, codes}
 use Rattle.std.specs.Fmt.{decimal}
 use Rattle.route_text.specs.declared.fault.RouteFault.{RouteFault}

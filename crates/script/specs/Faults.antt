@@ -1,4 +1,5 @@
--- The numbers of refusals (this project's own); want of memory has none of its own.
+-- For contracts alone: the numbers of refusals (this project's own); want of memory has none of its
+-- own.
 use Rattle.std.specs.Prelude.{ℕ}
 use Rattle.script.specs.declared.faults.ScriptFault.{ScriptFault}
 use Rattle.script.specs.declared.faults.ScriptFault.TheVariants.{Line, TooMany, Memory}

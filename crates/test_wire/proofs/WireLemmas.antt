@@ -349,18 +349,6 @@ gone_next : (peer : Peer) (old mid : List OwedReply) (found : OwedReply) → IsN
 gone_next peer [] mid found h = absurd h
 gone_next peer (first ∷ rest) mid found h = ap (λ o. says_gone o.reply) (sym h.1)
 
-pub arrive_counts : (peer : Peer) (old mid : List OwedReply) (found : OwedReply) (octets from to : List ℕ) (result : Looked) (before new : Counts)
-    → IsNextOwed old mid (Some found) → HasArrived octets from to result → before.faults < 2 ^ 64
-    → new ≡ record before { gones = one_more (brings_gone found.reply result) before.gones }
-    → WireCounts true (look_counted (Some (peer_of peer old)) result) before new
-arrive_counts peer old mid found octets from to looked.Arrived before new h a small e =
-    counts true (look_counted (Some (peer_of peer old)) looked.Arrived) before new small
-    (e ∙ ap (λ b. record before { gones = one_more b before.gones }) (sym (gone_next peer old mid found h)))
-arrive_counts peer old mid found octets from to looked.NotYet before new h a small e = absurd a
-arrive_counts peer old mid found octets from to looked.Failed before new h a small e = absurd a
-arrive_counts peer old mid found octets from to looked.Memory before new h a small e =
-    counts true (look_counted (Some (peer_of peer old)) looked.Memory) before new small e
-
 delays_next : (old mid : List OwedReply) (found : OwedReply) → IsNextOwed old mid (Some found) → delays_of old ≡ 0 ∷ delays_of mid
 delays_next [] mid found h = absurd h
 delays_next (first ∷ rest) mid found h = ap (λ looks. looks ∷ delays_of rest) h.0 ∙ ap (λ owed. 0 ∷ delays_of owed) (sym h.2)
@@ -388,18 +376,6 @@ module _ {L : Type 0} (l : linked.Ghosts L) (link_old link_new : L) (before afte
 delays_stay : (old new : List OwedReply) → IsNextOwed old new None → DelaysLooked (delays_of old) (delays_of new) looked.NotYet
 delays_stay [] new h = ap delays_of h
 delays_stay (first ∷ rest) new h = (h.0, ap delays_of h.1)
-
--- so is one that finds nothing
-pub looks_in_vain : {L : Type 0} (l : linked.Ghosts L) (link_old link_new : L) (before after : Happened) (old new : List OwedReply) → IsNextOwed old new None
-    → l.delays link_old ≡ delays_of old → l.delays link_new ≡ delays_of new → AreSame before after → l.number link_new ≡ l.number link_old
-    → LooksSteadily l link_old link_new before after looked.NotYet
-looks_in_vain l link_old link_new before after old new h was is same number = record {
-  fails = λ f. cc;
-  happened = same;
-  number = number;
-  delays = λ steady. subst (λ delays. DelaysLooked delays (l.delays link_new) looked.NotYet) (sym was)
-      (subst (λ delays. DelaysLooked (delays_of old) delays looked.NotYet) (sym is) (delays_stay old new h));
-}
 
 -- ---- a new table
 

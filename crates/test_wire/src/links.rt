@@ -1,6 +1,6 @@
 //! A link with a test target.
 
-ghost use Rattle.std.specs.Prelude.{◌≡◌, ◌++◌, ◌∷◌, [], true, OnOk, OnErr};
+ghost use Rattle.std.specs.Prelude.{◌≡◌, true, OnOk, OnErr};
 ghost use Rattle.gw_outside.specs.Happened.{AreSame, AreLess, IsMade, sets_found, happening_after};
 ghost use Rattle.gw_outside.specs.Peers.{TakesRequest};
 ghost use Rattle.test_wire.specs.Happened.{happening_of, happened_in};

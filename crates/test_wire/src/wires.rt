@@ -177,7 +177,8 @@ impl Wire<TestWorld> for TestWire {
             link.old.arrived.items link.new.arrived.items result }
         ensures steady { LooksSteadily ⟦<TestLink as Linked>⟧ link.old link.new
             (happened_of self.old) (happened_of self.new) result }
-        ensures counts { WireCounts true (look_counted (⟦<TestLink as Linked>⟧.peer link.old) result)
+        ensures counts { WireCounts true
+            (look_counted (⟦<TestLink as Linked>⟧.peer link.old) result)
             (counts_of self.old) (counts_of self.new) }
         ensures fails { has_not_looked result
             ≡ is_cut (happening_of self.old.happenings.table link.old.peer.target) link.old.number }

@@ -1,4 +1,5 @@
--- How units are read (ANSI/NISO Z39.50-2003, the ASN.1 of its APDUs), as functions on trees of elements; this project's own where a rule cites no section.
+-- For contracts alone: how units are read (ANSI/NISO Z39.50-2003, the ASN.1 of its APDUs), as
+-- functions on trees of elements; this project's own where a rule cites no section.
 pub mod Contents
 pub mod Elements
 pub mod Answers

@@ -1,4 +1,5 @@
--- The numbers of refusals of database names (this project's own); want of memory has none of its own
+-- For contracts alone: the numbers of refusals of database names (this project's own); want of
+-- memory has none of its own
 use Rattle.std.specs.Prelude.{◌≡◌, ℕ, Result, Err}
 use Rattle.virt_db.specs.declared.fault.DbFault.{DbFault}
 use Rattle.virt_db.specs.declared.fault.DbFault.TheVariants.{Unknown, TooMany, Memory}

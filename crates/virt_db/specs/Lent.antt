@@ -1,4 +1,4 @@
--- A leg whose parts are lent (this project's own)
+-- For contracts alone: a leg whose parts are lent (this project's own)
 use Rattle.virt_db.specs.Legs.{LegAt}
 use Rattle.virt_db.specs.declared.place.LentLeg.{LentLeg}
 

@@ -1,4 +1,5 @@
--- Names that were met, and the legs of those of which each differs from the others (this project's own)
+-- For contracts alone: names that were met, and the legs of those of which each differs from the
+-- others (this project's own)
 use Rattle.std.specs.Prelude.{◌≡◌, ℕ, List, Option, None, Some, Result, Err, Bool, Vec, flat_map}
 use Rattle.std.specs.List.{list_any}
 use Rattle.std.specs.declared.alloc.Global.{Global}

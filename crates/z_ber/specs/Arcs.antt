@@ -1,4 +1,5 @@
--- The numbers of an object identifier behind its first two (X.690:2021, 8.19.2, 8.19.3). The bounds of 32 numbers and of 2^32 are this project's own.
+-- For contracts alone: the numbers of an object identifier behind its first two (X.690:2021,
+-- 8.19.2, 8.19.3). The bounds of 32 numbers and of 2^32 are this project's own.
 use Rattle.std.specs.Prelude.{◌≡◌, ℕ, ◌+◌, ◌^◌, ◌≤◌, List, ◌++◌, length, map, Option, Some, None, nat_lt, IsTrue}
 use Rattle.std.specs.Int.Digits.{digits_of}
 use Rattle.std.specs.List.{flat_map, list_all}

@@ -1,4 +1,6 @@
--- Where a header is due in octets that are no whole element yet, and what is wrong there (X.690:2021, 8.1.2, 8.1.3, 8.1.5). The bounds of 64 levels and of 1048576 octets are this project's own.
+-- For contracts alone: where a header is due in octets that are no whole element yet, and what is
+-- wrong there (X.690:2021, 8.1.2, 8.1.3, 8.1.5). The bounds of 64 levels and of 1048576 octets are
+-- this project's own.
 use Rattle.std.specs.Prelude.{◌≡◌, ◌≢◌, ℕ, zero, suc, ◌+◌, ◌-◌, ◌*◌, ◌<◌, ◌≤◌, List, ◌++◌, length, drop, None}
 use Rattle.std.specs.List.{flat_map, AllByRecursion}
 use Rattle.z_types.specs.Bounds.{most_levels, most_unit_octets}

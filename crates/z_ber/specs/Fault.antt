@@ -1,4 +1,4 @@
--- The numbers of faults (this project's own).
+-- For contracts alone: the numbers of faults (this project's own).
 use Rattle.std.specs.Prelude.{ℕ}
 use Rattle.z_ber.specs.declared.fault.BerFault.{BerFault}
 use Rattle.z_ber.specs.declared.fault.BerFault.TheVariants.{Short, BadTag, BadLength, TooLarge, TooDeep}

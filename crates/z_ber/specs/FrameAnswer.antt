@@ -1,4 +1,5 @@
--- What reading a frame answers (X.690:2021, 8.1.2, 8.1.3, 8.1.5). The bounds of 64 levels and of 1048576 octets are this project's own.
+-- For contracts alone: what reading a frame answers (X.690:2021, 8.1.2, 8.1.3, 8.1.5). The bounds
+-- of 64 levels and of 1048576 octets are this project's own.
 use Rattle.std.specs.Prelude.{◌≡◌, ◌⊎◌, ℕ, ◌+◌, ◌-◌, ◌*◌, ◌<◌, ◌≤◌, List, ◌++◌, length, take, drop, Option, None, Some, Result, Ok, Err}
 use Rattle.z_types.specs.Bounds.{most_levels, most_unit_octets}
 use Rattle.z_ber.specs.declared.fault.BerFault.{BerFault}

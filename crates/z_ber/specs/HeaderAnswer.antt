@@ -1,4 +1,4 @@
--- What reading a header answers: X.690:2021, 8.1.2 and 8.1.3.
+-- For contracts alone: what reading a header answers: X.690:2021, 8.1.2 and 8.1.3.
 use Rattle.std.specs.Prelude.{ℕ, ◌≤◌, List, length, take, Result, Ok, Err}
 use Rattle.z_ber.specs.declared.fault.BerFault.{BerFault}
 use Rattle.z_ber.specs.declared.fault.BerFault.TheVariants.{Short, BadTag, BadLength, TooLarge, TooDeep}

@@ -1,4 +1,5 @@
--- Elements that are lent, with the children that have not been lent yet (X.690:2021, 8.1.1). The bound of 64 levels is this project's own.
+-- For contracts alone: elements that are lent, with the children that have not been lent yet
+-- (X.690:2021, 8.1.1). The bound of 64 levels is this project's own.
 use Rattle.std.specs.Prelude.{◌≡◌, ◌≢◌, ℕ, suc, List, [], Option, Some, None, Result, Ok, Err, if◌then◌else◌}
 use Rattle.z_types.specs.Bounds.{most_levels}
 use Rattle.z_ber.specs.declared.fault.BerFault.{BerFault}

@@ -1,4 +1,5 @@
--- What lending answers where octets have trees (X.690:2021, 8.1.1). The bound of 64 levels is this project's own.
+-- For contracts alone: what lending answers where octets have trees (X.690:2021, 8.1.1). The bound
+-- of 64 levels is this project's own.
 use Rattle.std.specs.Prelude.{◌≡◌, ℕ, ◌-◌, ◌<◌, suc, List, [], ◌++◌, length, Bool, Option, Some, None, Result, Ok, Err}
 use Rattle.z_types.specs.Bounds.{most_levels}
 use Rattle.z_ber.specs.declared.fault.BerFault.{BerFault}

@@ -1,4 +1,5 @@
--- Headers from left to right, with the first fault that is met. The readers in src/ go this way; public contracts do not cite it (X.690:2021, 8.1.2, 8.1.3).
+-- For contracts alone: headers from left to right, with the first fault that is met. The readers in
+-- src/ go this way; public contracts do not cite it (X.690:2021, 8.1.2, 8.1.3).
 use Rattle.std.specs.Prelude.{◌≡◌, ℕ, zero, suc, ◌+◌, ◌-◌, ◌*◌, ◌/◌, ◌%◌, ◌^◌, List, [], ◌∷◌, length, take, drop, Bool, Option, Some, None, Result, Ok, Err, nat_lt, nat_le, min, true, false, ◌==◌, ◌||◌, ◌&&◌, ℤ, pos, negsuc, map, slice_index_or, if◌then◌else◌}
 use Rattle.std.specs.Borrow.{Bor}
 use Rattle.std.specs.Int.Digits.{digits_of, number_from_digits}

@@ -1,4 +1,5 @@
--- The steps of a scan for the end of a frame (X.690:2021, 8.1), as src/scan.rt goes: our machine, which public contracts do not cite.
+-- For contracts alone: the steps of a scan for the end of a frame (X.690:2021, 8.1), as src/scan.rt
+-- goes: our machine, which public contracts do not cite.
 use Rattle.std.specs.Prelude.{ℕ, ◌+◌, ◌-◌, ◌*◌, ◌<◌, ◌≤◌, List, Result, Ok, Err, nat_le, ◌==◌, if◌then◌else◌}
 use Rattle.z_types.specs.Bounds.{most_unit_octets}
 use Rattle.z_ber.specs.declared.fault.BerFault.{BerFault}

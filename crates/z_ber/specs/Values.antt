@@ -1,4 +1,4 @@
--- Values that contents octets are read as. The bounds are this project's own.
+-- For contracts alone: values that contents octets are read as. The bounds are this project's own.
 use Rattle.std.specs.Prelude.{ℕ, ℤ, ◌^◌, ◌<◌, List, FitsSigned, IsTrue}
 use Rattle.std.specs.Int.{w64}
 use Rattle.z_types.specs.Oid.{is_oid}

@@ -1,4 +1,5 @@
--- What the check of all elements meets on its way (X.690:2021, 8.1.1 to 8.1.5). Public contracts do not cite it.
+-- For contracts alone: what the check of all elements meets on its way (X.690:2021, 8.1.1 to
+-- 8.1.5). Public contracts do not cite it.
 use Rattle.std.specs.Prelude.{◌≡◌, ℕ, ◌+◌, ◌<◌, ◌≤◌, List, ◌++◌, length, take, drop, true, false, Option, Some, None, IfSome}
 use Rattle.z_ber.specs.declared.tag.Header.{Header}
 use Rattle.z_ber.specs.Element.{Forest, end_of_contents, AreElements}

@@ -1,4 +1,4 @@
--- What reading an element in its written form answers (X.690:2021, 10.1).
+-- For contracts alone: what reading an element in its written form answers (X.690:2021, 10.1).
 use Rattle.std.specs.Prelude.{◌≡◌, ℕ, List, ◌++◌, Option, Some, None}
 use Rattle.z_ber.specs.declared.tag.Tag.{Tag}
 use Rattle.z_ber.specs.declared.tag.WrittenElement.{WrittenElement}

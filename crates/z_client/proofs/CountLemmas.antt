@@ -145,26 +145,3 @@ module _ (told : Type 0) where
   heard_counts exact (heard.Scanned answer) p arrived old new own fits c = counted exact nothing old new own own c refl
   heard_counts exact heard.NotYet p arrived old new own fits c = counted exact (record nothing { wait = true }) old new own own c refl
   heard_counts exact heard.Failed p arrived old new own fits c = counted exact (record nothing { fault = true }) old new own own c refl
-
--- an opening over a new link
-pub opened_counts : {S : Type 0} (exact : Bool) (result : Opening S) (old mid new : Counts) (before now : Own)
-    → ((linked : Bool) → result ≡ opened.Failed linked → linked ≡ true) → WireCounts exact (record nothing { dial = true }) old mid
-    → WireCounts exact (record (open_counted result) { dial = false }) mid new → now ≡ own_after (record nothing { dial = true }) before
-    → OpenCounts exact result (counts_over exact old before) (counts_over exact new now)
-opened_counts exact (opened.Session session) old mid new before now linked c d own =
-    counted (Unit {0}) exact (record nothing { dial = true }) old new before now (dialled_then exact (record nothing { dial = true }) old mid new c d) own
-opened_counts {S = S} exact (opened.Failed linked) old mid new before now is c d own =
-    subst (λ link. OpenCounts {S = S} exact (opened.Failed link) (counts_over exact old before) (counts_over exact new now)) (sym (is linked refl))
-    (counted (Unit {0}) exact (record nothing { fault = true; dial = true }) old new before now
-    (dialled_then exact (record nothing { fault = true; dial = true }) old mid new c d) own)
-opened_counts exact opened.Memory old mid new before now linked c d own =
-    inr (counted (Unit {0}) exact (record nothing { dial = true }) old new before now (dialled_then exact nothing old mid new c d) own)
-
--- one that made no link
-pub unlinked_counts : (S : Type 0) (exact : Bool) (old new : Counts) (own : Own) → WireCounts exact (record nothing { fault = true }) old new
-    → OpenCounts {S = S} exact (opened.Failed false) (counts_over exact old own) (counts_over exact new own)
-unlinked_counts S exact old new own c = counted (Unit {0}) exact (record nothing { fault = true }) old new own own c refl
-
-pub unopened_counts : (S : Type 0) (exact : Bool) (old new : Counts) (own : Own) → WireCounts exact nothing old new
-    → OpenCounts {S = S} exact opened.Memory (counts_over exact old own) (counts_over exact new own)
-unopened_counts S exact old new own c = inl (counted (Unit {0}) exact nothing old new own own c refl)

@@ -19,9 +19,6 @@ same_self h = record { steady = refl; of_target = λ target. refl }
 pub same_again : (a b c : Happened) → AreSame a b → AreSame b c → AreSame a c
 same_again a b c s t = record { steady = t.steady ∙ s.steady; of_target = λ target. t.of_target target ∙ s.of_target target }
 
-pub less_self : (h : Happened) → AreLess h h
-less_self h = record { steady = refl; presents = λ target. omega arith; delay = λ target. refl; cut = λ target. refl }
-
 pub same_less : (a b c : Happened) → AreSame a b → AreLess b c → AreLess a c
 same_less a b c s l = record {
   steady = l.steady ∙ s.steady;
@@ -29,11 +26,6 @@ same_less a b c s l = record {
   delay = λ target. subst (λ h. (c.of_target target).delay ≡ h.delay) (s.of_target target) (l.delay target);
   cut = λ target. subst (λ h. (c.of_target target).cut ≡ h.cut) (s.of_target target) (l.cut target);
 }
-
-pub then_opens : {S : Type 0} (result : Opening S) (a b c : Happened) → AreSame a b → OpenHappens result b c → OpenHappens result a c
-then_opens (opened.Session session) a b c s o = same_again a b c s o
-then_opens (opened.Failed linked) a b c s o = same_again a b c s o
-then_opens opened.Memory a b c s o = same_less a b c s o
 
 module _ (a b : Happened) where
   made_same : (own target : ℕ) → IsMade own (λ happening. happening) a b → ((eqb own target ≡ true) × (own ≡ target)) ⊎ ((eqb own target ≡ false) × (own ≢ target))

@@ -215,32 +215,6 @@ module _ {W L : Type 0} (w : world.Ghosts W) (l : linked.Ghosts L) (p : Pending)
 heard_ends_wait : (p : Pending) (unit : List ℕ) (heard : Heard) → IsHeardIn p unit (Some heard) → pending_after p heard ≡ resting
 heard_ends_wait p unit heard is = (heard_ends p is.0 heard is.2).rests
 
-pub settled_found : (told : Type 0) (p : Pending) (unit arrived : List ℕ) (heard : Heard) → IsPending p → IsHeardIn p unit (Some heard) → heard ≢ Gone
-    → FoundIn told p unit arrived (found.Heard heard)
-settled_found told p unit arrived Opened waits is not = is
-settled_found told p unit arrived (Hits hits) waits is not = is
-settled_found told p unit arrived (Refused diag) waits is not = is
-settled_found told p unit arrived (Items items) waits is not = is
-settled_found told p unit arrived Gone waits is not = absurd (not refl)
-settled_found told p unit arrived (Scanned answer) waits is not = is
-settled_found told p unit arrived NotYet waits is not = subst (λ q. IsPending q) (heard_ends_wait p unit NotYet is) waits
-settled_found told p unit arrived Failed waits is not = let no_way : broken ≡ resting = heard_ends_wait p unit Failed is in absurd cc
-settled_found told p unit arrived Memory waits is not = tt
-
--- that a set is gone is said in a unit that is a reply to a Present
-pub gone_found : (told : Type 0) (p : Pending) (arrived left octets : List ℕ) (size : ℕ) → IsFrame (take size arrived) → IsHeardIn p (take size arrived) (Some Gone)
-    → left ≡ drop size arrived → octets ≡ arrived → FoundIn told p (take size arrived) left (found.Gone octets)
-gone_found told p arrived left octets size frame is rest same = (
-  is,
-  record {
-    unit = take size arrived;
-    spelled = same ∙ sym (take-append-drop size arrived) ∙ ap (λ behind. take size arrived ++ behind) (sym rest);
-    reply = is.0;
-    is = record { frame = frame; tree = is.1.0; unit = is.1.1; read = is.1.2 };
-    gone = heard_gone p is.0 Gone is.2;
-  },
-)
-
 -- octets that begin with a whole unit of which nothing is heard
 pub another_found : (told : Type 0) (p : Pending) (arrived : List ℕ) (size : ℕ) (said : Found) → KeepsBreach arrived said → IsFrame (take size arrived)
     → IsHeardIn p (take size arrived) None → ¬ told → FoundIn told p (take size arrived) arrived said

@@ -14,10 +14,3 @@ pub if_session : {S : Type 0} (result : Opening S) (P Q : S → Type 0) → ((s 
 if_session (opened.Session session) P Q f is = f session is
 if_session (opened.Failed linked) P Q f is = tt
 if_session opened.Memory P Q f is = tt
-
--- a dial changes nothing of what an Init finds
-pub took_same : {W : Type 0} (w : world.Ghosts W) (before now : Happened) (address : Address) (peer : Option Peer) → AreSame before now → TookInit w now address peer
-    → TookInit w before address peer
-took_same w before now address None same took = tt
-took_same w before now address (Some peer) same took =
-    subst (λ steady. TakesRequest w steady [] init_request (new_peer address) peer) same.steady took

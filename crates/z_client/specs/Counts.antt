@@ -23,3 +23,7 @@ own_after call old = record old {
   searches = one_more call.search old.searches;
   gones = one_more call.gone old.gones;
 }
+
+-- what a backend itself has counted after a breach
+abbrev pub after_breach : Own → Own
+after_breach old = record old { breaches = one_more true old.breaches }

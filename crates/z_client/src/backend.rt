@@ -1,6 +1,6 @@
 //! Sessions with targets over the links of a wire.
 
-ghost use Rattle.std.specs.Prelude.{◌≡◌, ◌≢◌, List, ℕ, [], true, false, IfOk};
+ghost use Rattle.std.specs.Prelude.{◌≡◌, ◌≢◌, List, ℕ, [], false, IfOk};
 ghost use Rattle.z_ber.specs.Frames.{IsFrame};
 ghost use Rattle.z_ber.specs.Header.{IsOpenFor};
 ghost use Rattle.z_types.specs.Pending.{IsPending, resting};

@@ -1,10 +1,9 @@
 //! What a backend counts beside its wire.
 
-ghost use Rattle.std.specs.Prelude.{◌≡◌, ◌≤◌, true};
-ghost use Rattle.z_types.specs.Counts.{one_more};
+ghost use Rattle.std.specs.Prelude.{◌≡◌, ◌≤◌};
 ghost use Rattle.gw_outside.specs.Counts.{nothing};
 ghost use Rattle.gw_outside.specs.Sessions.{start_counted};
-ghost use Rattle.z_client.specs.Counts.{own_after};
+ghost use Rattle.z_client.specs.Counts.{own_after, after_breach};
 
 use gw_outside::Began;
 use z_types::Ask;
@@ -37,7 +36,7 @@ impl Own {
 
     /// Counts a breach.
     pub(crate) fn count_breach(&mut self)
-        ensures one_more { self.new ≡ record self.old { breaches = one_more true self.old.breaches } }
+        ensures breach { self.new ≡ after_breach self.old }
         ensures rises { self.old.breaches ≤ self.new.breaches }
     {
         self.breaches = self.breaches.saturating_add(1);

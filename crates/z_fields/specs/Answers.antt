@@ -1,4 +1,5 @@
--- What reading a field answers: its value or the refusal that its definition has, or want of memory, which has no cause in the octets (this project's own).
+-- For contracts alone: what reading a field answers: its value or the refusal that its definition
+-- has, or want of memory, which has no cause in the octets (this project's own).
 use Rattle.std.specs.Prelude.{◌≡◌, Result, Ok, Err}
 use Rattle.unit_forms.specs.declared.refusal.Refusal.{Refusal}
 use Rattle.unit_forms.specs.Reading.Answers.{first_refusal}

@@ -1,4 +1,4 @@
--- How trees of elements are stored in the logic (this project's own).
+-- For contracts alone: how trees of elements are stored in the logic (this project's own).
 use Rattle.std.specs.Prelude.{◌≡◌, ℕ, List, Bool, refl}
 use Rattle.std.specs.Coded.{Coded, coded_ℕ, coded_bool, coded_list, coded×, code_by}
 use Rattle.std.proofs.Common.{ap}

@@ -1,4 +1,5 @@
--- The fields of an element by the numbers of their context tags (this project's own).
+-- For contracts alone: the fields of an element by the numbers of their context tags (this
+-- project's own).
 use Rattle.std.specs.Prelude.{◌≡◌, ℕ, zero, suc, ◌+◌, ◌<◌, ◌≤◌, ◌==◌, ◌&&◌, ◌%◌, List, [], ◌∷◌, ◌++◌, Bool, true, false, Option, Some, None, length, get_or, slice_get, if◌then◌else◌}
 use Rattle.std.proofs.Math.ListN.{set}
 use Rattle.z_ber.specs.declared.tag.Tag.{Tag}

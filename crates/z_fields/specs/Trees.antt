@@ -1,4 +1,5 @@
--- The trees that octets have, worked out from the front (X.690:2021, 8.1.1): what a lent element is seen as.
+-- For contracts alone: the trees that octets have, worked out from the front (X.690:2021, 8.1.1):
+-- what a lent element is seen as.
 use Rattle.std.specs.Prelude.{◌≡◌, ℕ, zero, suc, List, [], ◌∷◌, length, Bool, Option, Some, None, Result, Ok, Err, if◌then◌else◌}
 use Rattle.z_ber.specs.declared.fault.BerFault.{BerFault}
 use Rattle.z_ber.specs.declared.tag.Tag.{Tag}

@@ -1,4 +1,4 @@
--- Why a unit is not read (this project's own).
+-- For contracts alone: why a unit is not read (this project's own).
 use Rattle.std.specs.Prelude.{ℕ, List, ◌++◌, codes}
 use Rattle.std.specs.Fmt.{decimal}
 use Rattle.unit_forms.specs.declared.refusal.Refusal.{Refusal}

@@ -1,4 +1,7 @@
--- Elements in one of the forms that they may have (X.690:2021, 8.1.3, 8.2.2, 8.3): without lengths, with one octet for TRUE, and with INTEGERs in the fewest octets. Which elements hold them is told by the number of their tag (ANSI/NISO Z39.50-2003, the ASN.1 of its APDUs).
+-- For contracts alone: elements in one of the forms that they may have (X.690:2021, 8.1.3, 8.2.2,
+-- 8.3): without lengths, with one octet for TRUE, and with INTEGERs in the fewest octets. Which
+-- elements hold them is told by the number of their tag (ANSI/NISO Z39.50-2003, the ASN.1 of its
+-- APDUs).
 use Rattle.std.specs.Prelude.{◌≡◌, ℕ, List, [], ◌∷◌, length, Bool, true, false, ◌==◌, ◌||◌, nat_lt, nat_le, Result, if◌then◌else◌}
 use Rattle.z_ber.specs.declared.tag.Tag.{Tag}
 use Rattle.z_ber.specs.Element.{Forest, none, leaf, branch}

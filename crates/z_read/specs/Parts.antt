@@ -1,4 +1,4 @@
--- Values that are read one behind another (this project's own).
+-- For contracts alone: values that are read one behind another (this project's own).
 use Rattle.std.specs.Prelude.{◌≡◌, List, [], ◌∷◌, ◌++◌, Result}
 use Rattle.unit_forms.specs.declared.refusal.Refusal.{Refusal}
 use Rattle.z_types.specs.declared.requests.Asked.{Asked}

@@ -1,4 +1,5 @@
--- What reading a unit answers: its tree's request or reply, or why there is none (ANSI/NISO Z39.50-2003; X.690:2021, 8.1).
+-- For contracts alone: what reading a unit answers: its tree's request or reply, or why there is
+-- none (ANSI/NISO Z39.50-2003; X.690:2021, 8.1).
 use Rattle.std.specs.Prelude.{◌≡◌, ℕ, List, Result, Ok, Err}
 use Rattle.z_types.specs.declared.replies.Reply.{Reply}
 use Rattle.z_types.specs.declared.requests.Request.{Request}

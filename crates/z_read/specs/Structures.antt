@@ -1,4 +1,5 @@
--- The structure that one element is (ANSI/NISO Z39.50-2003, RPNStructure), as it is read from the element itself.
+-- For contracts alone: the structure that one element is (ANSI/NISO Z39.50-2003, RPNStructure), as
+-- it is read from the element itself.
 use Rattle.std.specs.Prelude.{ℕ, ◌+◌, suc, Option, Some, None, Result, Err}
 use Rattle.z_types.specs.Tree.{Tree}
 use Rattle.z_types.specs.declared.requests.Asked.{Asked}

@@ -1,4 +1,5 @@
--- The numbers of refusals of a query (this project's own); want of memory has none of its own
+-- For contracts alone: the numbers of refusals of a query (this project's own); want of memory has
+-- none of its own
 use Rattle.std.specs.Prelude.{ℕ}
 use Rattle.z_sets.specs.declared.fault.ExpandFault.{ExpandFault}
 use Rattle.z_sets.specs.declared.fault.ExpandFault.TheVariants.{UnknownSet, OtherLegs, TooLarge, TooDeep, TooCostly, Memory}

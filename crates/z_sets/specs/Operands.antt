@@ -1,4 +1,4 @@
--- The set that an operand of a query names (this project's own)
+-- For contracts alone: the set that an operand of a query names (this project's own)
 use Rattle.std.specs.Prelude.{◌≡◌, ℕ, List, Option, None, Some, Result, Ok, Err, filter, not, if◌then◌else◌}
 use Rattle.std.specs.Borrow.{Bor}
 use Rattle.z_types.specs.declared.known_set.KnownSet.{KnownSet}

@@ -1,4 +1,5 @@
--- The first fields of units that have many (ANSI/NISO Z39.50-2003, SearchRequest, PresentRequest and SearchResponse)
+-- For contracts alone: the first fields of units that have many (ANSI/NISO Z39.50-2003,
+-- SearchRequest, PresentRequest and SearchResponse)
 use Rattle.std.specs.Prelude.{ℕ, List, ◌++◌, Option}
 use Rattle.z_types.specs.declared.requests.Search.{Search}
 use Rattle.z_types.specs.declared.requests.Present.{Present}

@@ -1,4 +1,4 @@
--- What a writer leaves of a text when memory fails (this project's own)
+-- For contracts alone: what a writer leaves of a text when memory fails (this project's own)
 use Rattle.std.specs.Prelude.{◌≡◌, ℕ, List, length, take}
 
 -- a text still begins with what stood in it

@@ -1,4 +1,5 @@
--- What stands in a text of an element whose contents have a length that is known and are to follow (X.690:2021, 8.1.1)
+-- For contracts alone: what stands in a text of an element whose contents have a length that is
+-- known and are to follow (X.690:2021, 8.1.1)
 use Rattle.std.specs.Prelude.{◌≡◌, ℕ, List, ◌++◌, length}
 use Rattle.z_ber.specs.declared.tag.Tag.{Tag}
 use Rattle.z_ber.specs.Written.{element}

@@ -1,4 +1,5 @@
--- The lengths of a query's operators, kept between two passes (this project's own; ANSI/NISO Z39.50-2003, RPNStructure)
+-- For contracts alone: the lengths of a query's operators, kept between two passes (this project's
+-- own; ANSI/NISO Z39.50-2003, RPNStructure)
 use Rattle.std.specs.Prelude.{◌≡◌, ℕ, List, [], ◌∷◌, ◌++◌, length}
 use Rattle.z_types.specs.Tree.{Tree, leaf, operand, and, or, and_not}
 use Rattle.unit_forms.specs.Fields.{constructed, tree_field}

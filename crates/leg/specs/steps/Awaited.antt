@@ -1,4 +1,5 @@
--- Phases in which a leg opens or asks a session, and those in which it waits for a reply, in words that contracts alone use (this project's own)
+-- For contracts alone: phases in which a leg opens or asks a session, and those in which it waits
+-- for a reply (this project's own)
 use Rattle.std.specs.Prelude.{◌<◌, Bool, true, false, length}
 use Rattle.z_types.specs.declared.sitting.Sitting as sitting
 use Rattle.z_types.specs.declared.world.World as world

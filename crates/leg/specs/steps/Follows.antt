@@ -1,4 +1,4 @@
--- What comes of a deed, in words that contracts alone use (this project's own)
+-- For contracts alone: what comes of a deed (this project's own)
 use Rattle.std.specs.Prelude.{◌≡◌, ℕ, ◌<◌, ◌-◌, ◌^◌, Bool}
 use Rattle.z_types.specs.declared.sitting.Sitting as sitting
 use Rattle.z_types.specs.declared.world.World as world

@@ -1,4 +1,5 @@
--- What is known of a session once it was opened, asked or looked at, in words that contracts alone use (this project's own)
+-- For contracts alone: what is known of a session once it was opened, asked or looked at (this
+-- project's own)
 use Rattle.std.specs.Prelude.{◌≡◌, ℕ, ◌+◌, ◌<◌, ◌≤◌, ◌^◌, List, length, None, Some, Result, Ok, Err}
 use Rattle.z_types.specs.Bounds.{most_number}
 use Rattle.z_types.specs.Pending.{resting, opening}

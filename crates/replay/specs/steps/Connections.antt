@@ -1,4 +1,4 @@
--- Words of contracts alone: a client's connection that was fed whole (this project's own)
+-- For contracts alone: a client's connection that was fed whole (this project's own)
 use Rattle.std.specs.Prelude.{◌≡◌, ℕ, true, List, []}
 use Rattle.z_types.specs.declared.world.World as world
 use Rattle.route_config.specs.declared.route.Route.{Route}

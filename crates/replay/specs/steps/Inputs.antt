@@ -1,4 +1,4 @@
--- Words of contracts alone: what clients are fed (this project's own)
+-- For contracts alone: what clients are fed (this project's own)
 use Rattle.std.specs.Prelude.{◌≡◌, ℕ, ◌<◌, List, Option, None, Some, if◌then◌else◌, length, slice_get, unwrap_or, ◌++◌, [], ◌==◌}
 use Prim.Native.Nat.{suc}
 use Rattle.script.specs.declared.event.Event.{Event}

@@ -1,4 +1,4 @@
--- Words of contracts alone: reports that are made one behind another (this project's own)
+-- For contracts alone: reports that are made one behind another (this project's own)
 use Rattle.std.specs.Prelude.{◌≡◌, ℕ, List, [], ◌∷◌, ◌++◌, Option, None, Some, map}
 use Rattle.z_types.specs.declared.world.World as world
 use Rattle.route_config.specs.declared.route.Route.{Route}

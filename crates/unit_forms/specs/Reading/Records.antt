@@ -1,4 +1,5 @@
--- Records as they are read, and what a response has in their place (ANSI/NISO Z39.50-2003, Records, NamePlusRecord; X.690:2021, 8.18).
+-- For contracts alone: records as they are read, and what a response has in their place (ANSI/NISO
+-- Z39.50-2003, Records, NamePlusRecord; X.690:2021, 8.18).
 use Rattle.std.specs.Prelude.{ℕ, List, [], ◌∷◌, ◌==◌, Option, Some, None, Result, Ok, Err, if◌then◌else◌}
 use Rattle.z_types.specs.declared.diagnostic.Diag.{Diag}
 use Rattle.z_types.specs.declared.records.Form.{Form}

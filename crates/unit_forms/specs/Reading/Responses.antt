@@ -1,4 +1,5 @@
--- Replies as they are read (ANSI/NISO Z39.50-2003, InitializeResponse, SearchResponse, PresentResponse, ScanResponse).
+-- For contracts alone: replies as they are read (ANSI/NISO Z39.50-2003, InitializeResponse,
+-- SearchResponse, PresentResponse, ScanResponse).
 use Rattle.std.specs.Prelude.{ℕ, List, [], Bool, Option, Some, None, Result, Err, ◌==◌, if◌then◌else◌}
 use Rattle.z_types.specs.declared.diagnostic.Diag.{Diag}
 use Rattle.z_types.specs.declared.query.Term.{Term}
