@@ -118,6 +118,14 @@ impl<W: World, S: Sitting<W>> Leg<W, S> {
         matches!(self.phase, Phase::Done { .. })
     }
 
+    /// What the leg counted so far.
+    pub fn account(&self) -> Account
+        ensures account { result ≡ self.now.account }
+        ensures bounds { AccountFits result }
+    {
+        self.account
+    }
+
     /// The answer of a leg that is done, with its account.
     pub fn answer(self) -> (LegAnswer, Account)
         requires { IsDone self.phase }
