@@ -1,6 +1,6 @@
 //! What a backend counts beside its wire.
 
-ghost use Rattle.std.specs.Prelude.{◌≡◌, ◌≤◌};
+ghost use Rattle.std.specs.Prelude.{◌≡◌, ◌≤◌, true};
 ghost use Rattle.gw_outside.specs.Counts.{nothing};
 ghost use Rattle.gw_outside.specs.Sessions.{start_counted};
 ghost use Rattle.z_client.specs.Counts.{own_after, after_breach};
