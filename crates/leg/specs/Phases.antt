@@ -4,6 +4,7 @@ use Rattle.pool_sets.specs.declared.doors.Seat.{Seat}
 use Rattle.pool_sets.specs.declared.pooled.Parts.{Parts}
 use Rattle.pool_sets.specs.Table.{Table}
 use Rattle.pool_sets.specs.Sessions.{with_table}
+use Rattle.leg.specs.declared.answers.LegAnswer.{LegAnswer}
 use Rattle.leg.specs.declared.phases.Held.{Held}
 use Rattle.leg.specs.declared.phases.Phase.{Phase}
 use Rattle.leg.specs.declared.phases.Phase.TheVariants.{Begin, Dialling, Dialled, Ready, Searching, Presenting, Fetching, Scanning, Returning, Losing, Redialling, Spoiled, Done, Ended}
@@ -66,6 +67,11 @@ module _ {S : Type 0} where
   abbrev pub is_done : Phase S → Bool
   is_done (Done answer) = true
   is_done phase = false
+
+  -- the answer of a leg that is done
+  abbrev pub answered : Phase S → Option LegAnswer
+  answered (Done answer) = Some answer
+  answered phase = None
 
   -- the leg is done
   abbrev pub IsDone : Phase S → Type 0

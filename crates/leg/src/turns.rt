@@ -44,7 +44,8 @@ impl<W: World, S: Sitting<W>> Model for Leg<W, S> {
 impl<W: World, S: Sitting<W>> Leg<W, S> {
     ghost use Rattle.std.specs.Prelude.{◌≡◌, ◌↔◌, ◌≤◌, ◌+◌, Some, IsTrue};
     ghost use Rattle.leg.specs.Accounts.{no_account, AccountFits};
-    ghost use Rattle.leg.specs.Phases.{IsDone, is_done, given_up};
+    ghost use Rattle.std.specs.Option.{option_copied};
+    ghost use Rattle.leg.specs.Phases.{IsDone, answered, is_done, given_up};
     ghost use Rattle.leg.specs.Right.{AnswerFits};
     ghost use Rattle.leg.specs.Tasks.{task_of, MayBeAsked};
     ghost use Rattle.leg.specs.Terms.{terms_of};
@@ -124,6 +125,16 @@ impl<W: World, S: Sitting<W>> Leg<W, S> {
         ensures bounds { AccountFits result }
     {
         self.account
+    }
+
+    /// The answer of a leg that is done, lent; none before.
+    pub fn answered(&self) -> Option<&LegAnswer>
+        ensures { option_copied result ≡ answered self.now.phase }
+    {
+        match &self.phase {
+            Phase::Done { answer } => Some(answer),
+            _ => None,
+        }
     }
 
     /// The answer of a leg that is done, with its account.
