@@ -66,8 +66,8 @@ fn stream_named(word: &str) -> Option<frames::Shape> {
     Some(frames::Shape { stream, piece })
 }
 
-/// What a word names.
-fn sample_named(word: &str) -> Option<Sample> {
+/// What a word names of units and streams, by what stands in front of its first hyphen.
+fn unit_sample_named(word: &str) -> Option<Sample> {
     if let Some(unit) = word.strip_prefix("read-") {
         return Some(Sample::Unit(unit_named(unit)?, units::Pass::Read));
     }
@@ -77,9 +77,12 @@ fn sample_named(word: &str) -> Option<Sample> {
     if let Some(unit) = word.strip_prefix("copy-") {
         return Some(Sample::Unit(unit_named(unit)?, units::Pass::Copied));
     }
-    if let Some(stream) = word.strip_prefix("frames-") {
-        return Some(Sample::Frames(stream_named(stream)?));
-    }
+    let stream = word.strip_prefix("frames-")?;
+    Some(Sample::Frames(stream_named(stream)?))
+}
+
+/// What a word names of elements.
+fn element_sample_named(word: &str) -> Option<Sample> {
     match word {
         "pass-small" => Some(Sample::Passed(ber::Shape::Small)),
         "pass-deep" => Some(Sample::Passed(ber::Shape::Deep)),
@@ -96,6 +99,13 @@ fn sample_named(word: &str) -> Option<Sample> {
         "elements-empty" => Some(Sample::Elements(elements::Shape::Empty)),
         "elements-chains" => Some(Sample::Elements(elements::Shape::Chains)),
         "elements-open-chains" => Some(Sample::Elements(elements::Shape::OpenChains)),
+        _ => None,
+    }
+}
+
+/// What a word names of texts, replies, places and scripts.
+fn text_sample_named(word: &str) -> Option<Sample> {
+    match word {
         "cql-words" => Some(Sample::Cql(cql::Shape::Words)),
         "cql-phrases" => Some(Sample::Cql(cql::Shape::Phrases)),
         "cql-strings" => Some(Sample::Cql(cql::Shape::Strings)),
@@ -114,6 +124,17 @@ fn sample_named(word: &str) -> Option<Sample> {
         "sru-head" => Some(Sample::Sru(sru::Shape::Head)),
         _ => None,
     }
+}
+
+/// What a word names.
+fn sample_named(word: &str) -> Option<Sample> {
+    if let Some(sample) = unit_sample_named(word) {
+        return Some(sample);
+    }
+    if let Some(sample) = element_sample_named(word) {
+        return Some(sample);
+    }
+    text_sample_named(word)
 }
 
 /// Reads or writes a sample of about `size` octets `times` times, and answers how many octets it
