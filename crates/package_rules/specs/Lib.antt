@@ -1,0 +1,5 @@
+pub mod Asked
+pub mod Said
+pub mod Planned
+pub mod Truth
+pub mod steps

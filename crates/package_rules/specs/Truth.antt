@@ -1,0 +1,54 @@
+-- What comes of a request by its legs' answers is what its targets mean (this project's own)
+use Rattle.std.specs.Prelude.{◌≡◌, List, [], ◌∷◌, ◌++◌, Ok}
+use Rattle.z_types.specs.declared.work.Work.{Work}
+use Rattle.z_types.specs.declared.work.Work.TheVariants as work
+use Rattle.z_types.specs.declared.world.World as world
+use Rattle.route_config.specs.Sound.{IsSound}
+use Rattle.route_config.specs.declared.route.Route.{Route}
+use Rattle.gateway_rules.specs.Fair.{IsFair}
+use Rattle.gateway_rules.specs.Outcomes.{outcome_of}
+use Rattle.gateway_rules.specs.Targets.{hits_of}
+use Rattle.gateway_rules.specs.Works.{CanBegin, FitsWork}
+use Rattle.leg.specs.Right.{AnswerFits, IsRight}
+use Rattle.leg.specs.Terms.{terms_of}
+use Rattle.package_rules.specs.declared.answered.Answered.{Answered}
+use Rattle.package_rules.specs.Asked.{Asked, first_asked}
+use Rattle.package_rules.specs.Planned.{AreThere, then_asked_by}
+use Rattle.package_rules.specs.Said.{cause_of, finished}
+
+-- the hits that a fetch goes by are the world's
+abbrev pub HasWorldsHits : {W : Type 0} → world.Ghosts W → Route → Work → Type 0
+HasWorldsHits w route (work.Fetch login legs query hits first count syntax element) = hits_of w route legs query ≡ Ok hits
+HasWorldsHits w route other = Unit {0}
+
+module _ {W : Type 0} (w : world.Ghosts W) (route : Route) where
+  -- a leg answered what it was asked: what fits, and is the world's at one of its class's addresses
+  pub record IsAnswerTo (asked : Asked) (answered : Answered) : Type 0 where
+    pub leg : answered.leg ≡ asked.leg
+    pub fits : AnswerFits asked.task answered.answer
+    pub right : IsRight w (terms_of route asked.leg) asked.task answered.answer
+
+  -- so did each
+  abbrev pub AreAnswersTo : List Asked → List Answered → Type 0
+  AreAnswersTo [] [] = Unit {0}
+  AreAnswersTo (asked ∷ others) (answered ∷ answers) = IsAnswerTo asked answered × AreAnswersTo others answers
+  AreAnswersTo asked answers = ⊥
+
+  -- the legs of a work answered what they were asked
+  pub record AreAnswered (asked : Work) (first later : List Answered) : Type 0 where
+    pub at_first : AreAnswersTo (first_asked route asked) first
+    pub then : AreAnswersTo (then_asked_by route asked first) later
+
+-- on a fair route, what comes of a work by its legs' answers is what comes of it under the cause: the mark of the first leg that is
+-- marked, with its class, or else what the targets mean
+abbrev pub FinishedIsOutcome : {W : Type 0} → world.Ghosts W → Type 0
+FinishedIsOutcome w =
+    (route : Route) (asked : Work) (first later : List Answered) → IsFair w route → IsSound route → AreThere route asked
+    → CanBegin asked → HasWorldsHits w route asked → AreAnswered w route asked first later
+    → finished route asked first later ≡ outcome_of w route asked (cause_of route (first ++ later))
+
+-- on every route it fits the work
+abbrev pub FinishedFits : {W : Type 0} → world.Ghosts W → Type 0
+FinishedFits w =
+    (route : Route) (asked : Work) (first later : List Answered) → AreThere route asked → CanBegin asked
+    → AreAnswered w route asked first later → FitsWork asked (finished route asked first later)
