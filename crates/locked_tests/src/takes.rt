@@ -1,0 +1,117 @@
+//! What doors over one pool give.
+
+ghost use Rattle.std.specs.Prelude.{◌≡◌};
+
+use crate::doors::Side::{self, Left, Right};
+use crate::doors::{first_other, first_other_behind};
+use crate::holders::{Holder, Quiet};
+use crate::ledgers::blanks_of;
+use crate::turns::Given::{Dialled, Full, Idle, Reused};
+use crate::turns::Turn::{self, Expire, Lose, Put, Redial, TakeAny, TakeFor, TakeForOther};
+use crate::turns::desk_of;
+use pool_core::Pool;
+use route_config::PoolNumbers;
+use std::alloc::Global;
+use std::marker::Brand;
+use std::sync::Wait;
+use std::test::Fail;
+use z_types::Memory;
+
+/// The numbers of a pool of at most so many sessions of a class.
+fn numbers_of(max_sessions: u32) -> PoolNumbers
+    ensures most { result.max_sessions ≡ max_sessions }
+{
+    PoolNumbers {
+        max_sessions,
+        sets_max: 10,
+        session_ttl: 300,
+        set_ttl: 60,
+        repeats: 2,
+        patience: 1000,
+    }
+}
+
+/// The place of the first turn that goes otherwise at the one door of a pool.
+fn first_other_alone(
+    alloc: Global,
+    max_sessions: u32,
+    turns: &[(Side, Turn)],
+) -> Result<Option<usize>, Memory> {
+    let desk = desk_of(alloc)?;
+    let mut pool: Pool<Quiet, Holder> = Pool::after(alloc, numbers_of(max_sessions), 0);
+    first_other(alloc, &desk, &mut pool, turns)
+}
+
+/// The same at two doors over such a pool, which tell these numbers as the most sessions.
+fn first_other_locked<R: Wait + Sync>(
+    rt: &R,
+    alloc: Global,
+    max_sessions: u32,
+    tells: (u32, u32),
+    turns: &[(Side, Turn)],
+) -> Result<Option<usize>, Memory> {
+    let desk = desk_of(alloc)?;
+    let pool: Pool<Quiet, Holder> = Pool::after(alloc, numbers_of(max_sessions), 0);
+    first_other_behind::<R, Pool<Quiet, Holder>, Brand, Brand, Brand, Brand>(
+        rt,
+        alloc,
+        &desk,
+        pool,
+        max_sessions,
+        tells,
+        blanks_of(2),
+        turns,
+    )
+}
+
+/// Each door gives what the pool has, whichever door it came by: sessions that were dialled, put
+/// back and given up, and sets that were kept or forgotten.
+const TURNS: &[(Side, Turn)] = &[
+    (Left, TakeAny(Dialled(1, 0))),
+    (Right, TakeFor(0, Dialled(2, 1))),
+    (Left, TakeFor(0, Full(2))),
+    (Right, Redial(2, 1)),
+    (Left, Put(1, 0)),
+    (Right, TakeFor(0, Reused(1))),
+    (Left, TakeAny(Full(2))),
+    (Left, Lose(2)),
+    (Right, TakeFor(0, Dialled(3, 1))),
+    (Left, Put(1, 0)),
+    (Right, TakeForOther(Idle(1))),
+    (Right, Put(1, 0)),
+    (Left, TakeFor(59, Reused(1))),
+    (Right, Put(1, 59)),
+    (Left, TakeFor(119, Idle(1))),
+    (Left, Put(1, 119)),
+    (Right, TakeFor(418, Idle(1))),
+    (Right, Put(1, 418)),
+    (Left, Expire(477)),
+    (Right, TakeFor(0, Reused(1))),
+    (Right, Put(1, 418)),
+    (Left, Expire(478)),
+    (Right, TakeFor(0, Idle(1))),
+];
+
+#[test]
+fn two_doors_over_a_pool_answer_as_the_pool(rt: HostRuntime) -> Result<(), Fail> {
+    assert_eq!(rt; first_other_alone(rt.alloc(), 2, TURNS)?, None);
+    assert_eq!(rt;
+        first_other_locked(&rt, rt.alloc(), 2, (2, 2), TURNS)?,
+        None
+    );
+    Ok(())
+}
+
+/// A full pool is full under the number of the door.
+const FULL: &[(Side, Turn)] = &[
+    (Left, TakeAny(Dialled(1, 0))),
+    (Left, TakeAny(Full(1))),
+    (Right, TakeAny(Full(7))),
+    (Right, TakeFor(0, Full(7))),
+];
+
+#[test]
+fn a_full_pool_is_full_under_the_number_of_the_door(rt: HostRuntime) -> Result<(), Fail> {
+    assert_eq!(rt; first_other_locked(&rt, rt.alloc(), 1, (1, 7), FULL)?, None);
+    Ok(())
+}
