@@ -128,7 +128,7 @@ module _ {W : Type 0} (w : world.Ghosts W) (route : Route) where
       scan_fits login leg ask a.answer are.at_first.0.fits unmarked.0
 
 pub finished-fits : {W : Type 0} (w : world.Ghosts W) → FinishedFits w
-finished-fits w route asked first later there begins are =
+finished-fits w route asked first later are =
     let cause : Cause = cause_of route (first ++ later) in
     under_fits asked cause.mark cause.class (outcome_said route asked first later)
     (λ is. plainly_fits w route asked first later are (both_unmarked w route asked first later are is).0)

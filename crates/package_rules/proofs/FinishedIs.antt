@@ -167,7 +167,7 @@ both_unmarked w route asked first later are is =
     (one.0, (unmarked_all w route (then_asked_by route asked first) later [] are.then end).0)
 
 pub finished-is : {W : Type 0} (w : world.Ghosts W) → FinishedIsOutcome w
-finished-is w route asked first later fair sound there begins hits are =
+finished-is w route asked first later fair sound there hits are =
     let cause : Cause = cause_of route (first ++ later) in
     under_same cause.mark cause.class (outcome_said route asked first later) (plain_outcome w route asked)
     (λ is. let both = both_unmarked w route asked first later are is in

@@ -8,7 +8,7 @@ use Rattle.route_config.specs.declared.route.Route.{Route}
 use Rattle.gateway_rules.specs.Fair.{IsFair}
 use Rattle.gateway_rules.specs.Outcomes.{outcome_of}
 use Rattle.gateway_rules.specs.Targets.{hits_of}
-use Rattle.gateway_rules.specs.Works.{CanBegin, FitsWork}
+use Rattle.gateway_rules.specs.Works.{FitsWork}
 use Rattle.leg.specs.Right.{AnswerFits, IsRight}
 use Rattle.leg.specs.Terms.{terms_of}
 use Rattle.package_rules.specs.declared.answered.Answered.{Answered}
@@ -44,11 +44,11 @@ module _ {W : Type 0} (w : world.Ghosts W) (route : Route) where
 abbrev pub FinishedIsOutcome : {W : Type 0} → world.Ghosts W → Type 0
 FinishedIsOutcome w =
     (route : Route) (asked : Work) (first later : List Answered) → IsFair w route → IsSound route → AreThere route asked
-    → CanBegin asked → HasWorldsHits w route asked → AreAnswered w route asked first later
+    → HasWorldsHits w route asked → AreAnswered w route asked first later
     → finished route asked first later ≡ outcome_of w route asked (cause_of route (first ++ later))
 
 -- on every route it fits the work
 abbrev pub FinishedFits : {W : Type 0} → world.Ghosts W → Type 0
 FinishedFits w =
-    (route : Route) (asked : Work) (first later : List Answered) → AreThere route asked → CanBegin asked
-    → AreAnswered w route asked first later → FitsWork asked (finished route asked first later)
+    (route : Route) (asked : Work) (first later : List Answered) → AreAnswered w route asked first later
+    → FitsWork asked (finished route asked first later)
