@@ -17,8 +17,7 @@ use Rattle.gw_outside.specs.declared.links.Linked as linked
 use Rattle.gw_outside.specs.Counts.{Counts, Counted, WireCounts, after}
 use Rattle.gw_outside.specs.Happened.{Happened, AreSame, AreLess, AreCut, AreQuiet, IsMade, happening_after, nothing_happens, sets_found, at_address, to_peer}
 use Rattle.gw_outside.specs.Peers.{NamedSet, AreLeft, IsPeerStep, TakesRequest, held}
-use Rattle.gw_outside.specs.Replies.{says_gone}
-use Rattle.gw_outside.specs.Wires.{IsRequestUnit, IsReplyUnit, HandsOver, IsSentTo, SendFits, SendsSteadily, SendCounts, LookFits, LooksSteadily, DelaysLooked, send_counted, look_counted, owes_gone}
+use Rattle.gw_outside.specs.Wires.{IsRequestUnit, IsReplyUnit, HandsOver, IsSentTo, SendFits, SendsSteadily, SendCounts, LookFits, LooksSteadily, send_counted}
 use Rattle.gw_outside.specs.Peers as peers
 use Rattle.gw_outside.specs.declared.wires.Looked.{Looked}
 use Rattle.gw_outside.specs.declared.wires.Looked.TheVariants as looked
@@ -28,7 +27,7 @@ use Rattle.test_target.specs.declared.peers.Peer.{Peer}
 use Rattle.test_target.specs.Peer.{reply_to, sets_after}
 use Rattle.test_wire.specs.Happened.{Table, IsPut, happening_of, happened_in}
 use Rattle.test_wire.specs.Owed.{OwedReply, IsNextOwed}
-use Rattle.test_wire.specs.Links.{peer_of, delays_of, HasTaken, SendTakes, HasArrived, brings_gone, has_not_sent}
+use Rattle.test_wire.specs.Links.{peer_of, delays_of, HasTaken, SendTakes, HasArrived, has_not_sent}
 
 -- ---- requests
 
@@ -343,12 +342,6 @@ arrives peer still old mid new found before after looked.NotYet n u a e f = absu
 arrives peer still old mid new found before after looked.Failed n u a e f = absurd a
 arrives peer still old mid new found before after looked.Memory n u a e f = tt
 
--- and it says of the set what is counted
-gone_next : (peer : Peer) (old mid : List OwedReply) (found : OwedReply) → IsNextOwed old mid (Some found)
-    → owes_gone (Some (peer_of peer old)) ≡ says_gone found.reply
-gone_next peer [] mid found h = absurd h
-gone_next peer (first ∷ rest) mid found h = ap (λ o. says_gone o.reply) (sym h.1)
-
 delays_next : (old mid : List OwedReply) (found : OwedReply) → IsNextOwed old mid (Some found) → delays_of old ≡ 0 ∷ delays_of mid
 delays_next [] mid found h = absurd h
 delays_next (first ∷ rest) mid found h = ap (λ looks. looks ∷ delays_of rest) h.0 ∙ ap (λ owed. 0 ∷ delays_of owed) (sym h.2)
@@ -372,10 +365,6 @@ module _ {L : Type 0} (l : linked.Ghosts L) (link_old link_new : L) (before afte
     number = number;
     delays = λ steady. tt;
   }
-
-delays_stay : (old new : List OwedReply) → IsNextOwed old new None → DelaysLooked (delays_of old) (delays_of new) looked.NotYet
-delays_stay [] new h = ap delays_of h
-delays_stay (first ∷ rest) new h = (h.0, ap delays_of h.1)
 
 -- ---- a new table
 

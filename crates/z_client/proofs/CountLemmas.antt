@@ -1,18 +1,17 @@
 -- What a backend counts by what its wire does (this project's own)
-use Rattle.std.proofs.Common.{arith, ◌≡◌, ◌∙◌, inl, inr, ℕ, ◌+◌, ◌-◌, ◌^◌, ◌≤◌, min, Bool, true, false, List, refl, sym, ap, subst}
+use Rattle.std.proofs.Common.{arith, ◌≡◌, ◌∙◌, inl, inr, ℕ, ◌+◌, ◌-◌, ◌^◌, ◌≤◌, min, Bool, true, false, List, refl, ap}
 use Rattle.z_types.specs.Counts.{one_more}
 use Rattle.z_types.specs.declared.ask.Ask.{Ask}
 use Rattle.z_types.specs.declared.ask.Ask.TheVariants.{Search, Present, Scan}
 use Rattle.z_types.specs.Pending.{Pending}
 use Rattle.z_types.specs.declared.requests.Request.{Request}
 use Rattle.gw_outside.specs.Counts.{Counts, Counted, WireCounts, BackendCounts, nothing, after}
-use Rattle.gw_outside.specs.declared.backends.Opening.{Opening}
 use Rattle.gw_outside.specs.declared.backends.Opening.TheVariants as opened
 use Rattle.gw_outside.specs.declared.backends.Heard.{Heard}
 use Rattle.gw_outside.specs.declared.backends.Heard.TheVariants as heard
 use Rattle.gw_outside.specs.declared.wires.Sent.{Sent}
 use Rattle.gw_outside.specs.declared.wires.Sent.TheVariants as sent
-use Rattle.gw_outside.specs.Sessions.{OpenCounts, LookCounts, open_counted, start_counted}
+use Rattle.gw_outside.specs.Sessions.{LookCounts, start_counted}
 use Rattle.gw_outside.specs.Wires.{SendCounts, IsRequestUnit, send_counted}
 use Rattle.z_client.specs.declared.own.Own.{Own}
 use Rattle.z_client.specs.Counts.{counts_over, own_after}
@@ -41,16 +40,6 @@ pub sent_counts : (exact : Bool) (unit : List ℕ) (request : Request) (answer :
 sent_counts exact unit request answer old new is c =
     let some = c.some request in
     record { waits = some.waits; faults = some.faults; failed = some.failed; exactly = λ e. c.exactly request is e }
-
--- a dial that gave a link, and then another call
-dialled_then : (exact : Bool) (call : Counted) (old mid new : Counts) → WireCounts exact (record nothing { dial = true }) old mid
-    → WireCounts exact (record call { dial = false }) mid new → WireCounts exact (record call { dial = true }) old new
-dialled_then exact call old mid new c d = record {
-  waits = d.waits ∙ ap (λ n. one_more call.wait n) c.waits;
-  faults = omega (arith, c.faults, d.faults);
-  failed = λ e. omega (arith, c.faults, d.failed e);
-  exactly = λ e. d.exactly e ∙ ap (λ count. after (record call { dial = false }) count) (c.exactly e);
-}
 
 -- what a session sends
 pub asked_counts : (exact : Bool) (unit : List ℕ) (ask : Ask) (answer : Sent) (old new : Counts) → IsRequestUnit unit (request_of ask) → SendCounts exact unit answer old new

@@ -1,15 +1,13 @@
 -- What is made to happen to links stays, or becomes less (this project's own)
-use Rattle.std.proofs.Common.{arith, ◌≡◌, ◌∙◌, ◌≢◌, ◌⊎◌, inl, inr, ℕ, ◌≤◌, true, false, Option, None, Some, List, refl, sym, subst}
+use Rattle.std.proofs.Common.{◌≡◌, ◌∙◌, ◌≢◌, ◌⊎◌, inl, inr, ℕ, ◌≤◌, true, false, Option, None, Some, List, refl, sym, subst}
 use Rattle.std.proofs.Math.Dec.{eqb}
 use Rattle.std.proofs.lemmas.Bool.Decides.{eqb_tells}
 use Rattle.z_types.specs.declared.address.Address.{Address}
 use Rattle.z_types.specs.declared.address.Address.TheVariants.{Test, Tcp}
-use Rattle.gw_outside.specs.declared.backends.Opening.{Opening}
 use Rattle.gw_outside.specs.declared.backends.Opening.TheVariants as opened
 use Rattle.gw_outside.specs.declared.wires.Sent.TheVariants as sent
 use Rattle.gw_outside.specs.Happened.{Happened, AreSame, AreLess, IsMade, IsAsked}
 use Rattle.gw_outside.specs.Peers.{Peer}
-use Rattle.gw_outside.specs.Sessions.{OpenHappens}
 use Rattle.gw_outside.specs.Wires.{SendHappens, IsSentTo, IsRequestUnit}
 use Rattle.z_client.specs.Units.{init_request}
 

@@ -1,5 +1,5 @@
 -- What a look finds, and keeps of a session (this project's own)
-use Rattle.std.proofs.Common.{inl, ◌≡◌, ◌≢◌, ◌∙◌, inr, ◌⊎◌, ℕ, Bool, true, false, cond, List, take, drop, Option, None, Some, refl, sym, ap, subst, [], ◌++◌}
+use Rattle.std.proofs.Common.{inl, ◌≡◌, ◌∙◌, inr, ◌⊎◌, ℕ, Bool, true, false, cond, List, take, drop, Option, None, Some, refl, sym, ap, subst, []}
 use Rattle.std.proofs.lemmas.List.{take-append-drop}
 use Rattle.z_ber.specs.Due.{Stands}
 use Rattle.z_ber.specs.Frames.{IsFrame}
@@ -15,7 +15,7 @@ use Rattle.gw_outside.specs.declared.backends.Heard.{Heard}
 use Rattle.gw_outside.specs.declared.backends.Heard.TheVariants.{Opened, Hits, Refused, Items, Gone, Scanned, NotYet, Failed, Memory}
 use Rattle.gw_outside.specs.declared.links.Linked as linked
 use Rattle.gw_outside.specs.Peers.{Peer}
-use Rattle.gw_outside.specs.Sessions.{Made, Fits, IsWorlds, RecordsOf, made_after, pending_after}
+use Rattle.gw_outside.specs.Sessions.{Made, Fits, IsWorlds, RecordsOf, made_after}
 use Rattle.gw_outside.specs.Wires.{HandsOver, first_says_gone}
 use Rattle.z_client.specs.declared.arrivals.Arrival.{Arrival}
 use Rattle.z_client.specs.declared.arrivals.Arrival.TheVariants.{Unit as Whole, NotYet as NotCome, Breach as BadOctets, Failed as NoLink, Memory as NoMemory}
@@ -210,10 +210,6 @@ module _ {W L : Type 0} (w : world.Ghosts W) (l : linked.Ghosts L) (p : Pending)
       }
 
 -- ---- what is found of a unit
-
--- what is heard of a unit ends the wait
-heard_ends_wait : (p : Pending) (unit : List ℕ) (heard : Heard) → IsHeardIn p unit (Some heard) → pending_after p heard ≡ resting
-heard_ends_wait p unit heard is = (heard_ends p is.0 heard is.2).rests
 
 -- octets that begin with a whole unit of which nothing is heard
 pub another_found : (told : Type 0) (p : Pending) (arrived : List ℕ) (size : ℕ) (said : Found) → KeepsBreach arrived said → IsFrame (take size arrived)

@@ -1,13 +1,8 @@
 -- A session that was opened (this project's own)
-use Rattle.std.proofs.Common.{[], Option, None, Some, subst}
-use Rattle.z_types.specs.declared.address.Address.{Address}
 use Rattle.z_types.specs.declared.world.World as world
-use Rattle.gw_outside.specs.Happened.{Happened, AreSame}
-use Rattle.gw_outside.specs.Peers.{Peer, new_peer, TakesRequest}
 use Rattle.gw_outside.specs.Sessions.{IfSession}
 use Rattle.gw_outside.specs.declared.backends.Opening.{Opening}
 use Rattle.gw_outside.specs.declared.backends.Opening.TheVariants as opened
-use Rattle.z_client.specs.Units.{init_request, TookInit}
 
 -- what follows of a session follows of the one that was opened
 pub if_session : {S : Type 0} (result : Opening S) (P Q : S → Type 0) → ((s : S) → P s → Q s) → IfSession result P → IfSession result Q
