@@ -11,3 +11,5 @@ mod RankGood
 mod RecordsSaid
 mod FinishedIs
 mod FinishedFit
+mod LegsAsked
+mod Allowed

@@ -21,7 +21,7 @@ use Rattle.package_rules.proofs.Unmarked.{IsUnmarked}
 
 -- ---- items that are there
 
-record IsThere {X : Type 0} (xs : List X) (i : ℕ) : Type 0 where
+pub record IsThere {X : Type 0} (xs : List X) (i : ℕ) : Type 0 where
   pub item : X
   pub is : slice_get xs i ≡ Some item
 
@@ -31,7 +31,7 @@ there_by : {X : Type 0} (xs : List X) (i : ℕ) → i < length xs
 there_by xs i inside (inl h) = record { item = h.0; is = h.2 }
 there_by xs i inside (inr h) = absurd (omega (arith, inside, h.0))
 
-item_there : {X : Type 0} (xs : List X) (i : ℕ) → i < length xs → IsThere xs i
+pub item_there : {X : Type 0} (xs : List X) (i : ℕ) → i < length xs → IsThere xs i
 item_there xs i inside = there_by xs i inside (slice_get_cases xs i).1
 
 contained : {X : Type 0} (xs : List X) (i : ℕ) (x : X) → slice_get xs i ≡ Some x → Contains xs x
@@ -51,7 +51,7 @@ member_by : (classes : List Class) (place : ℕ) (address : Address) (found : Op
 member_by classes place address None is member = absurd (omega (arith, member.1))
 member_by classes place address (Some class) is member = record { class = class; is = is; member = member }
 
-leg_is : (route : Route) (place : ℕ) (leg : RouteLeg) (database : Database) (class : Class) (first : Address)
+pub leg_is : (route : Route) (place : ℕ) (leg : RouteLeg) (database : Database) (class : Class) (first : Address)
     → slice_get route.legs place ≡ Some leg → slice_get route.databases leg.database ≡ Some database
     → slice_get route.classes leg.class ≡ Some class → slice_get class.addresses 0 ≡ Some first
     → leg_at route place ≡ Some (record { database = database; class = class; address = first; dbs = leg.databases })

@@ -1,12 +1,13 @@
--- What comes of a request by its legs' answers is what its targets mean (this project's own)
-use Rattle.std.specs.Prelude.{◌≡◌, List, [], ◌∷◌, ◌++◌, Ok}
+-- What comes of a request by its legs' answers is what its targets mean, and its cause is allowed (this project's own)
+use Rattle.std.specs.Prelude.{◌≡◌, ◌<◌, List, [], ◌∷◌, ◌++◌, length, All, Ok}
 use Rattle.z_types.specs.declared.work.Work.{Work}
 use Rattle.z_types.specs.declared.work.Work.TheVariants as work
 use Rattle.z_types.specs.declared.world.World as world
 use Rattle.route_config.specs.Sound.{IsSound}
 use Rattle.route_config.specs.declared.route.Route.{Route}
 use Rattle.gateway_rules.specs.Fair.{IsFair}
-use Rattle.gateway_rules.specs.Outcomes.{outcome_of}
+use Rattle.gateway_rules.specs.Marks.{IsAllowed}
+use Rattle.gateway_rules.specs.Outcomes.{classes_asked, outcome_of}
 use Rattle.gateway_rules.specs.Targets.{hits_of}
 use Rattle.gateway_rules.specs.Works.{FitsWork}
 use Rattle.leg.specs.Right.{AnswerFits, IsRight}
@@ -52,3 +53,14 @@ abbrev pub FinishedFits : {W : Type 0} → world.Ghosts W → Type 0
 FinishedFits w =
     (route : Route) (asked : Work) (first later : List Answered) → AreAnswered w route asked first later
     → FitsWork asked (finished route asked first later)
+
+-- every class has a member
+abbrev pub HaveMembers : Route → Type 0
+HaveMembers route = All (λ class. 0 < length class.addresses) route.classes
+
+-- the cause of a request is allowed: its mark is Plain, or names the class of a leg that the request asks
+abbrev pub CauseIsAllowed : {W : Type 0} → world.Ghosts W → Type 0
+CauseIsAllowed w =
+    (route : Route) (asked : Work) (first later : List Answered) → IsSound route → HaveMembers route → AreThere route asked
+    → AreAnswered w route asked first later
+    → IsAllowed (record { classes = classes_asked route asked; cause = cause_of route (first ++ later) })

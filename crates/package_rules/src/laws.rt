@@ -1,7 +1,7 @@
-//! That what comes of a request by its legs' answers is what its targets mean. These functions do
-//! nothing; what they ensure is the law.
+//! That what comes of a request by its legs' answers is what its targets mean, and that its cause
+//! is allowed. These functions do nothing; what they ensure is the law.
 
-ghost use Rattle.package_rules.specs.Truth.{FinishedFits, FinishedIsOutcome};
+ghost use Rattle.package_rules.specs.Truth.{CauseIsAllowed, FinishedFits, FinishedIsOutcome};
 
 use z_types::World;
 
@@ -14,4 +14,10 @@ pub fn finished_is_outcome<W: World>()
 /// What comes of a work by its legs' answers fits the work.
 pub fn finished_fits<W: World>()
     ensures { FinishedFits W.World }
+{}
+
+/// The cause of a work by its legs' answers is allowed: its mark is Plain, or names the class of a
+/// leg that the work asks.
+pub fn cause_is_allowed<W: World>()
+    ensures { CauseIsAllowed W.World }
 {}
