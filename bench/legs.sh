@@ -7,17 +7,8 @@ bench=bench_legs
 words="fetch 100 1"
 . "$(dirname "$0")/readers.sh"
 
-# The median of 5 runs, in nanoseconds of one leg, without what stands before the first.
-leg() {
-    local made whole
-    for _ in 1 2 3 4 5; do
-        made=$(nanoseconds "$1" "$2" 0) && whole=$(nanoseconds "$1" "$2" "$3") || exit 1
-        echo $(((whole - made) / $3))
-    done | sort -n | awk 'NR == 3 { middle = $1 } END { if (NR != 5) exit 1; print (middle > 0 ? middle : 1) }'
-}
-
-reuse=$(leg reuse 100 400000) && small=$(leg fetch 100 100000) || exit 1
-middle=$(leg fetch 10000 100000) && large=$(leg fetch 100000 100000) || exit 1
+reuse=$(median_each reuse 100 400000) && small=$(median_each fetch 100 100000) || exit 1
+middle=$(median_each fetch 10000 100000) && large=$(median_each fetch 100000 100000) || exit 1
 echo "$reuse $small $middle $large" | awk '{
     printf "reuse: %d legs of 2 turns a second, %d turns\n", 1e9 / $1, 2e9 / $1
     printf "fetch: %d legs of 6 turns a second, %d turns, with ten records of 100 octets; ", 1e9 / $2, 6e9 / $2

@@ -7,17 +7,8 @@ bench=bench_pool
 words="any 1 1"
 . "$(dirname "$0")/readers.sh"
 
-# The median of 5 runs, in nanoseconds of one take and put, without the making of the pool.
-turn() {
-    local made whole
-    for _ in 1 2 3 4 5; do
-        made=$(nanoseconds "$1" "$2" 0) && whole=$(nanoseconds "$1" "$2" "$3") || exit 1
-        echo $(((whole - made) / $3))
-    done | sort -n | awk 'NR == 3 { middle = $1 } END { if (NR != 5) exit 1; print (middle > 0 ? middle : 1) }'
-}
-
 for want in any first last other; do
-    few=$(turn $want 10 400000) && more=$(turn $want 100 40000) && most=$(turn $want 1000 4000) || exit 1
+    few=$(median_each $want 10 400000) && more=$(median_each $want 100 40000) && most=$(median_each $want 1000 4000) || exit 1
     echo "$want $few $more $most" | awk '{
         printf "%s: %d takes and puts a second at 10 idle sessions, %d at 100, %d at 1000; ", $1, 1e9 / $2, 1e9 / $3, 1e9 / $4
         printf "ten times the sessions take %.1f and %.1f times as long\n", $3 / $2, $4 / $3 }'

@@ -50,3 +50,12 @@ demand() {
     echo "$line"
     awk -v least="$4" '{ exit ($5 + 0 < least) }' <<<"$line" || status=1
 }
+
+# The median of 5 runs, in nanoseconds of one of so many times, without what stands before the first.
+median_each() {
+    local made whole
+    for _ in 1 2 3 4 5; do
+        made=$(nanoseconds "$1" "$2" 0) && whole=$(nanoseconds "$1" "$2" "$3") || exit 1
+        echo $(((whole - made) / $3))
+    done | sort -n | awk 'NR == 3 { middle = $1 } END { if (NR != 5) exit 1; print (middle > 0 ? middle : 1) }'
+}
