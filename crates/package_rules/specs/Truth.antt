@@ -1,5 +1,6 @@
 -- What comes of a request by its legs' answers is what its targets mean, and its cause is allowed (this project's own)
-use Rattle.std.specs.Prelude.{◌≡◌, ◌<◌, List, [], ◌∷◌, ◌++◌, length, All, Ok}
+use Rattle.std.specs.Prelude.{◌≡◌, ◌<◌, List, [], ◌∷◌, ◌++◌, length, All, Ok, None, Some}
+use Rattle.z_types.specs.declared.marks.Mark.{Mark}
 use Rattle.z_types.specs.declared.work.Work.{Work}
 use Rattle.z_types.specs.declared.work.Work.TheVariants as work
 use Rattle.z_types.specs.declared.world.World as world
@@ -15,7 +16,7 @@ use Rattle.leg.specs.Terms.{terms_of}
 use Rattle.package_rules.specs.declared.answered.Answered.{Answered}
 use Rattle.package_rules.specs.Asked.{Asked, first_asked}
 use Rattle.package_rules.specs.Planned.{AreThere, then_asked_by}
-use Rattle.package_rules.specs.Said.{cause_of, finished}
+use Rattle.package_rules.specs.Said.{cause_of, class_name, finished, mark_of}
 
 -- the hits that a fetch goes by are the world's
 abbrev pub HasWorldsHits : {W : Type 0} → world.Ghosts W → Route → Work → Type 0
@@ -64,3 +65,15 @@ CauseIsAllowed w =
     (route : Route) (asked : Work) (first later : List Answered) → IsSound route → HaveMembers route → AreThere route asked
     → AreAnswered w route asked first later
     → IsAllowed (record { classes = classes_asked route asked; cause = cause_of route (first ++ later) })
+
+-- the first leg that is marked decides with its class, whatever the others answered
+abbrev pub FirstMarkDecides : Type 0
+FirstMarkDecides =
+    (route : Route) (first : Answered) (others : List Answered) (mark : Mark) → mark_of first.answer ≡ Some mark
+    → cause_of route (first ∷ others) ≡ record { mark = mark; class = class_name route first.leg }
+
+-- and a leg that is not marked leaves it to the others
+abbrev pub OthersDecide : Type 0
+OthersDecide =
+    (route : Route) (first : Answered) (others : List Answered) → mark_of first.answer ≡ None
+    → cause_of route (first ∷ others) ≡ cause_of route others

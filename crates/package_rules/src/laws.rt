@@ -1,7 +1,7 @@
 //! That what comes of a request by its legs' answers is what its targets mean, and that its cause
 //! is allowed. These functions do nothing; what they ensure is the law.
 
-ghost use Rattle.package_rules.specs.Truth.{CauseIsAllowed, FinishedFits, FinishedIsOutcome};
+ghost use Rattle.package_rules.specs.Truth.{CauseIsAllowed, FinishedFits, FinishedIsOutcome, FirstMarkDecides, OthersDecide};
 
 use z_types::World;
 
@@ -20,4 +20,10 @@ pub fn finished_fits<W: World>()
 /// leg that the work asks.
 pub fn cause_is_allowed<W: World>()
     ensures { CauseIsAllowed W.World }
+{}
+
+/// The cause of a work's legs is the mark of the first that is marked, with the name of its class.
+pub fn first_mark_decides()
+    ensures marked { FirstMarkDecides }
+    ensures others { OthersDecide }
 {}

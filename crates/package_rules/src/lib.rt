@@ -10,5 +10,5 @@ mod spans;
 mod tests;
 
 pub use answered::Answered;
-pub use laws::{cause_is_allowed, finished_fits, finished_is_outcome};
+pub use laws::{cause_is_allowed, finished_fits, finished_is_outcome, first_mark_decides};
 pub use spans::{Met, Span, spans_of};
