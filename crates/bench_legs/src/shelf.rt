@@ -3,7 +3,7 @@
 
 ghost use Rattle.std.specs.Prelude.{◌≡◌, List, length, Ok, IfOk, true};
 ghost use Rattle.gw_memory.specs.FakeCounts.{counts_of, never_steady};
-ghost use Rattle.bench_legs.specs.Blank.{ten_hits, ten_is_a_count, blank_record, no_scan};
+ghost use Rattle.bench_legs.specs.Blank.{ten_hits, ten_is_a_count, blank_record, no_scan, records_behind};
 
 use gw_memory::{FakeBackend, FakeSession};
 use gw_outside::{Backend, Began, Heard, Opening, TargetAnswer, Targets, Watched};
@@ -100,9 +100,11 @@ pub struct Shelf {
 
 impl Shelf {
     /// With records of so many octets.
-    pub fn new(alloc: Global, size: u32) -> Result<Shelf, Memory> {
+    pub fn new(alloc: Global, size: u32) -> Result<Shelf, Memory>
+        ensures { IfOk result (λ shelf. length shelf.records ≡ 10) }
+    {
         let mut records = List::new(alloc);
-        for _ in 0..10 {
+        for _made in 0u32..10 {
             records.push(record_of(alloc, size)?)?;
         }
         Ok(Shelf {
@@ -123,7 +125,10 @@ impl Shelf {
     }
 
     /// Takes the records of a leg back.
-    pub fn take_back(&mut self, answer: Option<LegAnswer>) {
+    pub fn take_back(&mut self, answer: Option<LegAnswer>)
+        ensures records { self.new.records ≡ records_behind answer self.old.records }
+        ensures sessions { self.new.sessions ≡ self.old.sessions }
+    {
         if let Some(LegAnswer::Items(items)) = answer {
             self.records = items;
         }
