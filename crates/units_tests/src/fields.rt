@@ -236,7 +236,7 @@ fn close(alloc: Global, reason: u32, info: &str) -> Result<Close, Memory> {
 
 impl RequestFields {
     /// The request of these fields.
-    pub fn request(self, alloc: Global) -> Result<Request, Memory> {
+    pub(crate) fn request(self, alloc: Global) -> Result<Request, Memory> {
         match self {
             RequestFields::Init(options, size) => Ok(Request::Init(init(options, size))),
             RequestFields::Search(fields) => Ok(Request::Search(search(alloc, fields)?)),
@@ -349,7 +349,7 @@ fn search_reply(
 
 impl ReplyFields {
     /// The reply of these fields.
-    pub fn reply(self, alloc: Global) -> Result<Reply, Memory> {
+    pub(crate) fn reply(self, alloc: Global) -> Result<Reply, Memory> {
         match self {
             ReplyFields::Init(options, size) => Ok(Reply::Init {
                 init: init(options, size),
