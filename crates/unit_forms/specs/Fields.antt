@@ -1,5 +1,5 @@
 -- Fields of a unit as they are written (ANSI/NISO Z39.50-2003, the definition of APDUs; X.690:2021, 8.14): context tags in place of the types' own
-use Rattle.std.specs.Prelude.{ℕ, ◌<◌, ◌^◌, pos, ℤ, Bool, true, false, List, [], Option, None, Some}
+use Rattle.std.specs.Prelude.{ℕ, pos, ℤ, Bool, true, false, List, [], Option, None, Some}
 use Rattle.z_ber.specs.declared.tag.Tag.{Tag}
 use Rattle.z_ber.specs.Written.{element, int_octets, bool_octets, bits_octets, oid_octets}
 use Rattle.unit_forms.specs.Tags as tag
@@ -52,10 +52,6 @@ octets_field number octets = element (primitive number) octets
 -- a field of an integer
 abbrev pub integer_field : ℕ → ℤ → List ℕ
 integer_field number value = element (primitive number) (int_octets value)
-
--- the numbers of fields: 0 to 2147483647
-abbrev pub IsNumber : ℕ → Type 0
-IsNumber value = value < 2 ^ 31
 
 -- a field of a number that is not negative
 abbrev pub number_field : ℕ → ℕ → List ℕ

@@ -6,6 +6,7 @@ use Rattle.std.specs.Int.Digits.{digits_of}
 use Rattle.std.proofs.lemmas.Bool.{lt-ltb, ltb-true, leb-true}
 use Rattle.std.proofs.lemmas.Int.Digits.{length-digits_of-le}
 use Rattle.std.proofs.lemmas.List.{length-append, length-map, length-reverse}
+use Rattle.z_types.specs.Numbers.{IsNumber}
 use Rattle.z_types.specs.Oid.{has_root}
 use Rattle.z_types.specs.equality.Tests.{both_true}
 use Rattle.z_ber.specs.declared.tag.Tag.{Tag}
@@ -110,7 +111,7 @@ unfolding natural_octets
 natural_few k n small =
     omega (arith, one_more_or (nat_lt (slice_index_or (digits_of 256 n) 0 128) 128) (digits_of 256 n), length-digits_of-le 256 k n (omega arith) small)
 
-int_few : (n : ℕ) → n < 2 ^ 31 → IsWithin 5 (int_octets (pos n))
+int_few : (n : ℕ) → IsNumber n → IsWithin 5 (int_octets (pos n))
 unfolding int_octets
 int_few n small = record { few = natural_few 4 n (omega (arith, small)) }
 
@@ -166,7 +167,7 @@ octets_within number tag small h = within_element (primitive number) tag small h
 pub tree_within : {n : ℕ} {elements : List ℕ} (number : ℕ) → number < 2 ^ 31 → n < 2 ^ 32 → IsWithin n elements → IsWithin (n + 11) (tree_field number elements)
 tree_within number tag small h = within_element (constructed number) tag small h
 
-pub number_within : (number value : ℕ) → number < 2 ^ 31 → value < 2 ^ 31 → IsWithin 12 (number_field number value)
+pub number_within : (number value : ℕ) → number < 2 ^ 31 → IsNumber value → IsWithin 12 (number_field number value)
 number_within number value tag small = within_short (primitive number) tag (omega arith) (int_few value small)
 
 pub integer_within : (number : ℕ) (value : ℤ) → number < 2 ^ 31 → IsInteger value → IsWithin 16 (integer_field number value)

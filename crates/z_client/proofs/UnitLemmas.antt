@@ -1,8 +1,9 @@
 -- What is sent is a unit, and the request that was meant (ANSI/NISO Z39.50-2003, 3.2.1 to 3.2.3 and 3.2.8)
-use Rattle.std.proofs.Common.{arith, ◌≡◌, ◌^◌, ◌<◌, ℕ, pos, List, [], ◌∷◌, Option, None, Some, Result, Ok, Err, IfOk, true, sym, subst}
+use Rattle.std.proofs.Common.{arith, ◌≡◌, ◌^◌, ◌<◌, ℕ, pos, List, [], ◌∷◌, Option, None, Result, Ok, Err, IfOk, true, sym, subst}
 use Rattle.std.specs.Prelude.{IfSome}
 use Rattle.std.specs.List.{AllByRecursion}
 use Rattle.z_types.specs.Bounds.{most_unit_octets, most_query_cost}
+use Rattle.z_types.specs.Numbers.{IsNumber, HasNumbers}
 use Rattle.z_types.specs.Tree.{Tree, leaf, operand, and, or, and_not}
 use Rattle.z_types.specs.declared.ask.Ask.{Ask}
 use Rattle.z_types.specs.declared.ask.Ask.TheVariants.{Search, Present, Scan}
@@ -15,14 +16,12 @@ use Rattle.z_types.specs.declared.requests.Request.{Request}
 use Rattle.z_types.specs.declared.requests.Search.{Search as SearchFields}
 use Rattle.z_types.specs.declared.scan.ScanAsk.{ScanAsk}
 use Rattle.z_ber.specs.Values.{IsOid}
-use Rattle.unit_forms.specs.Fields.{IsNumber, object_identifier, octets_field, number_field, identifier_field, tree_field}
+use Rattle.unit_forms.specs.Fields.{object_identifier, octets_field, number_field, identifier_field, tree_field}
 use Rattle.unit_forms.specs.Requests.{spell_request, init_fields, search_fields, present_fields, scan_ask_fields, scan_fields, database_names, element_name_field, composition_field}
 use Rattle.unit_forms.specs.Tags as tag
 use Rattle.z_laws.specs.Laws.{WrittenRequestsAreUnits, WrittenRequestsAreRead}
 use Rattle.z_laws.specs.Readable.{IsReadable, IsReadableAttr, IsReadableTree, IsReadableQuery, IsReadableAsk}
 use Rattle.z_laws.specs.Shallow.{IsShallow}
-use Rattle.z_types.specs.Numbers as numbers
-use Rattle.z_types.specs.Numbers.{HasNumbers}
 use Rattle.gw_outside.specs.Asks.{IsShort, AreFewShort, HasNoSet, MaySearch, MayPresent, MayScan, MayAsk}
 use Rattle.gw_outside.specs.Sessions.{Made}
 use Rattle.gw_outside.specs.Wires.{IsRequestUnit}
@@ -67,7 +66,7 @@ init_is_unit units read (Err why) e = tt
 attrs_readable : (attrs : List Attr) → AllByRecursion HasNumbers attrs → AllByRecursion IsTypedAttr attrs → AllByRecursion IsReadableAttr attrs
 attrs_readable [] numbers typed = tt
 attrs_readable (attr ∷ attrs) numbers typed =
-    (record { set = typed.0; kind = omega (arith, numbers.0.0); value = omega (arith, numbers.0.1) }, attrs_readable attrs numbers.1 typed.1)
+    (record { set = typed.0; kind = numbers.0.0; value = numbers.0.1 }, attrs_readable attrs numbers.1 typed.1)
 
 tree_readable : (tree : Tree) → HasNoSet tree → IsTypedTree tree → IsReadableTree tree
 tree_readable (leaf attrs term) numbers typed = (attrs_readable attrs numbers typed.0, typed.1)
@@ -75,10 +74,6 @@ tree_readable (operand name) numbers typed = tt
 tree_readable (and l r) numbers typed = (tree_readable l numbers.0 typed.0, tree_readable r numbers.1 typed.1)
 tree_readable (or l r) numbers typed = (tree_readable l numbers.0 typed.0, tree_readable r numbers.1 typed.1)
 tree_readable (and_not l r) numbers typed = (tree_readable l numbers.0 typed.0, tree_readable r numbers.1 typed.1)
-
-number_readable : (value : Option ℕ) → IfSome value numbers.IsNumber → IfSome value IsNumber
-number_readable None h = tt
-number_readable (Some n) h = omega (arith, h)
 
 query_readable : (name : List ℕ) (key : SetKey) → MaySearch name key → IsTypedQuery key.query → IsReadableQuery key.query
 query_readable name key may typed = (typed.attr_set, tree_readable key.query.root may.no_set typed.root)
@@ -88,16 +83,16 @@ scan_readable dbs ask may typed = record {
   attr_set = typed.attr_set;
   attrs = attrs_readable ask.attrs may.attrs typed.attrs;
   term = typed.term;
-  step = number_readable ask.step may.step;
-  number = omega (arith, may.number);
-  position = number_readable ask.position may.position;
+  step = may.step;
+  number = may.number;
+  position = may.position;
 }
 
 ask_readable : (made : Made) (ask : Ask) → MayAsk made ask → IsTypedAsk ask → IsReadable (request_of ask)
 ask_readable made (Search name key) may typed =
     record { small = omega arith; large = omega arith; medium = omega arith; syntax = tt; query = query_readable name key may typed }
 ask_readable made (Present name first count syntax element) may typed =
-    record { start = record { sfits = omega (arith, may.first_number) }; number = omega (arith, may.count_number); element = tt; syntax = typed }
+    record { start = record { sfits = omega (arith, may.first_number) }; number = may.count_number; element = tt; syntax = typed }
 ask_readable made (Scan dbs ask) may typed = scan_readable dbs ask may typed
 
 -- ---- it stands on few levels
@@ -160,7 +155,7 @@ unfolding present_fields
 present_within made name first count syntax element may valid =
     let set_name = short_within tag.result_set_id name (omega arith) may.short in
     let start = integer_within tag.result_set_start_point (pos first) (omega arith) (record { sfits = omega (arith, may.first_number) }) in
-    let number = number_within tag.number_of_records_requested count (omega arith) (omega (arith, may.count_number)) in
+    let number = number_within tag.number_of_records_requested count (omega arith) may.count_number in
     let own = optional_within IsOid (identifier_field tag.preferred_record_syntax) syntax (λ arcs is. identifier_within tag.preferred_record_syntax arcs (omega arith) is) valid in
     joined (joined (joined (joined set_name start) number) (element_within element may.short_element)) own
 

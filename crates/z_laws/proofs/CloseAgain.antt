@@ -1,5 +1,6 @@
 -- A Close that is written is read again.
-use Rattle.std.proofs.Common.{◌≡◌, ◌^◌, ◌<◌, pos, Ok, lit<, refl}
+use Rattle.std.proofs.Common.{◌≡◌, pos, Ok, lit<, refl}
+use Rattle.z_types.specs.Numbers.{IsNumber}
 use Rattle.z_types.specs.declared.requests.Close.{Close}
 use Rattle.z_ber.specs.Element.{Forest, none, leaf, branch}
 use Rattle.z_ber.specs.Written.{int_octets}
@@ -31,7 +32,7 @@ spells-close close = spells-constructed 48 (close_fields close) (close_forest cl
 close-ref_id : (close : Close) → optional 2 octets_of (close_forest close) ≡ Ok close.ref_id
 close-ref_id close = simp (first_of-joined, first_of-maybe_leaf, or_else-none) (octets_if 2 close.ref_id)
 
-close-reason : (close : Close) → close.reason < 2 ^ 31 → required 211 number_of (close_forest close) ≡ Ok close.reason
+close-reason : (close : Close) → IsNumber close.reason → required 211 number_of (close_forest close) ≡ Ok close.reason
 close-reason close small = simp (first_of-joined, first_of-maybe_leaf) (number_once 211 close.reason small)
 
 close-info : (close : Close) → optional 3 octets_of (close_forest close) ≡ Ok close.info

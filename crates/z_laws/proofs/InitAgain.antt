@@ -1,5 +1,6 @@
 -- An Init that is written is read again, as a request and in its response.
 use Rattle.std.proofs.Common.{◌≡◌, ◌∙◌, ◌^◌, ◌<◌, pos, [], ◌∷◌, None, Ok, lit<, sym, ap, refl}
+use Rattle.z_types.specs.Numbers.{IsNumber}
 use Rattle.z_types.specs.declared.requests.Init.{Init}
 use Rattle.z_ber.specs.Element.{Forest, none, leaf}
 use Rattle.z_ber.specs.Written.{int_octets, bits_octets}
@@ -37,10 +38,10 @@ init-versions init rest small = simp (first_of-joined, first_of-maybe_leaf) (bit
 init-options : (init : Init) (rest : Forest) → init.options < 2 ^ 32 → required 4 bits_of (joined (init_forest init) rest) ≡ Ok init.options
 init-options init rest small = simp (first_of-joined, first_of-maybe_leaf) (bits_once 4 init.options small)
 
-init-preferred : (init : Init) (rest : Forest) → init.preferred < 2 ^ 31 → required 5 number_of (joined (init_forest init) rest) ≡ Ok init.preferred
+init-preferred : (init : Init) (rest : Forest) → IsNumber init.preferred → required 5 number_of (joined (init_forest init) rest) ≡ Ok init.preferred
 init-preferred init rest small = simp (first_of-joined, first_of-maybe_leaf) (number_once 5 init.preferred small)
 
-init-exceptional : (init : Init) (rest : Forest) → init.exceptional < 2 ^ 31 → required 6 number_of (joined (init_forest init) rest) ≡ Ok init.exceptional
+init-exceptional : (init : Init) (rest : Forest) → IsNumber init.exceptional → required 6 number_of (joined (init_forest init) rest) ≡ Ok init.exceptional
 init-exceptional init rest small = simp (first_of-joined, first_of-maybe_leaf) (number_once 6 init.exceptional small)
 
 -- whatever follows that has no referenceId

@@ -2,6 +2,7 @@
 use Rattle.std.proofs.Common.{◌≡◌, ℕ, ◌^◌, ◌<◌, Bool, true, false, ℤ, pos, w64, List, [], ◌∷◌, ◌++◌, map, Option, Some, None, Result, Ok, ap, lit<, refl}
 use Rattle.std.specs.Prelude.{FitsSigned, IfSome}
 use Rattle.std.specs.List.{flat_map, AllByRecursion}
+use Rattle.z_types.specs.Numbers.{IsNumber}
 use Rattle.z_types.specs.Oid.{is_oid}
 use Rattle.z_ber.specs.declared.tag.Tag.{Tag}
 use Rattle.z_ber.specs.Element.{Forest, none, leaf, branch}
@@ -61,7 +62,7 @@ spells-branches tag contents inner (x ∷ xs) valid form p = spells-branch tag (
 
 -- ---- read again
 
-pub number_once : (number n : ℕ) → n < 2 ^ 31 → number_of (field_of (primitive number) (int_octets (pos n)) none) ≡ Ok n
+pub number_once : (number n : ℕ) → IsNumber n → number_of (field_of (primitive number) (int_octets (pos n)) none) ≡ Ok n
 number_once number n small = rw (number_in-again n small) refl
 
 pub integer_once : (number : ℕ) (z : ℤ) → FitsSigned w64 z → integer_of (field_of (primitive number) (int_octets z) none) ≡ Ok z
@@ -85,8 +86,8 @@ pub octets_if : (number : ℕ) (o : Option (List ℕ)) → read_if octets_of (ma
 octets_if number None = refl
 octets_if number (Some x) = refl
 
-pub number_if : (number : ℕ) (o : Option ℕ) → IfSome o (λ n. n < 2 ^ 31) → read_if number_of (maybe_field (λ n. field_of (primitive number) (int_octets (pos n)) none) o) ≡ Ok o
-number_if number o h = read_if-again number_of _ (λ n. n < 2 ^ 31) o h (number_once number)
+pub number_if : (number : ℕ) (o : Option ℕ) → IfSome o IsNumber → read_if number_of (maybe_field (λ n. field_of (primitive number) (int_octets (pos n)) none) o) ≡ Ok o
+number_if number o h = read_if-again number_of _ IsNumber o h (number_once number)
 
 pub oid_if : (tag : Tag) (o : Option (List ℕ)) → tag.constructed ≡ false → IfSome o (λ arcs. is_oid arcs ≡ true) → read_if oid_of (maybe_field (λ arcs. field_of tag (oid_octets arcs) none) o) ≡ Ok o
 oid_if tag o form h = read_if-again oid_of _ (λ arcs. is_oid arcs ≡ true) o h (λ arcs valid. oid_once tag arcs form valid)

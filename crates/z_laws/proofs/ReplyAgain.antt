@@ -1,6 +1,7 @@
 -- A reply that is written and is a unit is read again.
-use Rattle.std.proofs.Common.{◌≡◌, ◌∙◌, ℕ, ◌^◌, ◌<◌, ◌≤◌, Bool, pos, List, [], ◌∷◌, length, Option, Ok, lit<, ap, subst, arith, refl}
+use Rattle.std.proofs.Common.{◌≡◌, ◌∙◌, ℕ, ◌≤◌, Bool, pos, List, [], ◌∷◌, length, Option, Ok, lit<, ap, subst, arith, refl}
 use Rattle.std.specs.Prelude.{IfSome, codes}
+use Rattle.z_types.specs.Numbers.{IsNumber}
 use Rattle.z_types.specs.declared.records.Body.{Body}
 use Rattle.z_types.specs.declared.replies.Reply.{Reply}
 use Rattle.z_types.specs.declared.replies.Reply.TheVariants as reply
@@ -82,7 +83,7 @@ unfolding search_reply_fields
 spells-search_reply_fields ref_id count returned next ok status body h =
     spells-maybe 2 (λ x. x) ref_id (lit< tt) ⊕ spells-primitive 23 _ (lit< tt) ⊕ spells-primitive 24 _ (lit< tt) ⊕ spells-primitive 25 _ (lit< tt) ⊕ spells-primitive 22 _ (lit< tt) ⊕ spells-maybe 27 (λ n. int_octets (pos n)) status (lit< tt) ⊕ spells-body body h
 
-counts_in-again : (ref_id : Option (List ℕ)) (count returned next : ℕ) (ok : Bool) (status : Option ℕ) (body : Body) (h : IsReadableBody body) → count < 2 ^ 31 → returned < 2 ^ 31 → next < 2 ^ 31 → counts_in (search_reply_forest ref_id count returned next ok status body h) ≡ Ok (ref_id, (count, (returned, next)))
+counts_in-again : (ref_id : Option (List ℕ)) (count returned next : ℕ) (ok : Bool) (status : Option ℕ) (body : Body) (h : IsReadableBody body) → IsNumber count → IsNumber returned → IsNumber next → counts_in (search_reply_forest ref_id count returned next ok status body h) ≡ Ok (ref_id, (count, (returned, next)))
 unfolding counts_in
 counts_in-again ref_id count returned next ok status body h c r n =
     let e0 : optional 2 octets_of (search_reply_forest ref_id count returned next ok status body h) ≡ Ok ref_id = simp (first_of-joined, first_of-maybe_leaf, body-no_ref_id body h, or_else-none) (octets_if 2 ref_id) in
@@ -91,7 +92,7 @@ counts_in-again ref_id count returned next ok status body h c r n =
     let e3 : required 25 number_of (search_reply_forest ref_id count returned next ok status body h) ≡ Ok next = simp (first_of-joined, first_of-maybe_leaf) (number_once 25 next n) in
     rw (e0, e1, e2, e3) refl
 
-found_in-again : (ref_id : Option (List ℕ)) (count returned next : ℕ) (ok : Bool) (status : Option ℕ) (body : Body) (h : IsReadableBody body) → IfSome status (λ n. n < 2 ^ 31) → found_in (search_reply_forest ref_id count returned next ok status body h) ≡ Ok (ok, (status, body))
+found_in-again : (ref_id : Option (List ℕ)) (count returned next : ℕ) (ok : Bool) (status : Option ℕ) (body : Body) (h : IsReadableBody body) → IfSome status IsNumber → found_in (search_reply_forest ref_id count returned next ok status body h) ≡ Ok (ok, (status, body))
 unfolding found_in body_in
 found_in-again ref_id count returned next ok status body h s =
     let e0 : required 22 truth_of (search_reply_forest ref_id count returned next ok status body h) ≡ Ok ok = simp (first_of-joined, first_of-maybe_leaf) (truth_once 22 ok) in
@@ -119,7 +120,7 @@ unfolding present_reply_fields
 spells-present_reply_fields ref_id returned next status body h =
     spells-maybe 2 (λ x. x) ref_id (lit< tt) ⊕ spells-primitive 24 _ (lit< tt) ⊕ spells-primitive 25 _ (lit< tt) ⊕ spells-primitive 27 _ (lit< tt) ⊕ spells-body body h
 
-returned_in-again : (ref_id : Option (List ℕ)) (returned next status : ℕ) (body : Body) (h : IsReadableBody body) → returned < 2 ^ 31 → next < 2 ^ 31 → returned_in (present_reply_forest ref_id returned next status body h) ≡ Ok (ref_id, (returned, next))
+returned_in-again : (ref_id : Option (List ℕ)) (returned next status : ℕ) (body : Body) (h : IsReadableBody body) → IsNumber returned → IsNumber next → returned_in (present_reply_forest ref_id returned next status body h) ≡ Ok (ref_id, (returned, next))
 unfolding returned_in
 returned_in-again ref_id returned next status body h r n =
     let e0 : optional 2 octets_of (present_reply_forest ref_id returned next status body h) ≡ Ok ref_id = simp (first_of-joined, first_of-maybe_leaf, body-no_ref_id body h, or_else-none) (octets_if 2 ref_id) in
@@ -127,7 +128,7 @@ returned_in-again ref_id returned next status body h r n =
     let e2 : required 25 number_of (present_reply_forest ref_id returned next status body h) ≡ Ok next = simp (first_of-joined, first_of-maybe_leaf) (number_once 25 next n) in
     rw (e0, e1, e2) refl
 
-presented_in-again : (ref_id : Option (List ℕ)) (returned next status : ℕ) (body : Body) (h : IsReadableBody body) → status < 2 ^ 31 → presented_in (present_reply_forest ref_id returned next status body h) ≡ Ok (status, body)
+presented_in-again : (ref_id : Option (List ℕ)) (returned next status : ℕ) (body : Body) (h : IsReadableBody body) → IsNumber status → presented_in (present_reply_forest ref_id returned next status body h) ≡ Ok (status, body)
 unfolding presented_in body_in
 presented_in-again ref_id returned next status body h s =
     let e0 : required 27 number_of (present_reply_forest ref_id returned next status body h) ≡ Ok status = simp (first_of-joined, first_of-maybe_leaf) (number_once 27 status s) in

@@ -1,8 +1,9 @@
 -- A ScanResponse that is written is read again.
-use Rattle.std.proofs.Common.{◌≡◌, ◌∙◌, ℕ, ◌^◌, ◌<◌, ◌≤◌, pos, List, [], ◌∷◌, ◌++◌, length, Option, None, Some, Ok, lit<, ap, arith, refl}
+use Rattle.std.proofs.Common.{◌≡◌, ◌∙◌, ℕ, ◌<◌, ◌≤◌, pos, List, [], ◌∷◌, ◌++◌, length, Option, None, Some, Ok, lit<, ap, arith, refl}
 use Rattle.std.specs.Prelude.{IfSome}
 use Rattle.std.specs.List.{flat_map, AllByRecursion}
 use Rattle.std.proofs.lemmas.List.{length-append}
+use Rattle.z_types.specs.Numbers.{IsNumber}
 use Rattle.z_types.specs.declared.diagnostic.Diag.{Diag}
 use Rattle.z_types.specs.declared.query.Term.{Term}
 use Rattle.z_types.specs.declared.query.Term.TheVariants.{General, Number, Words}
@@ -51,7 +52,7 @@ term-no_count (General octets) = refl
 term-no_count (Number value) = refl
 term-no_count (Words octets) = refl
 
-entry-occurrences : (term : Term) (occurrences : Option ℕ) → IfSome occurrences (λ n. n < 2 ^ 31) → optional 2 number_of (entry_parts term occurrences) ≡ Ok occurrences
+entry-occurrences : (term : Term) (occurrences : Option ℕ) → IfSome occurrences IsNumber → optional 2 number_of (entry_parts term occurrences) ≡ Ok occurrences
 entry-occurrences term occurrences h =
     simp (first_of-joined, term-no_count, first_of-maybe_leaf) (number_if 2 occurrences h)
 
@@ -136,10 +137,10 @@ spells-scan_reply_fields ref_id status answer diags =
 scan-ref_id : (ref_id : Option (List ℕ)) (status : ℕ) (answer : ScanAnswer) (diags : List Diag) → optional 2 octets_of (scan_reply_forest ref_id status answer diags) ≡ Ok ref_id
 scan-ref_id ref_id status answer diags = simp (first_of-joined, first_of-maybe_leaf, or_else-none) (octets_if 2 ref_id)
 
-scan-status : (ref_id : Option (List ℕ)) (status : ℕ) (answer : ScanAnswer) (diags : List Diag) → status < 2 ^ 31 → required 4 number_of (scan_reply_forest ref_id status answer diags) ≡ Ok status
+scan-status : (ref_id : Option (List ℕ)) (status : ℕ) (answer : ScanAnswer) (diags : List Diag) → IsNumber status → required 4 number_of (scan_reply_forest ref_id status answer diags) ≡ Ok status
 scan-status ref_id status answer diags small = simp (first_of-joined, first_of-maybe_leaf) (number_once 4 status small)
 
-scan-count : (ref_id : Option (List ℕ)) (status : ℕ) (answer : ScanAnswer) (diags : List Diag) → length answer.entries < 2 ^ 31 → required 5 number_of (scan_reply_forest ref_id status answer diags) ≡ Ok (length answer.entries)
+scan-count : (ref_id : Option (List ℕ)) (status : ℕ) (answer : ScanAnswer) (diags : List Diag) → IsNumber (length answer.entries) → required 5 number_of (scan_reply_forest ref_id status answer diags) ≡ Ok (length answer.entries)
 scan-count ref_id status answer diags small =
     simp (first_of-joined, first_of-maybe_leaf) (number_once 5 (length answer.entries) small)
 
@@ -151,7 +152,7 @@ scan-listing : (ref_id : Option (List ℕ)) (status : ℕ) (answer : ScanAnswer)
 scan-listing ref_id status answer diags h d =
     simp (first_of-joined, first_of-maybe_leaf) (ap (read_as Some) (listed_in-again answer.entries diags h.entries d))
 
-scanned_in-again : (ref_id : Option (List ℕ)) (status : ℕ) (answer : ScanAnswer) (diags : List Diag) → status < 2 ^ 31 → length answer.entries < 2 ^ 31 → scanned_in (scan_reply_forest ref_id status answer diags) ≡ Ok (ref_id, (status, length answer.entries))
+scanned_in-again : (ref_id : Option (List ℕ)) (status : ℕ) (answer : ScanAnswer) (diags : List Diag) → IsNumber status → IsNumber (length answer.entries) → scanned_in (scan_reply_forest ref_id status answer diags) ≡ Ok (ref_id, (status, length answer.entries))
 unfolding scanned_in
 scanned_in-again ref_id status answer diags small few =
     rw (scan-ref_id ref_id status answer diags, scan-status ref_id status answer diags small, scan-count ref_id status answer diags few) refl
@@ -160,7 +161,7 @@ listing_in-again : (ref_id : Option (List ℕ)) (status : ℕ) (answer : ScanAns
 unfolding listing_in
 listing_in-again ref_id status answer diags h d = rw (scan-listing ref_id status answer diags h d) refl
 
-pub scan_reply_in-again : (ref_id : Option (List ℕ)) (status : ℕ) (answer : ScanAnswer) (diags : List Diag) → status < 2 ^ 31 → length answer.entries < 2 ^ 31 → IsReadableAnswer answer → AllByRecursion IsReadableDiag diags → scan_reply_in (scan_reply_forest ref_id status answer diags) ≡ Ok (reply.Scan ref_id status answer diags)
+pub scan_reply_in-again : (ref_id : Option (List ℕ)) (status : ℕ) (answer : ScanAnswer) (diags : List Diag) → IsNumber status → IsNumber (length answer.entries) → IsReadableAnswer answer → AllByRecursion IsReadableDiag diags → scan_reply_in (scan_reply_forest ref_id status answer diags) ≡ Ok (reply.Scan ref_id status answer diags)
 unfolding scan_reply_in
 scan_reply_in-again ref_id status answer diags small few h d =
     rw (scanned_in-again ref_id status answer diags small few, scan-position ref_id status answer diags h, listing_in-again ref_id status answer diags h d) refl

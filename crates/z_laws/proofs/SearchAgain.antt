@@ -1,5 +1,6 @@
 -- A Search that is written is read again.
-use Rattle.std.proofs.Common.{◌≡◌, ℕ, ◌^◌, ◌<◌, pos, List, Option, None, Some, Ok, lit<, ap, refl}
+use Rattle.std.proofs.Common.{◌≡◌, ℕ, pos, List, Option, None, Some, Ok, lit<, ap, refl}
+use Rattle.z_types.specs.Numbers.{IsNumber}
 use Rattle.z_types.specs.declared.query.RpnQuery.{RpnQuery}
 use Rattle.z_types.specs.declared.requests.Asked.{Asked}
 use Rattle.z_types.specs.declared.requests.Asked.TheVariants.{Good, Bad}
@@ -51,13 +52,13 @@ spells-search_fields search =
 search-ref_id : (search : Search) → optional 2 octets_of (search_forest search) ≡ Ok search.ref_id
 search-ref_id search = simp (first_of-joined, first_of-maybe_leaf, first_of-maybe_branch, or_else-none) (octets_if 2 search.ref_id)
 
-search-small : (search : Search) → search.small < 2 ^ 31 → required 13 number_of (search_forest search) ≡ Ok search.small
+search-small : (search : Search) → IsNumber search.small → required 13 number_of (search_forest search) ≡ Ok search.small
 search-small search small = simp (first_of-joined, first_of-maybe_leaf, first_of-maybe_branch) (number_once 13 search.small small)
 
-search-large : (search : Search) → search.large < 2 ^ 31 → required 14 number_of (search_forest search) ≡ Ok search.large
+search-large : (search : Search) → IsNumber search.large → required 14 number_of (search_forest search) ≡ Ok search.large
 search-large search small = simp (first_of-joined, first_of-maybe_leaf, first_of-maybe_branch) (number_once 14 search.large small)
 
-search-medium : (search : Search) → search.medium < 2 ^ 31 → required 15 number_of (search_forest search) ≡ Ok search.medium
+search-medium : (search : Search) → IsNumber search.medium → required 15 number_of (search_forest search) ≡ Ok search.medium
 search-medium search small = simp (first_of-joined, first_of-maybe_leaf, first_of-maybe_branch) (number_once 15 search.medium small)
 
 search-replace : (search : Search) → required 16 truth_of (search_forest search) ≡ Ok search.replace

@@ -7,6 +7,7 @@ use Rattle.std.proofs.lemmas.Int.Digits.{number_digits_of, number_lt, length-dig
 use Rattle.std.proofs.lemmas.Bool.{lt-ltb, le-ltb, le-leb, ne_eqb, ltb-true, leb-true}
 use Rattle.std.proofs.lemmas.List.{length-map, length-reverse, reverse-reverse, take_all}
 use Rattle.std.proofs.Math.Nat.{pow-le-pow_right, mod-eq_of_lt}
+use Rattle.z_types.specs.Numbers.{IsNumber}
 use Rattle.z_types.specs.equality.Tests.{both_true}
 use Rattle.z_types.specs.Oid.{is_oid, has_root}
 use Rattle.z_ber.specs.Written.{septets, natural_octets, int_octets, bool_octets, bits_octets, mirror, unused_bits, oid_octets, mirrored_number}
@@ -65,10 +66,10 @@ integer_in-again (negsuc n) fits =
     let few : length (natural_octets n) ≤ 8 = omega (arith, length-map (natural_octets n) (λ octet. 255 - octet), int_octets-few (negsuc n) fits) in
     negative_in (natural_octets n) (natural_octets-sign n) few (natural_octets-bytes n) ∙ ap (λ k. Some (negsuc k)) (number-natural_octets n)
 
-pub number_in-again : (n : ℕ) → n < 2 ^ 31 → number_in (int_octets (pos n)) ≡ Some n
+pub number_in-again : (n : ℕ) → IsNumber n → number_in (int_octets (pos n)) ≡ Some n
 number_in-again n small =
-    let fits : FitsSigned w64 (pos n) = record { sfits = omega arith } in
-    rw (integer_in-again (pos n) fits, lt-ltb n (2 ^ 31) small) refl
+    let fits : FitsSigned w64 (pos n) = record { sfits = omega (arith, small) } in
+    rw (integer_in-again (pos n) fits, lt-ltb n (2 ^ 31) (omega (arith, small))) refl
 
 -- ---- BIT STRING
 

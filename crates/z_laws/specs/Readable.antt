@@ -2,6 +2,7 @@
 use Rattle.std.specs.Prelude.{ℕ, List, Option, IfSome}
 use Rattle.std.specs.List.{AllByRecursion}
 use Rattle.z_types.specs.Tree.{Tree, leaf, operand, and, or, and_not}
+use Rattle.z_types.specs.Numbers.{IsNumber}
 use Rattle.z_types.specs.declared.query.Attr.{Attr}
 use Rattle.z_types.specs.declared.query.Term.{Term}
 use Rattle.z_types.specs.declared.query.Term.TheVariants.{General, Number, Words}
@@ -16,7 +17,6 @@ use Rattle.z_types.specs.declared.requests.Request.{Request}
 use Rattle.z_types.specs.declared.requests.Request.TheVariants as request
 use Rattle.z_types.specs.declared.scan.ScanAsk.{ScanAsk}
 use Rattle.z_ber.specs.Values.{IsInteger, IsBits, IsOid}
-use Rattle.unit_forms.specs.Fields.{IsNumber}
 
 -- what is asked has a written form, and so has no refusal in its place
 abbrev pub IsAsked : {A : Type 0} → (A → Type 0) → Asked A → Type 0

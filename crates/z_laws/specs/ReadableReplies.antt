@@ -1,6 +1,7 @@
 -- Replies whose written form is read (this project's own): their numbers are in the ranges that are read, their object identifiers are some (X.660, 7.6), and they hold nothing that has no written form.
 use Rattle.std.specs.Prelude.{ℕ, ◌<◌, List, length, IfSome, IsSome}
 use Rattle.std.specs.List.{AllByRecursion}
+use Rattle.z_types.specs.Numbers.{IsNumber}
 use Rattle.z_types.specs.declared.diagnostic.Diag.{Diag}
 use Rattle.z_types.specs.declared.records.Form.{Form}
 use Rattle.z_types.specs.declared.records.Form.TheVariants.{Single, Octets, Arbitrary}
@@ -16,7 +17,6 @@ use Rattle.z_types.specs.declared.scan.ScanEntry.{ScanEntry}
 use Rattle.z_ber.specs.Element.{Forest, IsElement}
 use Rattle.z_ber.specs.Values.{IsOid}
 use Rattle.unit_forms.specs.Reading.Contents.{bits_in}
-use Rattle.unit_forms.specs.Fields.{IsNumber}
 use Rattle.z_laws.specs.Readable.{IsReadableInit, IsReadableTerm, IsReadableClose}
 
 -- a diagnostic

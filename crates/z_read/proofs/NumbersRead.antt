@@ -31,11 +31,11 @@ use Rattle.unit_forms.specs.Reading.Contents.{integer_in, in_range, number_in}
 use Rattle.unit_forms.specs.Reading.Diagnostics.{other_form, other_query_type}
 use Rattle.unit_forms.specs.Reading.Elements.{Field, field_of, first_of, first_context, first_element, has_tag}
 use Rattle.unit_forms.specs.Reading.InitRequest.{init_in}
-use Rattle.unit_forms.specs.Reading.PresentRequest.{Place, present_in, place_in, form_in}
+use Rattle.unit_forms.specs.Reading.PresentRequest.{present_in, place_in, form_in}
 use Rattle.unit_forms.specs.Reading.Queries.{operand_choice, operand_of, operand_in, operator_in, join_asked, joined_of, structure_with, structure_at, rpn_query_in, query_of, query_in}
 use Rattle.unit_forms.specs.Reading.Rows.{octets_of, number_of, required_of, optional_of, within, context, universal}
 use Rattle.unit_forms.specs.Reading.ScanRequest.{ask_with, as_ask, start_in, ask_in, scan_in}
-use Rattle.unit_forms.specs.Reading.SearchRequest.{Bounds, Wanted, bounds_in, named_in, wanted_in, with_names, as_search, search_in}
+use Rattle.unit_forms.specs.Reading.SearchRequest.{bounds_in, named_in, wanted_in, with_names, as_search, search_in}
 use Rattle.unit_forms.specs.Reading.Units.{request_of, request_in}
 
 -- ---- parts of what is read
@@ -50,6 +50,25 @@ both_ok {A} {B} (Ok x) (Ok y) p e =
 both_ok (Ok x) (Err s) p e = absurd cc
 both_ok (Err r) (Ok y) p e = absurd cc
 both_ok (Err r) (Err s) p e = absurd cc
+
+-- rows of a table: each is read
+three_ok : {A B C : Type 0} {a : Result A Refusal} {b : Result B Refusal} {c : Result C Refusal} (x : A) (y : B) (z : C) → a ⊗ (b ⊗ c) ≡ Ok (x, (y, z)) → (a ≡ Ok x) × (b ≡ Ok y) × (c ≡ Ok z)
+three_ok {A} {B} {C} {a} {b} {c} x y z e =
+    let front = both_ok a (b ⊗ c) (x, (y, z)) e in
+    let rest = both_ok b c (y, z) front.1 in
+    (front.0, rest.0, rest.1)
+
+four_ok : {A B C D : Type 0} {a : Result A Refusal} {b : Result B Refusal} {c : Result C Refusal} {d : Result D Refusal} (x : A) (y : B) (z : C) (w : D) → a ⊗ (b ⊗ (c ⊗ d)) ≡ Ok (x, (y, (z, w))) → (a ≡ Ok x) × (b ≡ Ok y) × (c ≡ Ok z) × (d ≡ Ok w)
+four_ok {A} {B} {C} {D} {a} {b} {c} {d} x y z w e =
+    let front = both_ok a (b ⊗ (c ⊗ d)) (x, (y, (z, w))) e in
+    let rest = three_ok y z w front.1 in
+    (front.0, rest.0, rest.1, rest.2)
+
+five_ok : {A B C D E : Type 0} {a : Result A Refusal} {b : Result B Refusal} {c : Result C Refusal} {d : Result D Refusal} {f : Result E Refusal} (x : A) (y : B) (z : C) (w : D) (v : E) → a ⊗ (b ⊗ (c ⊗ (d ⊗ f))) ≡ Ok (x, (y, (z, (w, v)))) → (a ≡ Ok x) × (b ≡ Ok y) × (c ≡ Ok z) × (d ≡ Ok w) × (f ≡ Ok v)
+five_ok {A} {B} {C} {D} {E} {a} {b} {c} {d} {f} x y z w v e =
+    let front = both_ok a (b ⊗ (c ⊗ (d ⊗ f))) (x, (y, (z, (w, v)))) e in
+    let rest = four_ok y z w v front.1 in
+    (front.0, rest.0, rest.1, rest.2, rest.3)
 
 -- what a value was made of
 record Made {A B : Type 0} (f : A → B) (a : Result A Refusal) (y : B) : Type 0 where
@@ -163,11 +182,11 @@ attr_ok : (x : Forest) (asked : Asked Attr) → attr_in x ≡ Ok asked → IfGoo
 unfolding attr_in
 attr_ok x asked e =
     let m = made_ok _ _ asked e in
-    let set = both_ok _ _ m.of m.read in
-    let kind = both_ok _ _ m.of.1 set.1 in
-    let value = there_ok _ value_of (first_of value_choice x) m.of.1.1 kind.1 in
+    let (set, (kind, value)) = m.of in
+    let rows = three_ok set kind value m.read in
+    let found = there_ok _ value_of (first_of value_choice x) value rows.2 in
     subst (λ (r : Asked Attr). IfGood r HasNumbers) m.same
-    (with_kind m.of.0 m.of.1.0 (some_number 120 (context 120 ∷ []) x m.of.1.0 kind.0) m.of.1.1 (value_ok value.0 m.of.1.1 value.1))
+    (with_kind set kind (some_number 120 (context 120 ∷ []) x kind rows.1) value (value_ok found.0 value found.1))
 
 attr_field_ok : (field : Field) (asked : Asked Attr) → attr_of field ≡ Ok asked → IfGood asked HasNumbers
 attr_field_ok field asked e = by (has_tag field.tag (universal 16)) e
@@ -244,9 +263,9 @@ join_good (Good l) (Good r) (Good AndNot) p q = (p, q)
 joined_ok : (left right : Result (Asked Tree) Refusal) (operator : Result (Asked Operator) Refusal) (asked : Asked Tree) → ((l : Asked Tree) → left ≡ Ok l → TreeNumbers l) → ((r : Asked Tree) → right ≡ Ok r → TreeNumbers r) → joined_of left right operator ≡ Ok asked → TreeNumbers asked
 joined_ok left right operator asked p q e =
     let m = made_ok join_asked (left ⊗ (right ⊗ operator)) asked e in
-    let b = both_ok left (right ⊗ operator) m.of m.read in
-    let c = both_ok right operator m.of.1 b.1 in
-    subst TreeNumbers m.same (join_good m.of.0 m.of.1.0 m.of.1.1 (p m.of.0 b.0) (q m.of.1.0 c.0))
+    let (l, (r, o)) = m.of in
+    let rows = three_ok l r o m.read in
+    subst TreeNumbers m.same (join_good l r o (p l rows.0) (q r rows.1))
 
 with_ok : (tag : Tag) (alone two : Result (Asked Tree) Refusal) (asked : Asked Tree) → (alone ≡ Ok asked → TreeNumbers asked) → (two ≡ Ok asked → TreeNumbers asked) → structure_with tag alone two ≡ Ok asked → TreeNumbers asked
 with_ok tag alone two asked p q e = by (has_tag tag (context 0) || has_tag tag (context 1)) tag.constructed (tag.number == 0) e
@@ -301,11 +320,10 @@ init_ok : (x : Forest) (init : Init) → init_in x ≡ Ok init → IsNumber init
 unfolding init_in
 init_ok x init e =
     let m = made_ok _ _ init e in
-    let a = both_ok _ _ m.of m.read in
-    let b = both_ok _ _ m.of.1 a.1 in
-    let c = both_ok _ _ m.of.1.1 b.1 in
-    let d = both_ok _ _ m.of.1.1.1 c.1 in
-    subst (λ (i : Init). IsNumber i.preferred × IsNumber i.exceptional) m.same (some_number 5 (context 5 ∷ []) x m.of.1.1.1.0 d.0, some_number 6 (context 6 ∷ []) x m.of.1.1.1.1 d.1)
+    let (ref_id, (versions, (options, (preferred, exceptional)))) = m.of in
+    let rows = five_ok ref_id versions options preferred exceptional m.read in
+    subst (λ (i : Init). IsNumber i.preferred × IsNumber i.exceptional) m.same
+    (some_number 5 (context 5 ∷ []) x preferred rows.3, some_number 6 (context 6 ∷ []) x exceptional rows.4)
 
 named_good : (names : Option (Asked (List ℕ))) (query : Asked RpnQuery) → QueryNumbers query → QueryNumbers (with_names names query)
 named_good names (Bad d) h = tt
@@ -313,52 +331,48 @@ named_good None (Good q) h = h
 named_good (Some (Good name)) (Good q) h = h
 named_good (Some (Bad d)) (Good q) h = tt
 
-bounds_ok : (x : Forest) (p : Bounds) → bounds_in x ≡ Ok p → IsNumber p.1.0 × IsNumber p.1.1.0 × IsNumber p.1.1.1
+bounds_ok : (x : Forest) (ref_id : Option (List ℕ)) (small large medium : ℕ) → bounds_in x ≡ Ok (ref_id, (small, (large, medium))) → IsNumber small × IsNumber large × IsNumber medium
 unfolding bounds_in
-bounds_ok x p e =
-    let a = both_ok _ _ p e in
-    let b = both_ok _ _ p.1 a.1 in
-    let c = both_ok _ _ p.1.1 b.1 in
-    (some_number 13 (context 13 ∷ []) x p.1.0 b.0, some_number 14 (context 14 ∷ []) x p.1.1.0 c.0, some_number 15 (context 15 ∷ []) x p.1.1.1 c.1)
+bounds_ok x ref_id small large medium e =
+    let rows = four_ok ref_id small large medium e in
+    (some_number 13 (context 13 ∷ []) x small rows.1, some_number 14 (context 14 ∷ []) x large rows.2, some_number 15 (context 15 ∷ []) x medium rows.3)
 
-wanted_query_ok : (x : Forest) (p : Wanted) → wanted_in x ≡ Ok p → QueryNumbers p.1.1.1
+wanted_query_ok : (x : Forest) (small medium : Option (Asked (List ℕ))) (syntax : Option (List ℕ)) (query : Asked RpnQuery) → wanted_in x ≡ Ok (small, (medium, (syntax, query))) → QueryNumbers query
 unfolding wanted_in
-wanted_query_ok x p e =
-    let a = both_ok _ _ p e in
-    let b = both_ok _ _ p.1 a.1 in
-    let c = both_ok _ _ p.1.1 b.1 in
-    let found = there_ok _ (within query_in) (first_of (context 21 ∷ []) x) p.1.1.1 c.1 in
-    query_ok found.0.inner p.1.1.1 (inside_ok query_in found.0 p.1.1.1 found.1)
+wanted_query_ok x small medium syntax query e =
+    let rows = four_ok small medium syntax query e in
+    let found = there_ok _ (within query_in) (first_of (context 21 ∷ []) x) query rows.3 in
+    query_ok found.0.inner query (inside_ok query_in found.0 query found.1)
 
 search_ok : (x : Forest) (search : Search) → search_in x ≡ Ok search → SearchHasNumbers search
 unfolding search_in
 search_ok x search e =
     let m = made_ok as_search (bounds_in x ⊗ (named_in x ⊗ wanted_in x)) search e in
-    let a = both_ok (bounds_in x) (named_in x ⊗ wanted_in x) m.of m.read in
-    let b = both_ok (named_in x) (wanted_in x) m.of.1 a.1 in
-    let bounds = bounds_ok x m.of.0 a.0 in
-    let query = wanted_query_ok x m.of.1.1 b.1 in
+    let (bounds, (named, wanted)) = m.of in
+    let parts = three_ok bounds named wanted m.read in
+    let (ref_id, (small, (large, medium))) = bounds in
+    let (small_names, (medium_names, (syntax, query))) = wanted in
+    let numbers = bounds_ok x ref_id small large medium parts.0 in
+    let served = wanted_query_ok x small_names medium_names syntax query parts.2 in
     subst SearchHasNumbers m.same (record {
-      small = bounds.0;
-      large = bounds.1;
-      medium = bounds.2;
-      query = named_good m.of.1.1.1.0 (with_names m.of.1.1.0 m.of.1.1.1.1.1) (named_good m.of.1.1.0 m.of.1.1.1.1.1 query);
+      small = numbers.0;
+      large = numbers.1;
+      medium = numbers.2;
+      query = named_good medium_names (with_names small_names query) (named_good small_names query served);
     })
 
-place_ok : (x : Forest) (p : Place) → place_in x ≡ Ok p → IsNumber p.1.1.1
+place_ok : (x : Forest) (ref_id : Option (List ℕ)) (set_name : List ℕ) (start : ℤ) (number : ℕ) → place_in x ≡ Ok (ref_id, (set_name, (start, number))) → IsNumber number
 unfolding place_in
-place_ok x p e =
-    let a = both_ok _ _ p e in
-    let b = both_ok _ _ p.1 a.1 in
-    let c = both_ok _ _ p.1.1 b.1 in
-    some_number 29 (context 29 ∷ []) x p.1.1.1 c.1
+place_ok x ref_id set_name start number e =
+    some_number 29 (context 29 ∷ []) x number (four_ok ref_id set_name start number e).3
 
 present_ok : (x : Forest) (present : Present) → present_in x ≡ Ok present → IsNumber present.number
 unfolding present_in
 present_ok x present e =
     let m = made_ok _ (place_in x ⊗ form_in x) present e in
-    let a = both_ok (place_in x) (form_in x) m.of m.read in
-    subst (λ (p : Present). IsNumber p.number) m.same (place_ok x m.of.0 a.0)
+    let parts = both_ok (place_in x) (form_in x) m.of m.read in
+    let ((ref_id, (set_name, (start, number))), form) = m.of in
+    subst (λ (p : Present). IsNumber p.number) m.same (place_ok x ref_id set_name start number parts.0)
 
 abbrev AskNumbers : Asked ScanAsk → Type 0
 AskNumbers asked = IfGood asked ScanHasNumbers
@@ -371,33 +385,31 @@ ask_ok : (x : Forest) (asked : Asked ScanAsk) → ask_in x ≡ Ok asked → AskN
 unfolding ask_in start_in
 ask_ok x asked e =
     let m = made_ok as_ask _ asked e in
-    let a = both_ok _ _ m.of m.read in
-    let b = both_ok _ _ m.of.1 a.1 in
-    let c = both_ok _ _ m.of.1.1 b.1 in
-    let d = both_ok _ _ m.of.1.1.1 c.1 in
-    let found = there_ok _ (within attrs_and_term_in) (first_of (context 102 ∷ []) x) m.of.1.0 b.0 in
+    let (set, (start, (step, (number, position)))) = m.of in
+    let rows = five_ok set start step number position m.read in
+    let found = there_ok _ (within attrs_and_term_in) (first_of (context 102 ∷ []) x) start rows.1 in
     subst AskNumbers m.same
-    (ask_good m.of.0 m.of.1.1.0 m.of.1.1.1.0 m.of.1.1.1.1 m.of.1.0
-    (maybe_number (context 5 ∷ []) x m.of.1.1.0 c.0)
-    (some_number 6 (context 6 ∷ []) x m.of.1.1.1.0 d.0)
-    (maybe_number (context 7 ∷ []) x m.of.1.1.1.1 d.1)
-    (plus_term_ok found.0.inner m.of.1.0 (inside_ok attrs_and_term_in found.0 m.of.1.0 found.1)))
+    (ask_good set step number position start
+    (maybe_number (context 5 ∷ []) x step rows.2)
+    (some_number 6 (context 6 ∷ []) x number rows.3)
+    (maybe_number (context 7 ∷ []) x position rows.4)
+    (plus_term_ok found.0.inner start (inside_ok attrs_and_term_in found.0 start found.1)))
 
 scan_ok : (x : Forest) (scan : Scan) → scan_in x ≡ Ok scan → AskNumbers scan.ask
 unfolding scan_in
 scan_ok x scan e =
     let m = made_ok _ _ scan e in
-    let a = both_ok _ _ m.of m.read in
-    let b = both_ok _ _ m.of.1 a.1 in
-    subst (λ (s : Scan). AskNumbers s.ask) m.same (ask_ok x m.of.1.1 b.1)
+    let (ref_id, (dbs, ask)) = m.of in
+    let rows = three_ok ref_id dbs ask m.read in
+    subst (λ (s : Scan). AskNumbers s.ask) m.same (ask_ok x ask rows.2)
 
 close_ok : (x : Forest) (close : Close) → close_in x ≡ Ok close → IsNumber close.reason
 unfolding close_in
 close_ok x close e =
     let m = made_ok _ _ close e in
-    let a = both_ok _ _ m.of m.read in
-    let b = both_ok _ _ m.of.1 a.1 in
-    subst (λ (c : Close). IsNumber c.reason) m.same (some_number 211 (context 211 ∷ []) x m.of.1.0 b.0)
+    let (ref_id, (reason, info)) = m.of in
+    let rows = three_ok ref_id reason info m.read in
+    subst (λ (c : Close). IsNumber c.reason) m.same (some_number 211 (context 211 ∷ []) x reason rows.1)
 
 -- ---- so a request that is read has its numbers
 
