@@ -116,7 +116,8 @@ pub record IsLegOf {W S : Type 0} (w : world.Ghosts W) (t : sitting.Ghosts S W) 
   pub stands : StandsAt w t (terms_of route v.leg) most v.task v.phase v.account
   pub within : IsWithin (terms_of route v.leg).pool v.phase v.account
 
-abbrev lost_seat : {S : Type 0} → Option Seat → plain.Pool S → plain.Pool S
+-- the session that is out for a leg, where one is, is lost
+abbrev pub lost_seat : {S : Type 0} → Option Seat → plain.Pool S → plain.Pool S
 lost_seat None p = p
 lost_seat (Some seat) p = plain.lost seat p
 

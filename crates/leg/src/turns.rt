@@ -42,7 +42,7 @@ impl<W: World, S: Sitting<W>> Model for Leg<W, S> {
 }
 
 impl<W: World, S: Sitting<W>> Leg<W, S> {
-    ghost use Rattle.std.specs.Prelude.{◌≡◌, ◌↔◌, ◌≤◌, ◌+◌, Some, IsTrue};
+    ghost use Rattle.std.specs.Prelude.{◌≡◌, ◌↔◌, ◌≤◌, ◌+◌, Some, IfSome, IsTrue};
     ghost use Rattle.leg.specs.Accounts.{no_account, AccountFits};
     ghost use Rattle.std.specs.Option.{option_copied};
     ghost use Rattle.leg.specs.Phases.{IsDone, answered, is_done, given_up};
@@ -112,6 +112,13 @@ impl<W: World, S: Sitting<W>> Leg<W, S> {
         turned
     }
 
+    /// Its place in the route, counted from 0.
+    pub fn place(&self) -> u32
+        ensures { result ≡ self.now.leg }
+    {
+        self.leg
+    }
+
     /// Whether the leg is done.
     pub fn is_done(&self) -> bool
         ensures { IsTrue result ↔ IsDone self.now.phase }
@@ -129,7 +136,8 @@ impl<W: World, S: Sitting<W>> Leg<W, S> {
 
     /// The answer of a leg that is done, lent; none before.
     pub fn answered(&self) -> Option<&LegAnswer>
-        ensures { option_copied result ≡ answered self.now.phase }
+        ensures answer { option_copied result ≡ answered self.now.phase }
+        ensures fits { IfSome (answered self.now.phase) (AnswerFits self.now.task) }
     {
         match &self.phase {
             Phase::Done { answer } => Some(answer),

@@ -1,4 +1,17 @@
-pub mod AllOrFirst
-pub mod Taken
-pub mod Rooms
-mod AskedLemmas
+mod BegunLemmas
+mod CauseLemmas
+mod CountLemmas
+mod DoneLemmas
+mod FinishLemmas
+mod GivenLemmas
+mod KindLemmas
+mod MadeLemmas
+mod MarkedLemmas
+mod OverLemmas
+mod PlaceLemmas
+mod PlanLemmas
+mod SaidLemmas
+mod SuppliesLemmas
+mod SupplyLemmas
+mod ThenLemmas
+mod TurnLemmas

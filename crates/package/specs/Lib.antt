@@ -1,3 +1,1 @@
-pub mod Kinds
-pub mod Records
-pub mod Asking
+pub mod steps

@@ -1,12 +1,24 @@
-//! A package is what one request asks of several targets together. Here is what comes of it where the
-//! targets are asked directly (ANSI/NISO Z39.50-2003, 3.2.2.1, 3.2.3.1 and 3.2.8.1): no link, no pool
-//! and no mark; and the law that a session with a target may be asked for what a work asks of it.
+//! A package is what one request asks of several targets together. Its legs go turn by turn, over a
+//! door and a backend, first those for what is asked first and then those for the records that are
+//! to be given; what comes of the request is what the legs answered, or the mark of the first that is
+//! marked. Beside it stands what comes of a work where the targets are asked directly, with no link, no
+//! pool and no mark (ANSI/NISO Z39.50-2003, 3.2.2.1, 3.2.3.1 and 3.2.8.1): a yardstick for tests.
 #![tactic(auto)]
 
+mod asking;
+mod finishing;
 mod hits;
 mod laws;
 mod outcomes;
+mod package;
 mod records;
+mod said;
+mod supplies;
+mod turning;
 
-pub use laws::{fetches_may_be_asked, scans_may_be_asked, searches_may_be_asked};
+pub use laws::{
+    package_cause_is_allowed, package_is_answered, package_outcome_fits, package_outcome_is_true,
+};
 pub use outcomes::plain_outcome;
+pub use package::Package;
+pub use turning::Round;

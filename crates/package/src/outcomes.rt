@@ -10,7 +10,7 @@ ghost use Rattle.virt_db.specs.Legs.{leg_at};
 ghost use Rattle.gateway_rules.specs.Targets.{records_at, scan_at};
 ghost use Rattle.gateway_rules.specs.Outcomes.{places_from, plain_outcome, scanned, whole, within_room};
 ghost use Rattle.gateway_rules.specs.Works.{CanBegin, FitsWork};
-ghost use Rattle.package.specs.Kinds.{IsSearch, IsFetch};
+ghost use Rattle.package.specs.steps.Kinds.{IsSearch, IsFetch};
 
 use crate::hits::hits_of;
 use crate::records::{Wanted, records_from};
@@ -120,7 +120,7 @@ fn present<T: Targets>(
 }
 
 /// The element set name of what a Search of `all` hits shows (ANSI/NISO Z39.50-2003, 3.2.2).
-fn element_shown<'a>(
+pub(crate) fn element_shown<'a>(
     all: u32,
     small: u32,
     small_element: &'a Option<Text>,
@@ -137,7 +137,7 @@ fn element_shown<'a>(
 }
 
 /// How many records a Search of `count` hits shows (ANSI/NISO Z39.50-2003, 3.2.2).
-fn shown_count(count: u32, small: u32, large: u32, medium: u32) -> u32
+pub(crate) fn shown_count(count: u32, small: u32, large: u32, medium: u32) -> u32
     ensures shown { result ≡ shown count small large medium }
     ensures within { result ≤ count }
 {

@@ -8,7 +8,7 @@ ghost use Rattle.z_types.specs.MergedOrder.{place_at};
 ghost use Rattle.gw_outside.specs.Targets.{AnswersAs};
 ghost use Rattle.gateway_rules.specs.Targets.{records_at, record_at};
 ghost use Rattle.gateway_rules.specs.Outcomes.{places_from};
-ghost use Rattle.package.specs.Records.{AnswersAsAny};
+ghost use Rattle.package_rules.specs.steps.Answers.{AnswersAsAny};
 
 use gw_outside::{TargetAnswer, Targets};
 use multi_merge::locate;
@@ -66,7 +66,10 @@ pub(crate) fn records_from<T: Targets>(
 }
 
 /// Pushes a record behind others, where there is one.
-fn push_next(records: &mut List<NamedRecord>, next: Option<NamedRecord>) -> Result<(), Memory>
+pub(crate) fn push_next(
+    records: &mut List<NamedRecord>,
+    next: Option<NamedRecord>,
+) -> Result<(), Memory>
     ensures { OnOk result (records.new ≡ records.old ++ option_to_list next) }
 {
     match next {
@@ -109,7 +112,7 @@ fn record_at<T: Targets>(
 }
 
 /// A record under its virtual database's name.
-fn with_name(name: &Text, item: Item) -> TargetAnswer<Option<NamedRecord>>
+pub(crate) fn with_name(name: &Text, item: Item) -> TargetAnswer<Option<NamedRecord>>
     ensures { AnswersAsAny result
         (Some (Ok (record { name = Some name.now; item = item }))) }
 {

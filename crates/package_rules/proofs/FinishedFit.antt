@@ -33,9 +33,9 @@ use Rattle.package_rules.specs.declared.answered.Answered.{Answered}
 use Rattle.package_rules.specs.Asked.{Asked, hits_asked}
 use Rattle.package_rules.specs.Said.{all_hits, cause_of, entries_said, fetches_of, hides, hits_said, outcome_said, records_said, said_at}
 use Rattle.package_rules.specs.Truth.{AreAnswered, AreAnswersTo, FinishedFits}
-use Rattle.package.proofs.AllOrFirst.{length-all_or_first}
+use Rattle.package_rules.proofs.AllOrFirst.{length-all_or_first}
 use Rattle.package_rules.proofs.FinishedIs.{both_unmarked, search_said}
-use Rattle.package.proofs.Rooms.{length-records}
+use Rattle.package_rules.proofs.Rooms.{length-records}
 use Rattle.package_rules.proofs.Unmarked.{AreUnmarked, IsUnmarked}
 
 -- ---- marks

@@ -1,15 +1,19 @@
+pub mod AllOrFirst
+pub mod Taken
+pub mod Rooms
+pub mod AskedLemmas
 pub mod Ranks
 pub mod RunLemmas
 pub mod MetLemmas
 mod Unmarked
 mod Told
 mod Agreed
-mod Found
+pub mod Found
 mod ItemSaid
 mod HitsSaid
-mod RankGood
+pub mod RankGood
 mod RecordsSaid
-mod FinishedIs
-mod FinishedFit
-mod LegsAsked
-mod Allowed
+pub mod FinishedIs
+pub mod FinishedFit
+pub mod LegsAsked
+pub mod Allowed

@@ -31,7 +31,7 @@ use Rattle.package_rules.proofs.Found.{IsFetch, fetch_found, span_found, span_fr
 use Rattle.package_rules.proofs.HitsSaid.{good_one, leg_found, search_at}
 use Rattle.package_rules.proofs.ItemSaid.{item_is}
 use Rattle.package_rules.proofs.RankGood.{IsRankOf, good_rank, rank_of}
-use Rattle.package.proofs.Rooms.{length-hits}
+use Rattle.package_rules.proofs.Rooms.{length-hits}
 use Rattle.package_rules.proofs.Told.{IsTold, told_at}
 use Rattle.package_rules.proofs.Unmarked.{AreUnmarked}
 

@@ -7,7 +7,7 @@ use Rattle.gateway_rules.specs.Outcomes.{places_from}
 use Rattle.package_rules.specs.Asked.{ranks_of}
 use Rattle.package_rules.specs.steps.Spans.{RunTo, rank_from}
 use Rattle.package_rules.proofs.Ranks.{run_of_all, ranks-append}
-use Rattle.package.proofs.Taken.{places_more}
+use Rattle.package_rules.proofs.Taken.{places_more}
 
 -- ---- parts of a run
 

@@ -1,2 +1,4 @@
 -- For contracts alone, a file for each thing that they speak of (this project's own)
 pub mod Spans
+pub mod Answers
+pub mod Asking

@@ -10,5 +10,8 @@ mod spans;
 mod tests;
 
 pub use answered::Answered;
-pub use laws::{cause_is_allowed, finished_fits, finished_is_outcome, first_mark_decides};
+pub use laws::{
+    cause_is_allowed, fetches_may_be_asked, finished_fits, finished_is_outcome, first_mark_decides,
+    scans_may_be_asked, searches_may_be_asked,
+};
 pub use spans::{Met, Span, spans_of};

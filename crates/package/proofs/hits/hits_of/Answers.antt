@@ -2,8 +2,8 @@ use Rattle.std.proofs.Common.{◌≡◌, ◌∙◌, ℕ, List, length, take, map
 use Rattle.std.proofs.Math.Seq.{take-length}
 use Rattle.virt_db.specs.Legs.{leg_at}
 use Rattle.gateway_rules.specs.Targets.{hits_of, hits_at, all_or_first}
-use Rattle.package.proofs.AllOrFirst.{all_or_first-goods}
-use Rattle.package.proofs.Taken.{goods_more, goods_end}
+use Rattle.package_rules.proofs.AllOrFirst.{all_or_first-goods}
+use Rattle.package_rules.proofs.Taken.{goods_more, goods_end}
 use Rattle.package.proofs.hits.hits_of.Goals as goal
 
 pub returns-in-Refused : goal.returns-in-Refused

@@ -1,6 +1,6 @@
 use Rattle.std.specs.Option.{option_copied}
 use Rattle.gateway_rules.specs.Targets.{record_at}
-use Rattle.package.proofs.Rooms.{length-records}
+use Rattle.package_rules.proofs.Rooms.{length-records}
 use Rattle.package.proofs.outcomes.fetch.Goals as goal
 
 pub returns-in-Good-clause-count : goal.returns-in-Good-clause-count

@@ -1,5 +1,5 @@
 use Rattle.std.proofs.Common.{◌≡◌, length, arith}
-use Rattle.package.proofs.Rooms.{length-hits}
+use Rattle.package_rules.proofs.Rooms.{length-hits}
 use Rattle.package.proofs.outcomes.search.Goals as goal
 
 pub fetch_shown-requires-clause-few : goal.fetch_shown-requires-clause-few

@@ -3,8 +3,8 @@ use Rattle.std.specs.Prelude.{filter_map}
 use Rattle.std.specs.Option.{option_copied}
 use Rattle.gateway_rules.specs.Targets.{all_or_first, record_at}
 use Rattle.gateway_rules.specs.Outcomes.{places_from}
-use Rattle.package.proofs.AllOrFirst.{all_or_first-goods}
-use Rattle.package.proofs.Taken.{records_more, records_end}
+use Rattle.package_rules.proofs.AllOrFirst.{all_or_first-goods}
+use Rattle.package_rules.proofs.Taken.{records_more, records_end}
 use Rattle.package.proofs.records.records_from.Goals as goal
 
 pub returns-in-Refused : goal.returns-in-Refused
