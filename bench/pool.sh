@@ -1,8 +1,10 @@
 #!/bin/bash
-# Times how many sessions a second a pool of one thread takes and has back, where 10, 100 and 1000 are idle with
-# ten sets each: any session, one that holds a set that the first holds or the last, and one where none holds the
-# set. Prints medians of 5 runs and by how much they grow: such a pool looks at each session, so it may grow with
-# their number, and nothing is demanded. The status is 1 where a run fails.
+# Times how many sessions a second a pool of one thread takes and has back, where 10, 100, 1000 and 10,000 are idle
+# with ten sets each: any session, one that holds a set that the first holds or the last, and one where none holds
+# the set. Prints medians of 5 runs and by how much they grow. The plain pool looks at each session, so it may grow
+# with their number, and nothing is demanded of it. The pool by indexes has to take and have back at least a million
+# sessions a second whose set is wanted, where 1000 are idle, in at most twice the time of 10, and at 10,000 in at
+# most four times. The status is 1 where it does not, or where a run fails.
 bench=bench_pool
 words="any 1 1"
 . "$(dirname "$0")/readers.sh"
@@ -13,3 +15,14 @@ for want in any first last other; do
         printf "%s: %d takes and puts a second at 10 idle sessions, %d at 100, %d at 1000; ", $1, 1e9 / $2, 1e9 / $3, 1e9 / $4
         printf "ten times the sessions take %.1f and %.1f times as long\n", $3 / $2, $4 / $3 }'
 done
+
+failed=0
+for want in any first last other; do
+    few=$(median_each indexed-$want 10 400000) && more=$(median_each indexed-$want 100 400000) || exit 1
+    most=$(median_each indexed-$want 1000 400000) && many=$(median_each indexed-$want 10000 400000) || exit 1
+    echo "$want $few $more $most $many" | awk '{
+        printf "%s, by indexes: %d takes and puts a second at 10 idle sessions, %d at 100, %d at 1000, %d at 10,000; ", $1, 1e9 / $2, 1e9 / $3, 1e9 / $4, 1e9 / $5
+        printf "1000 take %.2f times as long as 10, and 10,000 %.2f times\n", $4 / $2, $5 / $2
+        exit ($1 == "first" || $1 == "last") && ($4 > 1000 || $4 > 2 * $2 || $5 > 4 * $2) }' || failed=1
+done
+exit $failed

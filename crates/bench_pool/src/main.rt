@@ -1,6 +1,6 @@
 //! Takes sessions of a pool and puts them back, many times, for `bench/pool.sh` to time. Its words are
-//! what is wanted, how many sessions are idle, and how often one is taken; it prints how often a set
-//! was reused. Each session holds ten sets.
+//! what is wanted, behind `indexed-` of the pool by indexes, how many sessions are idle, and how often
+//! one is taken; it prints how often a set was reused. Each session holds ten sets.
 #![tactic(auto)]
 
 mod sessions;
@@ -9,6 +9,7 @@ ghost use Rattle.z_types.specs.Members.{AreMembers};
 
 use anyhow::{Context, Result, bail};
 use pool_core::Pool;
+use pool_index::IndexedPool;
 use pool_sets::{Door, Seat, Taken};
 use route_config::{Members, PoolNumbers};
 use sessions::{Quiet, Still, key_of, session_holding};
@@ -30,13 +31,24 @@ enum Want {
     Other,
 }
 
+/// Which pool.
+#[derive(Clone, Copy)]
+enum Kind {
+    Plain,
+    Indexed,
+}
+
 /// What a word names.
-fn want_named(word: &str) -> Option<Want> {
+fn named(word: &str) -> Option<(Kind, Want)> {
     match word {
-        "any" => Some(Want::Any),
-        "first" => Some(Want::First),
-        "last" => Some(Want::Last),
-        "other" => Some(Want::Other),
+        "any" => Some((Kind::Plain, Want::Any)),
+        "first" => Some((Kind::Plain, Want::First)),
+        "last" => Some((Kind::Plain, Want::Last)),
+        "other" => Some((Kind::Plain, Want::Other)),
+        "indexed-any" => Some((Kind::Indexed, Want::Any)),
+        "indexed-first" => Some((Kind::Indexed, Want::First)),
+        "indexed-last" => Some((Kind::Indexed, Want::Last)),
+        "indexed-other" => Some((Kind::Indexed, Want::Other)),
         _ => None,
     }
 }
@@ -60,15 +72,15 @@ fn numbers(max_sessions: u32) -> PoolNumbers {
     }
 }
 
-/// A pool of `idle` idle sessions, which were all dialled first.
-fn pool_of(
+/// Dials as many sessions as may be idle, and puts them back.
+fn fill<P: Door<Quiet, Still>>(
     alloc: Global,
+    pool: &mut P,
     at: &[Address],
     idle: u32,
-) -> std::result::Result<Pool<Quiet, Still>, Memory>
+) -> std::result::Result<(), Memory>
     requires members { AreMembers at.now }
 {
-    let mut pool = Pool::after(alloc, numbers(idle), 0);
     for _ in 0..idle {
         drop(pool.take(alloc, 0, at, None, 0));
     }
@@ -79,11 +91,16 @@ fn pool_of(
         };
         pool.put(seat, session_holding(alloc, number)?.apart(), 0);
     }
-    Ok(pool)
+    Ok(())
 }
 
 /// Takes a session and puts it back, and answers whether it was reused.
-fn turn(alloc: Global, pool: &mut Pool<Quiet, Still>, at: &[Address], want: Option<&SetKey>) -> bool
+fn turn<P: Door<Quiet, Still>>(
+    alloc: Global,
+    pool: &mut P,
+    at: &[Address],
+    want: Option<&SetKey>,
+) -> bool
     requires members { AreMembers at.now }
 {
     match pool.take(alloc, 0, at, want, 0) {
@@ -100,9 +117,9 @@ fn turn(alloc: Global, pool: &mut Pool<Quiet, Still>, at: &[Address], want: Opti
 }
 
 /// How often a set was reused in `times` turns.
-fn turns(
+fn turns<P: Door<Quiet, Still>>(
     alloc: Global,
-    pool: &mut Pool<Quiet, Still>,
+    pool: &mut P,
     at: &[Address],
     want: Option<&SetKey>,
     times: u32,
@@ -129,15 +146,41 @@ fn number_wanted(want: Want, idle: u32) -> Option<u32> {
 }
 
 /// How often a set was reused in `times` turns of a pool of `idle` idle sessions.
-fn reuses(alloc: Global, want: Want, idle: u32, times: u32) -> std::result::Result<u64, Memory> {
+fn reuses<P: Door<Quiet, Still>>(
+    alloc: Global,
+    pool: &mut P,
+    want: Want,
+    idle: u32,
+    times: u32,
+) -> std::result::Result<u64, Memory> {
     let members = members(alloc)?;
-    let mut pool = pool_of(alloc, members.as_slice(), idle)?;
     let at = members.as_slice();
+    fill(alloc, pool, at, idle)?;
     match number_wanted(want, idle) {
-        None => Ok(turns(alloc, &mut pool, at, None, times)),
+        None => Ok(turns(alloc, pool, at, None, times)),
         Some(number) => {
             let key = key_of(alloc, number, 5)?;
-            Ok(turns(alloc, &mut pool, at, Some(&key), times))
+            Ok(turns(alloc, pool, at, Some(&key), times))
+        }
+    }
+}
+
+/// The same of a pool of that kind.
+fn reuses_of(
+    alloc: Global,
+    kind: Kind,
+    want: Want,
+    idle: u32,
+    times: u32,
+) -> std::result::Result<u64, Memory> {
+    match kind {
+        Kind::Plain => {
+            let mut pool: Pool<Quiet, Still> = Pool::after(alloc, numbers(idle), 0);
+            reuses(alloc, &mut pool, want, idle, times)
+        }
+        Kind::Indexed => {
+            let mut pool: IndexedPool<Quiet, Still> = IndexedPool::after(alloc, numbers(idle), 0);
+            reuses(alloc, &mut pool, want, idle, times)
         }
     }
 }
@@ -146,12 +189,12 @@ fn reuses(alloc: Global, want: Want, idle: u32, times: u32) -> std::result::Resu
 fn run<R: Env + Print + AllocGlobal>(rt: &R) -> Result<()> {
     let mut words = env::args(rt)?.skip(1);
     let (Some(name), Some(idle), Some(times)) = (words.next(), words.next(), words.next()) else {
-        bail!("usage: bench_pool any|first|last|other SESSIONS TIMES");
+        bail!("usage: bench_pool [indexed-](any|first|last|other) SESSIONS TIMES");
     };
-    let want = want_named(name.as_str()).context("no such want")?;
+    let (kind, want) = named(name.as_str()).context("no such want")?;
     let idle = idle.as_str().parse::<u32>()?;
     let times = times.as_str().parse::<u32>()?;
-    let Ok(reused) = reuses(rt.alloc(), want, idle, times) else {
+    let Ok(reused) = reuses_of(rt.alloc(), kind, want, idle, times) else {
         bail!("no memory could be had");
     };
     rt.println(format_args!("{reused} of {times} reused"))?;

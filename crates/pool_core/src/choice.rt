@@ -1,74 +1,16 @@
 //! Which session of a pool is chosen.
 
-ghost use Rattle.std.specs.Prelude.{◌≡◌, ◌<◌, ◌^◌, ◌≤◌, position, is_some, option_copied, length, filter, count_by};
-ghost use Rattle.pool_sets.specs.Sessions.{is_among, in_class, idle_in, idle_with, open_of, member_for};
+ghost use Rattle.std.specs.Prelude.{◌≡◌, ◌<◌, ◌^◌, ◌≤◌, position, option_copied, length, filter, count_by};
+ghost use Rattle.pool_sets.specs.Sessions.{open_of, member_for};
 ghost use Rattle.pool_sets.specs.Plain.{is_seat};
 ghost use Rattle.pool_core.specs.Loads.{is_counted, is_counted_for};
 ghost use Rattle.pool_core.specs.PoolView.{idle_place, holder_place};
 
 use crate::Spot;
+use crate::session::{holds_in, is_idle_in, is_in_class, is_of_member, is_seat};
 use load_balance::least;
-use pool_sets::{Open, Pooled, Seat, Stand};
+use pool_sets::{Open, Pooled, Seat};
 use z_types::{Address, SetKey, Sitting, World};
-
-/// Whether an address is one of these.
-fn is_among(at: &[Address], address: &Address) -> bool
-    ensures { result ≡ is_among at.now address.now }
-{
-    at.iter().any(|a| *a == *address)
-}
-
-/// Whether a spot's address is one of these.
-fn is_spot_among(at: &[Address], spot: &Spot) -> bool
-    ensures { result ≡ is_among at.now spot.now }
-{
-    at.iter().any(|a| spot.is(a))
-}
-
-/// Whether the session is one of the class.
-fn is_in_class<W: World, S: Sitting<W>>(
-    session: &Open<Pooled<W, S>, Spot>,
-    class: u32,
-    at: &[Address],
-) -> bool
-    ensures { result ≡ in_class class at.now session.now }
-{
-    if session.class != class {
-        return false;
-    }
-    match &session.stand {
-        Stand::Idle { pooled, .. } => is_among(at, pooled.address()),
-        Stand::Out { address } => is_spot_among(at, address),
-    }
-}
-
-/// Whether the session is idle and one of the class.
-fn is_idle_in<W: World, S: Sitting<W>>(
-    session: &Open<Pooled<W, S>, Spot>,
-    class: u32,
-    at: &[Address],
-) -> bool
-    ensures { result ≡ is_some (idle_in class at.now session.now) }
-{
-    is_in_class(session, class, at) && matches!(&session.stand, Stand::Idle { .. })
-}
-
-/// Whether the session is idle and one of the class, and holds a set of the key.
-fn holds_in<W: World, S: Sitting<W>>(
-    session: &Open<Pooled<W, S>, Spot>,
-    class: u32,
-    at: &[Address],
-    key: &SetKey,
-) -> bool
-    ensures { result ≡ is_some (idle_with class at.now key.now session.now) }
-{
-    match &session.stand {
-        Stand::Idle { pooled, .. } => {
-            is_in_class(session, class, at) && pooled.table().holds(key).is_some()
-        }
-        Stand::Out { .. } => false,
-    }
-}
 
 /// The place of the first idle session of the class.
 pub fn idle_place<W: World, S: Sitting<W>>(
@@ -107,15 +49,6 @@ pub fn open_in<W: World, S: Sitting<W>>(
         .count()
 }
 
-/// Whether the session is that of the seat, and out.
-pub fn is_seat<W: World, S: Sitting<W>>(session: &Open<Pooled<W, S>, Spot>, seat: &Seat) -> bool
-    ensures { result ≡ is_seat seat.now session.now }
-{
-    session.number == seat.number
-        && session.class == seat.class
-        && matches!(&session.stand, Stand::Out { .. })
-}
-
 /// The place of the session of the seat, where it is out.
 pub fn seat_place<W: World, S: Sitting<W>>(
     sessions: &[Open<Pooled<W, S>, Spot>],
@@ -124,32 +57,6 @@ pub fn seat_place<W: World, S: Sitting<W>>(
     ensures { result ≡ position (λ o. is_seat seat.now o) sessions.now }
 {
     sessions.iter().position(|o| is_seat(o, seat))
-}
-
-/// Whether the session counts, where that of a seat does not.
-fn is_counted<W: World, S: Sitting<W>>(
-    session: &Open<Pooled<W, S>, Spot>,
-    but: Option<&Seat>,
-) -> bool
-    ensures { result ≡ is_counted (option_copied but.entry) session.now }
-{
-    match but {
-        Some(seat) => !is_seat(session, seat),
-        None => true,
-    }
-}
-
-/// Whether the session counts for a member of the class.
-fn is_of_member<W: World, S: Sitting<W>>(
-    session: &Open<Pooled<W, S>, Spot>,
-    class: u32,
-    at: &[Address],
-    member: u32,
-    but: Option<&Seat>,
-) -> bool
-    ensures { result ≡ is_counted_for (option_copied but.entry) class at.now member session.now }
-{
-    is_counted(session, but) && is_in_class(session, class, at) && session.member == member
 }
 
 /// How many sessions count for a member of the class.

@@ -4,7 +4,12 @@
 mod choice;
 mod door;
 mod pool;
+mod session;
 mod spot;
 
 pub use pool::Pool;
+pub use session::{
+    freshen, holds_in, is_idle_in, is_in_class, is_of_member, is_seat, lend, move_to, rest,
+    spot_for, stays,
+};
 pub use spot::Spot;

@@ -1,23 +1,21 @@
 //! The pool.
 
-ghost use Rattle.std.specs.Prelude.{◌≡◌, ◌<◌, ◌≤◌, [], Some, None, length, IfSome, IfOk, filter, map, OnOk, OnErr, ◌++◌, ◌∷◌, All, true};
+ghost use Rattle.std.specs.Prelude.{◌≡◌, ◌<◌, ◌≤◌, [], Some, None, length, IfOk, filter, map, OnOk, OnErr, ◌++◌, ◌∷◌, All};
 ghost use Rattle.z_types.specs.Members.{HasShortHost};
 ghost use Rattle.z_types.specs.Pending.{resting};
-ghost use Rattle.pool_sets.specs.declared.sessions.Stand.TheVariants.{Idle, Out};
-ghost use Rattle.pool_sets.specs.Sessions.{is_out, idle_parts, with_stand};
 ghost use Rattle.pool_sets.specs.Plain.{stays_open, with_fresh_sets, fresh_sessions, expire, take_with, take_any, open_one, lost, without_seat, put, redial_member};
 ghost use Rattle.pool_sets.specs.Counts.{after_take};
 ghost use Rattle.pool_sets.specs.Doors.{TakenFits};
 ghost use Rattle.pool_sets.specs.Kept.{TableKept};
-ghost use Rattle.pool_core.specs.PoolView.{Gives, idle_place, holder_place, at_member, new_pool, pool_after, with_pool, counts_of, after_book, after_redial};
+ghost use Rattle.pool_core.specs.PoolView.{Gives, idle_place, holder_place, new_pool, pool_after, with_pool, counts_of, after_book, after_redial};
 
 use crate::Spot;
-use crate::choice::{holder_place, idle_place, is_seat, member_for, open_in, seat_place};
+use crate::choice::{holder_place, idle_place, member_for, open_in, seat_place};
+use crate::session::{freshen, is_seat, lend, move_to, rest, spot_for, stays};
 use pool_sets::{Open, Parts, Pooled, Seat, Stand, Taken};
 use route_config::{PoolNumbers, Route};
 use std::alloc::Global;
 use std::marker::Model;
-use std::mem;
 use z_types::{Address, Memory, SetKey, Sitting, World};
 
 /// A pool of sessions with the targets of a world, for one thread.
@@ -50,60 +48,6 @@ impl<W: World, S: Sitting<W>> Model for Pool<W, S> {
     ghost invariant = { λ p. IsPool S.Sitting p.sessions.items p.given p.opens };
 }
 
-/// Puts the session out, and gives what was idle.
-fn lend<W: World, S: Sitting<W>>(
-    session: &mut Open<Pooled<W, S>, Spot>,
-    address: Spot,
-) -> Option<Pooled<W, S>>
-    ensures pooled { result ≡ idle_parts session.old.stand }
-    ensures out { session.new ≡ with_stand (Out address) session.old }
-{
-    match mem::replace(&mut session.stand, Stand::Out { address }) {
-        Stand::Idle { pooled, .. } => Some(pooled),
-        Stand::Out { .. } => None,
-    }
-}
-
-/// Puts a session to rest.
-fn rest<W: World, S: Sitting<W>>(
-    session: &mut Open<Pooled<W, S>, Spot>,
-    pooled: Pooled<W, S>,
-    since: u64,
-)
-    ensures { session.new ≡ with_stand (Idle pooled since) session.old }
-{
-    session.stand = Stand::Idle { pooled, since };
-}
-
-/// A session that is out is out for another member.
-fn move_to<W: World, S: Sitting<W>>(
-    session: &mut Open<Pooled<W, S>, Spot>,
-    member: u32,
-    to: &Address,
-)
-    requires short { HasShortHost to.now }
-    ensures { is_out session.old.stand ≡ true → session.new ≡ at_member member to.now session.old }
-{
-    if let Stand::Out { address } = &mut session.stand {
-        session.member = member;
-        address.replace(to);
-    }
-}
-
-/// A spot with the address of an idle session.
-fn spot_for<W: World, S: Sitting<W>>(
-    alloc: Global,
-    session: &Open<Pooled<W, S>, Spot>,
-) -> Option<Spot>
-    ensures { IfSome result (λ spot.
-        IfSome (idle_parts session.now.stand) (λ p. spot ≡ p.address)) }
-{
-    match &session.stand {
-        Stand::Idle { pooled, .. } => Spot::new(alloc, pooled.address()).ok(),
-        Stand::Out { .. } => None,
-    }
-}
-
 /// Drops the sessions, and forgets the sets, that were unused for too long.
 fn forget_old<W: World, S: Sitting<W>>(
     sessions: &mut Vec<Open<Pooled<W, S>, Spot>>,
@@ -126,25 +70,6 @@ fn drop_old<W: World, S: Sitting<W>>(
     ensures { sessions.new.items ≡ filter (stays_open now ttl) sessions.old.items }
 {
     sessions.retain(|o| stays(o, now, ttl));
-}
-
-/// Whether the session stays open.
-fn stays<W: World, S: Sitting<W>>(session: &Open<Pooled<W, S>, Spot>, now: u64, ttl: u64) -> bool
-    ensures { result ≡ stays_open now ttl session.now }
-{
-    match &session.stand {
-        Stand::Idle { since, .. } => now.saturating_sub(*since) < ttl,
-        Stand::Out { .. } => true,
-    }
-}
-
-/// Forgets the sets of a session that were unused for too long.
-fn freshen<W: World, S: Sitting<W>>(session: &mut Open<Pooled<W, S>, Spot>, now: u64, ttl: u64)
-    ensures { session.new ≡ with_fresh_sets now ttl session.old }
-{
-    if let Stand::Idle { pooled, .. } = &mut session.stand {
-        pooled.expire(now, ttl);
-    }
 }
 
 /// Forgets the sets of each session that were unused for too long.

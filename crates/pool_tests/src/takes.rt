@@ -1,8 +1,8 @@
-//! What a pool gives, in sessions of few calls.
+//! What pools give, in sessions of few calls.
 
 use crate::trials::Given::{Dialled, Full, Idle, Nothing, Reused};
 use crate::trials::Turn::{self, Borrow, Lose, Put, Redial, TakeAny, TakeFor};
-use crate::trials::{Given, first_other_behind, first_other_of, lends_a_thousand};
+use crate::trials::{Given, KINDS, first_other_behind, first_other_of, lends_a_thousand};
 use std::test::Fail;
 
 /// The most sessions of a class and the test target of its second member, and what happens.
@@ -94,12 +94,14 @@ const ROWS: [((u32, u32), &[Turn]); 6] = [
 
 #[test]
 fn each_turn_goes_as_it_was_worked_out(rt: HostRuntime) -> Result<(), Fail> {
-    for (class, turns) in ROWS {
-        assert_eq!(rt;
-            first_other_of(rt.alloc(), class, turns)?,
-            None,
-            "{class:?}"
-        );
+    for kind in KINDS {
+        for (class, turns) in ROWS {
+            assert_eq!(rt;
+                first_other_of(rt.alloc(), kind, class, turns)?,
+                None,
+                "{kind:?} {class:?}"
+            );
+        }
     }
     Ok(())
 }
@@ -124,30 +126,40 @@ const TIMES: [(u64, u64, u64, Given); 13] = [
 
 #[test]
 fn sets_and_sessions_are_given_until_their_times_to_live(rt: HostRuntime) -> Result<(), Fail> {
-    for (used, since, now, given) in TIMES {
-        let turns = [
-            TakeAny(0, Dialled(1, 0)),
-            Put(1, used, since),
-            TakeFor(now, given),
-        ];
-        assert_eq!(rt;
-            first_other_of(rt.alloc(), (1, 0), &turns)?,
-            None,
-            "{used} {since} {now}"
-        );
+    for kind in KINDS {
+        for (used, since, now, given) in TIMES {
+            let turns = [
+                TakeAny(0, Dialled(1, 0)),
+                Put(1, used, since),
+                TakeFor(now, given),
+            ];
+            assert_eq!(rt;
+                first_other_of(rt.alloc(), kind, (1, 0), &turns)?,
+                None,
+                "{kind:?} {used} {since} {now}"
+            );
+        }
     }
     Ok(())
 }
 
 #[test]
 fn a_thousand_sessions_are_dialled_and_lent_again(rt: HostRuntime) -> Result<(), Fail> {
-    assert!(rt; lends_a_thousand(rt.alloc())?);
+    for kind in KINDS {
+        assert!(rt; lends_a_thousand(rt.alloc(), kind)?, "{kind:?}");
+    }
     Ok(())
 }
 
 #[test]
 fn after_the_last_number_no_session_is_dialled(rt: HostRuntime) -> Result<(), Fail> {
     let turns = [TakeAny(0, Dialled(u64::MAX, 0)), TakeAny(0, Nothing)];
-    assert_eq!(rt; first_other_behind(rt.alloc(), u64::MAX - 1, &turns)?, None);
+    for kind in KINDS {
+        assert_eq!(rt;
+            first_other_behind(rt.alloc(), kind, u64::MAX - 1, &turns)?,
+            None,
+            "{kind:?}"
+        );
+    }
     Ok(())
 }

@@ -1,4 +1,4 @@
-//! A pool of sessions in memory, turn by turn, and what it gave.
+//! Pools of sessions in memory, turn by turn, and what they gave.
 
 ghost use Rattle.std.specs.Prelude.{◌≡◌, ℕ, Some, true, false};
 ghost use Rattle.z_types.specs.declared.key.SetKey.{SetKey};
@@ -9,6 +9,8 @@ use crate::sessions::{key_for, session_holding};
 use crate::targets::Steady;
 use gw_memory::{FakeBackend, FakeSession};
 use pool_core::Pool;
+use pool_index::IndexedPool;
+use pool_keys::Digest;
 use pool_sets::{Door, Seat, Taken};
 use route_config::{Members, PoolNumbers, Route, RouteParts};
 use std::alloc::Global;
@@ -41,23 +43,49 @@ pub(crate) enum Turn {
     Redial(u64, u32),
 }
 
+/// Which pool.
+#[derive(Clone, Copy, Debug)]
+pub(crate) enum Kind {
+    /// The list of sessions.
+    Plain,
+    /// The one by indexes.
+    Indexed,
+    /// The same, where all keys have one digest.
+    OneDigest,
+}
+
+/// All pools, which answer alike.
+pub(crate) const KINDS: [Kind; 3] = [Kind::Plain, Kind::Indexed, Kind::OneDigest];
+
+/// The digest of each key is 7.
+#[derive(Drop)]
+struct Seven {}
+
+impl Digest for Seven {
+    ghost digest = { λ _. 7 };
+
+    fn digest(_: &SetKey) -> u64 {
+        7
+    }
+}
+
 /// A pool, the addresses of its class's two members, and the key of a search.
 #[derive(Drop)]
-struct Trial {
-    pool: Pool<Steady, FakeSession>,
+struct Trial<P> {
+    pool: P,
     backend: FakeBackend<Steady>,
     members: Members,
     key: SetKey,
 }
 
-/// A pool of the smallest route, with at most `max_sessions` sessions of a class.
-fn pool_of(alloc: Global, max_sessions: u32) -> Result<Pool<Steady, FakeSession>, Memory> {
+/// The smallest route, with at most `max_sessions` sessions of a class.
+fn route_of(alloc: Global, max_sessions: u32) -> Result<Route, Memory> {
     let mut parts = RouteParts::smallest(alloc)?;
     parts.pool.max_sessions = max_sessions;
     if !parts.are_sound() {
         return Err(Memory);
     }
-    Pool::new(alloc, &Route::new(parts))
+    Ok(Route::new(parts))
 }
 
 /// Two members at test targets.
@@ -68,11 +96,14 @@ fn two(alloc: Global, first: u32, second: u32) -> Result<Members, Memory> {
     Ok(Members::new(addresses))
 }
 
-/// A trial with at most `max_sessions` sessions of a class, whose second member is at that test
-/// target.
-fn trial_of(alloc: Global, max_sessions: u32, second: u32) -> Result<Trial, Memory> {
+/// A trial of a pool whose second member is at that test target.
+fn trial_of<P: Door<Steady, FakeSession> + Drop>(
+    alloc: Global,
+    pool: P,
+    second: u32,
+) -> Result<Trial<P>, Memory> {
     Ok(Trial {
-        pool: pool_of(alloc, max_sessions)?,
+        pool,
         backend: FakeBackend::new(Steady, List::new(alloc)),
         members: two(alloc, 0, second)?,
         key: key_for(alloc, 3)?,
@@ -96,24 +127,37 @@ fn what_was_given(taken: &Taken<FakeSession>) -> Given
 }
 
 /// Takes any session.
-fn take_any(alloc: Global, trial: &mut Trial, now: u64) -> Given {
+fn take_any<P: Door<Steady, FakeSession> + Drop>(
+    alloc: Global,
+    trial: &mut Trial<P>,
+    now: u64,
+) -> Given {
     let at = trial.members.as_slice();
     what_was_given(&trial.pool.take(alloc, 0, at, None, now))
 }
 
 /// Takes a session for the key. The pool counts where it gives one that has no set of it.
-fn take_for(alloc: Global, trial: &mut Trial, now: u64) -> Given
+fn take_for<P: Door<Steady, FakeSession> + Drop>(
+    alloc: Global,
+    trial: &mut Trial<P>,
+    now: u64,
+) -> Given
     ensures reused { (number : ℕ) → result ≡ Given.Reused number
-        → trial.new.pool.booked ≡ trial.old.pool.booked }
+        → (P.counts trial.new.pool).booked ≡ (P.counts trial.old.pool).booked }
     ensures idle { (number : ℕ) → result ≡ Given.Idle number
-        → trial.new.pool.booked ≡ one_more true trial.old.pool.booked }
+        → (P.counts trial.new.pool).booked
+        ≡ one_more true (P.counts trial.old.pool).booked }
 {
     let at = trial.members.as_slice();
     what_was_given(&trial.pool.take(alloc, 0, at, Some(&trial.key), now))
 }
 
 /// Takes a session for the key and puts it back.
-fn borrow_for(alloc: Global, trial: &mut Trial, now: u64) -> Given {
+fn borrow_for<P: Door<Steady, FakeSession> + Drop>(
+    alloc: Global,
+    trial: &mut Trial<P>,
+    now: u64,
+) -> Given {
     let at = trial.members.as_slice();
     let taken = trial.pool.take(alloc, 0, at, Some(&trial.key), now);
     let given = what_was_given(&taken);
@@ -127,9 +171,9 @@ fn borrow_for(alloc: Global, trial: &mut Trial, now: u64) -> Given {
 }
 
 /// Puts a session that holds the key's set, used at a moment, back at another.
-fn put_back(
+fn put_back<P: Door<Steady, FakeSession> + Drop>(
     alloc: Global,
-    trial: &mut Trial,
+    trial: &mut Trial<P>,
     number: u64,
     used: u64,
     now: u64,
@@ -142,18 +186,22 @@ fn put_back(
 }
 
 /// Gives the session of a number up, by a seat of a class.
-fn lose(trial: &mut Trial, class: u32, number: u64) {
+fn lose<P: Door<Steady, FakeSession> + Drop>(trial: &mut Trial<P>, class: u32, number: u64) {
     trial.pool.lost(Seat { class, number });
 }
 
 /// The member to dial in place of a session.
-fn redial(trial: &mut Trial, number: u64) -> u32 {
+fn redial<P: Door<Steady, FakeSession> + Drop>(trial: &mut Trial<P>, number: u64) -> u32 {
     let at = trial.members.as_slice();
     trial.pool.redial(&mut Seat { class: 0, number }, at)
 }
 
 /// Whether a turn goes so.
-fn goes(alloc: Global, trial: &mut Trial, turn: Turn) -> Result<bool, Memory> {
+fn goes<P: Door<Steady, FakeSession> + Drop>(
+    alloc: Global,
+    trial: &mut Trial<P>,
+    turn: Turn,
+) -> Result<bool, Memory> {
     match turn {
         Turn::TakeAny(now, given) => Ok(take_any(alloc, trial, now) == given),
         Turn::TakeFor(now, given) => Ok(take_for(alloc, trial, now) == given),
@@ -171,9 +219,15 @@ fn goes(alloc: Global, trial: &mut Trial, turn: Turn) -> Result<bool, Memory> {
 }
 
 /// The place of the first turn that goes otherwise, counted from 0.
-fn first_other(alloc: Global, trial: &mut Trial, turns: &[Turn]) -> Result<Option<usize>, Memory> {
+fn first_other<P: Door<Steady, FakeSession> + Drop>(
+    alloc: Global,
+    pool: P,
+    second: u32,
+    turns: &[Turn],
+) -> Result<Option<usize>, Memory> {
+    let mut trial = trial_of(alloc, pool, second)?;
     for (place, turn) in turns.iter().enumerate() {
-        if !goes(alloc, trial, *turn)? {
+        if !goes(alloc, &mut trial, *turn)? {
             return Ok(Some(place));
         }
     }
@@ -184,40 +238,103 @@ fn first_other(alloc: Global, trial: &mut Trial, turns: &[Turn]) -> Result<Optio
 /// and its second member is at that test target.
 pub(crate) fn first_other_of(
     alloc: Global,
+    kind: Kind,
     (max_sessions, second): (u32, u32),
     turns: &[Turn],
 ) -> Result<Option<usize>, Memory> {
-    let mut trial = trial_of(alloc, max_sessions, second)?;
-    first_other(alloc, &mut trial, turns)
+    let route = route_of(alloc, max_sessions)?;
+    match kind {
+        Kind::Plain => {
+            let pool: Pool<Steady, FakeSession> = Pool::new(alloc, &route)?;
+            first_other(alloc, pool, second, turns)
+        }
+        Kind::Indexed => {
+            let pool: IndexedPool<Steady, FakeSession> = IndexedPool::new(alloc, &route)?;
+            first_other(alloc, pool, second, turns)
+        }
+        Kind::OneDigest => {
+            let pool: IndexedPool<Steady, FakeSession, Seven> = IndexedPool::new(alloc, &route)?;
+            first_other(alloc, pool, second, turns)
+        }
+    }
 }
 
-/// The same of a pool whose sessions have the numbers behind this one.
-pub(crate) fn first_other_behind(
-    alloc: Global,
-    number: u64,
-    turns: &[Turn],
-) -> Result<Option<usize>, Memory> {
-    let numbers = PoolNumbers {
+/// The numbers of a pool of two sessions of a class.
+fn numbers() -> PoolNumbers {
+    PoolNumbers {
         max_sessions: 2,
         sets_max: 10,
         session_ttl: 300,
         set_ttl: 60,
         repeats: 2,
         patience: 1000,
-    };
-    let mut trial = trial_of(alloc, 2, 1)?;
-    trial.pool = Pool::after(alloc, numbers, number);
-    first_other(alloc, &mut trial, turns)
+    }
+}
+
+/// The same of a pool whose sessions have the numbers behind this one.
+pub(crate) fn first_other_behind(
+    alloc: Global,
+    kind: Kind,
+    number: u64,
+    turns: &[Turn],
+) -> Result<Option<usize>, Memory> {
+    match kind {
+        Kind::Plain => {
+            let pool: Pool<Steady, FakeSession> = Pool::after(alloc, numbers(), number);
+            first_other(alloc, pool, 1, turns)
+        }
+        Kind::Indexed => {
+            let pool: IndexedPool<Steady, FakeSession> = IndexedPool::after(
+                alloc,
+                numbers(),
+                number,
+            );
+            first_other(alloc, pool, 1, turns)
+        }
+        Kind::OneDigest => {
+            let pool: IndexedPool<Steady, FakeSession, Seven> = IndexedPool::after(
+                alloc,
+                numbers(),
+                number,
+            );
+            first_other(alloc, pool, 1, turns)
+        }
+    }
 }
 
 /// Whether a thousand sessions are dialled, of two members in turn, and lent again from the first.
-pub(crate) fn lends_a_thousand(alloc: Global) -> Result<bool, Memory> {
-    let mut trial = trial_of(alloc, 1000, 1)?;
+pub(crate) fn lends_a_thousand(alloc: Global, kind: Kind) -> Result<bool, Memory> {
+    let route = route_of(alloc, 1000)?;
+    match kind {
+        Kind::Plain => {
+            let pool: Pool<Steady, FakeSession> = Pool::new(alloc, &route)?;
+            dials_and_lends(alloc, pool)
+        }
+        Kind::Indexed => {
+            let pool: IndexedPool<Steady, FakeSession> = IndexedPool::new(alloc, &route)?;
+            dials_and_lends(alloc, pool)
+        }
+        Kind::OneDigest => {
+            let pool: IndexedPool<Steady, FakeSession, Seven> = IndexedPool::new(alloc, &route)?;
+            dials_and_lends(alloc, pool)
+        }
+    }
+}
+
+/// Whether a pool dials a thousand sessions and lends them again.
+fn dials_and_lends<P: Door<Steady, FakeSession> + Drop>(
+    alloc: Global,
+    pool: P,
+) -> Result<bool, Memory> {
+    let mut trial = trial_of(alloc, pool, 1)?;
     Ok(dials_a_thousand(alloc, &mut trial) && lends_again(alloc, &mut trial)?)
 }
 
 /// Whether a thousand sessions are dialled, and no more.
-fn dials_a_thousand(alloc: Global, trial: &mut Trial) -> bool {
+fn dials_a_thousand<P: Door<Steady, FakeSession> + Drop>(
+    alloc: Global,
+    trial: &mut Trial<P>,
+) -> bool {
     for _ in 0..999 {
         take_any(alloc, trial, 0);
     }
@@ -226,7 +343,10 @@ fn dials_a_thousand(alloc: Global, trial: &mut Trial) -> bool {
 }
 
 /// Whether a thousand sessions that are put back are lent again from the first.
-fn lends_again(alloc: Global, trial: &mut Trial) -> Result<bool, Memory> {
+fn lends_again<P: Door<Steady, FakeSession> + Drop>(
+    alloc: Global,
+    trial: &mut Trial<P>,
+) -> Result<bool, Memory> {
     for number in 1..=1000 {
         put_back(alloc, trial, 1001 - number, 0, 0)?;
     }

@@ -4,11 +4,11 @@ use Rattle.pool_sets.specs.Counts.{DoorCounts}
 use Rattle.pool_tests.proofs.trials.take_for.Goals as goal
 
 pub returns-clause-reused : goal.returns-clause-reused
-returns-clause-reused c = λ number given.
+returns-clause-reused g c = λ number given.
     let trial = c.args.trial.now in
-    ap (λ (n : DoorCounts). n.booked) c.take.ensures.counts ∙ ap (λ (b : Bool). one_more b trial.pool.booked) (c.what_was_given.ensures.reused trial.key number given)
+    ap (λ (n : DoorCounts). n.booked) c.take.ensures.counts ∙ ap (λ (b : Bool). one_more b (g.P.Door.counts trial.pool).booked) (c.what_was_given.ensures.reused trial.key number given)
 
 pub returns-clause-idle : goal.returns-clause-idle
-returns-clause-idle c = λ number given.
+returns-clause-idle g c = λ number given.
     let trial = c.args.trial.now in
-    ap (λ (n : DoorCounts). n.booked) c.take.ensures.counts ∙ ap (λ (b : Bool). one_more b trial.pool.booked) (c.what_was_given.ensures.idle trial.key number given)
+    ap (λ (n : DoorCounts). n.booked) c.take.ensures.counts ∙ ap (λ (b : Bool). one_more b (g.P.Door.counts trial.pool).booked) (c.what_was_given.ensures.idle trial.key number given)

@@ -1,0 +1,6 @@
+pub mod Lazy
+pub mod Settling
+pub mod Seeking
+pub mod Counting
+pub mod Rosters
+pub mod Given

@@ -1,0 +1,32 @@
+use Rattle.std.proofs.Common.{◌∙◌, ◌^◌, ◌-◌, ap, subst, sym}
+use Rattle.pool_core.specs.PoolView.{Ascends}
+use Rattle.pool_index.specs.Told.{told}
+use Rattle.pool_index.proofs.Settling.{told_same, berths_same}
+use Rattle.pool_index.proofs.Rosters.{rise_in, are_found}
+use Rattle.pool_index.proofs.roster.Roster.holder_found.Goals as goal
+
+pub first_holder-requires : goal.first_holder-requires
+first_holder-requires g c =
+    let x = c.self.inside.expiries in
+    let ttl = c.self.inside.set_ttl in
+    let bs = c.self.inside.berths.items in
+    record {
+      order = rise_in (told x ttl bs) c.self.invariant.ascends;
+      found = rw c.digest.ensures (are_found g.D.Digest.digest c.self.inside.index x c.self.inside.oldest ttl c.args.class c.args.at.now c.args.key.now bs (sym c.is_whole.ensures ∙ c.if-not-is_whole.false) c.self.invariant);
+    }
+
+pub invariant_of-self : goal.invariant_of-self
+invariant_of-self g c =
+    let x = c.self.inside.expiries in
+    let ttl = c.self.inside.set_ttl in
+    let bs = c.self.inside.berths.items in
+    record {
+      ascends = subst (Ascends 0 (2 ^ 64 - 1)) (sym (told_same x ttl bs c.first_holder.new.berths.items c.first_holder.ensures.berths)) c.self.invariant.ascends;
+      each = berths_same x ttl g.D.Digest.digest c.self.inside.index c.self.inside.oldest bs c.first_holder.new.berths.items c.first_holder.ensures.berths c.self.invariant.each;
+    }
+
+pub returns-clause-same : goal.returns-clause-same
+returns-clause-same g c =
+    let x = c.self.inside.expiries in
+    let ttl = c.self.inside.set_ttl in
+    rw (← c.self.view_is) (ap (λ os. (record { sessions = os; session_ttl = c.self.inside.session_ttl; set_ttl = ttl })) (told_same x ttl c.self.inside.berths.items c.first_holder.new.berths.items c.first_holder.ensures.berths))

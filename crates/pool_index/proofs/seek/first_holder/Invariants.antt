@@ -1,0 +1,15 @@
+use Rattle.std.proofs.Common.{◌-◌, ◌^◌}
+use Rattle.std.specs.List.{AllZip}
+use Rattle.pool_index.specs.Told.{told}
+use Rattle.pool_index.specs.RosterView.{MaySettle}
+use Rattle.pool_index.proofs.Seeking.{NoneUnder}
+use Rattle.pool_index.proofs.seek.first_holder.Given as goal
+
+abbrev pub invariant-loop-number : goal.invariant-loop-number
+invariant-loop-number g l = record {
+  none : NoneUnder l.class l.at l.key (told l.expiries l.ttl l.initial.berths.items) l.from;
+  may : AllZip (MaySettle l.expiries l.ttl) l.initial.berths.items l.berths.items;
+}
+
+abbrev pub decreases-loop-number : goal.decreases-loop-number
+decreases-loop-number g l = 2 ^ 64 - l.from

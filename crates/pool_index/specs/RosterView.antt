@@ -1,0 +1,73 @@
+-- For contracts alone: the sessions of a pool, and how long sessions and sets stay unused (this project's own)
+use Rattle.std.specs.Prelude.{◌≡◌, ◌⊎◌, ℕ, ◌<◌, ◌^◌, Bool, true, false, List, [], slice_set, slice_index_or, length, is_some, All, Contains}
+use Rattle.z_types.specs.declared.key.SetKey.{SetKey}
+use Rattle.z_types.specs.declared.address.Address.{Address}
+use Rattle.pool_sets.specs.declared.sessions.Stand.TheVariants.{Out}
+use Rattle.pool_sets.specs.Sessions.{Session, idle_with}
+use Rattle.pool_index.specs.declared.berth.Berth.{Berth}
+use Rattle.pool_index.specs.declared.berth.Expiries.{Expiries}
+use Rattle.pool_keys.specs.Pairs.{Indexed, pair}
+use Rattle.pool_index.specs.Told.{settled}
+
+-- the sessions that are told, and how long a session and a set may be unused
+pub record RosterView (S : Type 0) : Type 0 where
+  pub sessions : List (Session S)
+  pub session_ttl : ℕ
+  pub set_ttl : ℕ
+
+module _ {S : Type 0} where
+  -- other sessions, told for as long
+  abbrev pub with_told : List (Session S) → RosterView S → RosterView S
+  with_told os r = record { sessions = os; session_ttl = r.session_ttl; set_ttl = r.set_ttl }
+
+  -- none yet
+  abbrev pub roster_of : ℕ → ℕ → RosterView S
+  roster_of session_ttl set_ttl = record { sessions = []; session_ttl = session_ttl; set_ttl = set_ttl }
+
+  -- a session that is out
+  abbrev pub out_session : ℕ → ℕ → ℕ → Address → Session S
+  out_session number class member address = record { number = number; class = class; member = member; stand = Out address }
+
+  -- one session is changed, at its place
+  abbrev pub Changes : (Session S → Session S) → ℕ → RosterView S → RosterView S → Type 0
+  Changes f place old new =
+      (d : Session S) → new ≡ with_told (slice_set old.sessions place (f (slice_index_or old.sessions place d))) old
+
+  -- the numbers rise
+  abbrev pub Rises : List (Berth (Session S)) → Type 0
+  Rises bs =
+      (i j : ℕ) (d : Berth (Session S)) → i < j → j < length bs →
+      (slice_index_or bs i d).session.number < (slice_index_or bs j d).session.number
+
+  -- the place of the session of a number
+  pub record IsPlace (number : ℕ) (bs : List (Berth (Session S))) (place : ℕ) : Type 0 where
+    pub within : place < length bs
+    pub number_there : (d : Berth (Session S)) → (slice_index_or bs place d).session.number ≡ number
+
+  -- the numbers of sessions rise, and are below 2^64
+  pub record RiseIn (os : List (Session S)) : Type 0 where
+    pub order : (i j : ℕ) (d : Session S) → i < j → j < length os → (slice_index_or os i d).number < (slice_index_or os j d).number
+    pub small : All (λ o. o.number < 2 ^ 64) os
+
+  -- whether a session is idle and of the class, and holds a set of the key
+  abbrev pub is_holder : ℕ → List Address → SetKey → Session S → Bool
+  is_holder class at key o = is_some (idle_with class at key o)
+
+  -- the session of a number, at its place, is one
+  pub record IsHolder (number class : ℕ) (at : List Address) (key : SetKey) (os : List (Session S)) (place : ℕ) : Type 0 where
+    pub within : place < length os
+    pub number_there : (d : Session S) → (slice_index_or os place d).number ≡ number
+    pub holds : (d : Session S) → is_holder class at key (slice_index_or os place d) ≡ true
+
+  -- the session of a number is none
+  abbrev pub IsNoHolder : ℕ → ℕ → List Address → SetKey → List (Session S) → Type 0
+  IsNoHolder number class at key os = All (λ o. o.number ≡ number → is_holder class at key o ≡ false) os
+
+  -- the sets of a key are found under a digest
+  abbrev pub AreFound : Indexed → ℕ → ℕ → List Address → SetKey → List (Session S) → Type 0
+  AreFound index digest class at key os =
+      All (λ o. is_holder class at key o ≡ true → Contains index.pairs (pair digest o.number)) os
+
+  -- a session that was left as it was, or as it is told
+  abbrev pub MaySettle : Expiries → ℕ → Berth (Session S) → Berth (Session S) → Type 0
+  MaySettle x ttl b c = (c ≡ b) ⊎ (c ≡ settled x ttl x.count b)

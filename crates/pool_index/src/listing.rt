@@ -1,0 +1,106 @@
+//! The sets of sessions are put where they are found.
+
+ghost use Rattle.std.specs.Prelude.{◌<◌, ◌∷◌, [], length, slice_index_or, All, OnOk};
+ghost use Rattle.pool_sets.specs.Table.{Entry};
+ghost use Rattle.pool_keys.specs.Pairs.{Grows};
+ghost use Rattle.pool_index.specs.Told.{AreListed, AreGathered, Gains, sets_of};
+
+use crate::Berth;
+use pool_core::Spot;
+use pool_keys::{Digest, KeyIndex, Pair};
+use pool_sets::{Open, Pooled, SetTable, Stand};
+use z_types::{Memory, Sitting, World};
+
+/// Puts a session's set at a place into the index, where there is one.
+fn list_one<D: Digest>(index: &mut KeyIndex, table: &SetTable, place: u32, number: u64)
+    requires within { place < length table.now.entries }
+    ensures grows { Grows index.old index.new }
+    ensures listed { (d : Entry) → AreListed D.digest index.new number
+        (slice_index_or table.now.entries place d ∷ []) }
+{
+    if let Some((key, _)) = table.entry(place) {
+        index.admit(Pair {
+            digest: D::digest(key),
+            number,
+        });
+    }
+}
+
+/// Puts all sets of a session into the index.
+pub fn list_all<D: Digest>(index: &mut KeyIndex, table: &SetTable, number: u64)
+    ensures grows { Grows index.old index.new }
+    ensures listed { AreListed D.digest index.new number table.now.entries }
+{
+    for place in 0..table.len() {
+        list_one::<D>(index, table, place, number);
+    }
+}
+
+/// Puts the pair of a session's set at a place at the end, where there is one.
+fn gather_one<D: Digest>(
+    pairs: &mut Vec<Pair>,
+    table: &SetTable,
+    place: u32,
+    number: u64,
+) -> Result<(), Memory>
+    requires within { place < length table.now.entries }
+    ensures gains { OnOk result (Gains pairs.old.items pairs.new.items) }
+    ensures gathered { OnOk result ((d : Entry) → AreGathered D.digest pairs.new.items number
+        (slice_index_or table.now.entries place d ∷ [])) }
+{
+    if let Some((key, _)) = table.entry(place) {
+        let pair = Pair {
+            digest: D::digest(key),
+            number,
+        };
+        let Ok(()) = pairs.push(pair) else {
+            return Err(Memory);
+        };
+    }
+    Ok(())
+}
+
+/// Puts the pairs of all sets of a session at the end.
+fn gather<D: Digest>(pairs: &mut Vec<Pair>, table: &SetTable, number: u64) -> Result<(), Memory>
+    ensures gains { OnOk result (Gains pairs.old.items pairs.new.items) }
+    ensures gathered { OnOk result
+        (AreGathered D.digest pairs.new.items number table.now.entries) }
+{
+    for place in 0..table.len() {
+        let Ok(()) = gather_one::<D>(pairs, table, place, number) else {
+            return Err(Memory);
+        };
+    }
+    Ok(())
+}
+
+/// Puts the pairs of a session's sets at the end, where it is idle.
+fn gather_from<W: World, S: Sitting<W>, D: Digest>(
+    pairs: &mut Vec<Pair>,
+    session: &Open<Pooled<W, S>, Spot>,
+) -> Result<(), Memory>
+    ensures gains { OnOk result (Gains pairs.old.items pairs.new.items) }
+    ensures gathered { OnOk result (AreGathered D.digest pairs.new.items session.now.number
+        (sets_of session.now.stand)) }
+{
+    match &session.stand {
+        Stand::Idle { pooled, .. } => gather::<D>(pairs, pooled.table(), session.number),
+        Stand::Out { .. } => Ok(()),
+    }
+}
+
+/// Puts the pairs of the sets of all idle sessions at the end.
+pub fn gather_all<W: World, S: Sitting<W>, D: Digest>(
+    pairs: &mut Vec<Pair>,
+    berths: &[Berth<Open<Pooled<W, S>, Spot>>],
+) -> Result<(), Memory>
+    ensures gathered { OnOk result (All (λ b. AreGathered D.digest pairs.new.items
+        b.session.number (sets_of b.session.stand)) berths.now) }
+{
+    for berth in berths {
+        let Ok(()) = gather_from::<W, S, D>(pairs, &berth.session) else {
+            return Err(Memory);
+        };
+    }
+    Ok(())
+}

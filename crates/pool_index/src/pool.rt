@@ -1,0 +1,293 @@
+//! The pool.
+
+ghost use Rattle.std.specs.Prelude.{◌≡◌, ◌<◌, ◌≤◌, Some, None, length, IfOk, All};
+ghost use Rattle.z_types.specs.Members.{HasShortHost};
+ghost use Rattle.z_types.specs.Pending.{resting};
+ghost use Rattle.pool_sets.specs.Plain.{expire, take_with, take_any, open_one, lost, put, redial_member};
+ghost use Rattle.pool_sets.specs.Counts.{after_take};
+ghost use Rattle.pool_sets.specs.Doors.{TakenFits};
+ghost use Rattle.pool_sets.specs.Kept.{TableKept};
+ghost use Rattle.pool_core.specs.PoolView.{Gives, idle_place, holder_place, new_pool, pool_after, with_pool, counts_of, after_book, after_redial};
+
+use crate::roster::Roster;
+use pool_core::Spot;
+use pool_keys::{Digest, KeyDigest};
+use pool_sets::{Parts, Pooled, Seat, Taken};
+use route_config::{PoolNumbers, Route};
+use std::alloc::Global;
+use std::marker::Model;
+use z_types::{Address, Memory, SetKey, Sitting, World};
+
+/// A pool of sessions with the targets of a world, for one thread, which finds a set by the digest of
+/// its key.
+#[derive(Drop)]
+pub struct IndexedPool<W: World, S: Sitting<W>, D: Digest = KeyDigest> {
+    roster: Roster<W, S, D>,
+    given: u64,
+    max_sessions: u32,
+    sets_max: u32,
+    fulls: u64,
+    opens: u64,
+    booked: u64,
+}
+
+impl<W: World, S: Sitting<W>, D: Digest> Model for IndexedPool<W, S, D> {
+    ghost use Rattle.std.specs.Coded.{codes};
+    ghost use Rattle.z_types.specs.Tree.{tree_code};
+    ghost use Rattle.pool_core.specs.PoolView.{PoolView, IsPool};
+
+    ghost Value = { PoolView S };
+
+    ghost coded = { Prim.hlevel (codes, tree_code) };
+
+    ghost view = { λ p. record {
+      pool = record {
+        sessions = p.roster.sessions;
+        given = p.given;
+        max_sessions = p.max_sessions;
+        sets_max = p.sets_max;
+        session_ttl = p.roster.session_ttl;
+        set_ttl = p.roster.set_ttl;
+      };
+      fulls = p.fulls;
+      opens = p.opens;
+      booked = p.booked;
+    } };
+
+    ghost invariant = { λ p. IsPool S.Sitting p.roster.sessions p.given p.opens };
+}
+
+impl<W: World, S: Sitting<W>, D: Digest> IndexedPool<W, S, D> {
+    /// A pool without sessions, whose numbers are the route's. It takes no memory yet.
+    pub fn new(alloc: Global, route: &Route) -> Result<IndexedPool<W, S, D>, Memory>
+        ensures new { IfOk result (λ pool. pool ≡ new_pool route.now.pool) }
+    {
+        Ok(IndexedPool::after(alloc, route.parts().pool, 0))
+    }
+
+    /// A pool without sessions that goes on behind a number, so that no seat of a pool that gave
+    /// numbers up to that one fits a session of this one.
+    pub fn after(alloc: Global, numbers: PoolNumbers, last: u64) -> IndexedPool<W, S, D>
+        ensures { result ≡ pool_after numbers last }
+    {
+        IndexedPool {
+            roster: Roster::new(alloc, numbers.session_ttl, numbers.set_ttl),
+            given: last,
+            max_sessions: numbers.max_sessions,
+            sets_max: numbers.sets_max,
+            fulls: 0,
+            opens: 0,
+            booked: 0,
+        }
+    }
+
+    /// Gives the session at a place, which is the first idle one that holds the key.
+    fn reuse(
+        &mut self,
+        alloc: Global,
+        class: u32,
+        at: &[Address],
+        key: &SetKey,
+        now: u64,
+        place: usize,
+    ) -> Taken<S>
+        requires first { holder_place class at.now key.now self.old.pool.sessions ≡ Some place }
+        ensures plain { Gives (take_with class at.now key.now now self.old.pool)
+            self.old.pool result self.new.pool }
+        ensures fits { TakenFits W.World S.Sitting
+            at.now (Some key.now) self.old.pool.max_sessions result }
+        ensures counts { counts_of self.new
+            ≡ after_take (Some key.now) result (counts_of self.old) }
+        ensures bound { length self.new.pool.sessions ≤ self.new.opens }
+    {
+        let Some(spot) = self.roster.spot(alloc, place) else {
+            return Taken::Memory;
+        };
+        let number = self.roster.number(place);
+        let Some(mut pooled) = self.roster.lend(place, spot) else {
+            unreachable!()
+        };
+        let Some((slot, hits)) = pooled.find(key, now) else {
+            unreachable!()
+        };
+        Taken::Reuse {
+            seat: Seat { class, number },
+            parts: pooled.apart(),
+            slot,
+            hits,
+        }
+    }
+
+    /// Gives the session at a place, which is the first idle one.
+    fn fresh(&mut self, alloc: Global, class: u32, at: &[Address], place: usize) -> Taken<S>
+        requires first { idle_place class at.now self.old.pool.sessions ≡ Some place }
+        ensures plain { Gives (take_any class at.now self.old.pool)
+            self.old.pool result self.new.pool }
+        ensures fits { TakenFits W.World S.Sitting
+            at.now None self.old.pool.max_sessions result }
+        ensures counts { counts_of self.new ≡ after_take None result (counts_of self.old) }
+        ensures bound { length self.new.pool.sessions ≤ self.new.opens }
+    {
+        let Some(spot) = self.roster.spot(alloc, place) else {
+            return Taken::Memory;
+        };
+        let number = self.roster.number(place);
+        let Some(pooled) = self.roster.lend(place, spot) else {
+            unreachable!()
+        };
+        Taken::Fresh {
+            seat: Seat { class, number },
+            parts: pooled.apart(),
+        }
+    }
+
+    /// Dials where fewer sessions are open than there may be.
+    fn dial(&mut self, alloc: Global, class: u32, at: &[Address]) -> Taken<S>
+        requires some { 0 < length at.now }
+        requires few { length at.now ≤ 16 }
+        ensures plain { Gives (open_one class at.now self.old.pool)
+            self.old.pool result self.new.pool }
+        ensures fits { TakenFits W.World S.Sitting
+            at.now None self.old.pool.max_sessions result }
+        ensures counts { counts_of self.new ≡ after_take None result (counts_of self.old) }
+        ensures bound { length self.new.pool.sessions ≤ self.new.opens }
+    {
+        if self.roster.open_in(class, at) >= self.max_sessions as usize {
+            self.fulls = self.fulls.saturating_add(1);
+            return Taken::Full {
+                open: self.max_sessions,
+            };
+        }
+        if self.roster.len() >= u32::MAX as usize || self.given == u64::MAX {
+            return Taken::Memory;
+        }
+        let member = self.roster.member_for(class, at, None);
+        let Ok(address) = Spot::new(alloc, &at[member as usize]) else {
+            return Taken::Memory;
+        };
+        let number = self.given + 1;
+        let sets = self.sets_max as usize * 2;
+        let Ok(()) = self.roster.dial(number, class, member, address, sets) else {
+            return Taken::Memory;
+        };
+        self.given = number;
+        self.opens = self.opens.saturating_add(1);
+        let seat = Seat { class, number };
+        Taken::Dial { seat, member }
+    }
+
+    /// Drops the sessions, and forgets the sets, that were unused for too long.
+    pub(crate) fn forget_old(&mut self, now: u64)
+        ensures { self.new ≡ with_pool (expire now self.old.pool) self.old }
+    {
+        self.roster.expire(now);
+    }
+
+    /// The place of the first idle session of the class that holds the key.
+    fn holder(&mut self, alloc: Global, class: u32, at: &[Address], key: &SetKey) -> Option<usize>
+        ensures place { result ≡ holder_place class at.now key.now self.old.pool.sessions }
+        ensures same { self.new ≡ self.old }
+    {
+        self.roster.holder(alloc, class, at, key)
+    }
+
+    /// The place of the first idle session of the class.
+    fn idle(&self, class: u32, at: &[Address]) -> Option<usize>
+        ensures { result ≡ idle_place class at.now self.now.pool.sessions }
+    {
+        self.roster.idle(class, at)
+    }
+
+    /// Counts an answer to who wanted a set.
+    fn book(&mut self, taken: &Taken<S>)
+        ensures booked { self.new ≡ after_book taken.now self.old }
+    {
+        if matches!(taken, Taken::Fresh { .. } | Taken::Dial { .. }) {
+            self.booked = self.booked.saturating_add(1);
+        }
+    }
+
+    /// Takes any session of the class.
+    pub(crate) fn take_any(&mut self, alloc: Global, class: u32, at: &[Address]) -> Taken<S>
+        requires some { 0 < length at.now }
+        requires few { length at.now ≤ 16 }
+        ensures plain { Gives (take_any class at.now self.old.pool)
+            self.old.pool result self.new.pool }
+        ensures fits { TakenFits W.World S.Sitting
+            at.now None self.old.pool.max_sessions result }
+        ensures counts { counts_of self.new ≡ after_take None result (counts_of self.old) }
+        ensures bound { length self.new.pool.sessions ≤ self.new.opens }
+    {
+        if let Some(place) = self.idle(class, at) {
+            return self.fresh(alloc, class, at, place);
+        }
+        self.dial(alloc, class, at)
+    }
+
+    /// Takes a session of the class, one that holds a set of the key where there is one.
+    pub(crate) fn take_for(
+        &mut self,
+        alloc: Global,
+        class: u32,
+        at: &[Address],
+        key: &SetKey,
+        now: u64,
+    ) -> Taken<S>
+        requires some { 0 < length at.now }
+        requires few { length at.now ≤ 16 }
+        ensures plain { Gives (take_with class at.now key.now now self.old.pool)
+            self.old.pool result self.new.pool }
+        ensures fits { TakenFits W.World S.Sitting
+            at.now (Some key.now) self.old.pool.max_sessions result }
+        ensures counts { counts_of self.new
+            ≡ after_take (Some key.now) result (counts_of self.old) }
+        ensures bound { length self.new.pool.sessions ≤ self.new.opens }
+    {
+        if let Some(place) = self.holder(alloc, class, at, key) {
+            return self.reuse(alloc, class, at, key, now, place);
+        }
+        let taken = self.take_any(alloc, class, at);
+        self.book(&taken);
+        taken
+    }
+
+    /// Gives the session of the seat up, where it is out.
+    pub(crate) fn drop_seat(&mut self, seat: &Seat)
+        ensures { self.new ≡ with_pool (lost seat.now self.old.pool) self.old }
+    {
+        self.roster.drop_seat(seat);
+    }
+
+    /// Puts the session of the seat back, where it is out.
+    pub(crate) fn put_back(&mut self, seat: Seat, parts: Parts<S>, now: u64)
+        requires rests { S.pending parts.session ≡ resting }
+        requires kept { TableKept W.World S.Sitting parts }
+        ensures { self.new ≡ with_pool (put seat parts now self.old.pool) self.old }
+    {
+        if parts.table.max() > self.sets_max {
+            self.drop_seat(&seat);
+            return;
+        }
+        if let Some(place) = self.roster.seat(&seat) {
+            self.roster.rest(place, Pooled::join(parts), now);
+        }
+    }
+
+    /// Dials for the seat again: the member, or 0 where its session is not out.
+    pub(crate) fn dial_again(&mut self, seat: &Seat, at: &[Address]) -> u32
+        requires some { 0 < length at.now }
+        requires few { length at.now ≤ 16 }
+        requires short { All HasShortHost at.now }
+        ensures member { result ≡ redial_member seat.now at.now self.old.pool }
+        ensures within { result < length at.now }
+        ensures plain { self.new ≡ after_redial seat.now at.now self.old }
+    {
+        self.opens = self.opens.saturating_add(1);
+        let Some(place) = self.roster.seat(seat) else {
+            return 0;
+        };
+        let member = self.roster.member_for(seat.class, at, Some(seat));
+        self.roster.move_to(place, member, &at[member as usize]);
+        member
+    }
+}

@@ -1,0 +1,37 @@
+-- A number for each key, by which its sets are found (this project's own)
+use Rattle.std.specs.Prelude.{ℕ, ◌+◌, ◌*◌, ◌^◌, ◌%◌, List, fold, unsigned_abs}
+use Rattle.z_types.specs.declared.key.SetKey.{SetKey}
+use Rattle.z_types.specs.declared.query.Attr.{Attr}
+use Rattle.z_types.specs.declared.query.Term.{Term}
+use Rattle.z_types.specs.declared.query.Term.TheVariants.{General, Number, Words}
+use Rattle.z_types.specs.Tree.{Tree, leaf, operand, and, or, and_not}
+
+-- a number of 64 bits, changed by another
+abbrev pub mixed : ℕ → ℕ → ℕ
+mixed digest part = (digest * 1099511628211 + part) % 2 ^ 64
+
+-- changed by names, each by a 1 and its octets
+abbrev pub names_mixed : ℕ → List (List ℕ) → ℕ
+names_mixed digest names = fold (λ d name. fold mixed (mixed d 1) name) digest names
+
+-- changed by attributes, each by its kind and its value
+abbrev pub attributes_mixed : ℕ → List Attr → ℕ
+attributes_mixed digest attributes = fold (λ d a. mixed (mixed d a.kind) a.value) digest attributes
+
+-- changed by a term: by which it is, and its octets or its number without the sign
+abbrev pub term_mixed : ℕ → Term → ℕ
+term_mixed digest (General text) = fold mixed (mixed digest 2) text
+term_mixed digest (Number number) = mixed (mixed digest 3) (unsigned_abs number)
+term_mixed digest (Words text) = fold mixed (mixed digest 4) text
+
+-- changed by a structure: by an operand's parts, or by which operator it is and both sides
+abbrev pub tree_mixed : Tree → ℕ → ℕ
+tree_mixed (leaf attributes term) digest = term_mixed (attributes_mixed digest attributes) term
+tree_mixed (operand name) digest = fold mixed (mixed digest 5) name
+tree_mixed (and l r) digest = tree_mixed r (tree_mixed l (mixed digest 6))
+tree_mixed (or l r) digest = tree_mixed r (tree_mixed l (mixed digest 7))
+tree_mixed (and_not l r) digest = tree_mixed r (tree_mixed l (mixed digest 8))
+
+-- the number of a key: that of its databases and its query
+abbrev pub key_digest : SetKey → ℕ
+key_digest key = tree_mixed key.query.root (names_mixed 0 key.dbs)

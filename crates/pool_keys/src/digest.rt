@@ -1,0 +1,92 @@
+//! A number for each key.
+
+ghost use Rattle.std.specs.Prelude.{◌≡◌, ℕ, fold};
+ghost use Rattle.z_types.specs.declared.key.SetKey.{SetKey};
+ghost use Rattle.pool_keys.specs.Digests.{mixed, names_mixed, attributes_mixed, term_mixed, tree_mixed, key_digest};
+
+use z_types::{Attr, Node, Rpn, SetKey, Term, Text};
+
+/// A number for each key, by which a set is found. Two keys may have one number.
+pub trait Digest: Drop {
+    /// The number.
+    ghost digest: { SetKey → ℕ };
+
+    /// The number of a key.
+    fn digest(key: &SetKey) -> u64
+        ensures { result ≡ digest key.now };
+}
+
+/// A number that each part of a key changes.
+#[derive(Drop)]
+pub struct KeyDigest {}
+
+impl Digest for KeyDigest {
+    ghost digest = { key_digest };
+
+    fn digest(key: &SetKey) -> u64 {
+        mix_tree(mix_names(0, key.dbs.as_slice()), &key.query.root)
+    }
+}
+
+/// A number, changed by another.
+fn mix(digest: u64, part: u64) -> u64
+    ensures { result ≡ mixed digest part }
+{
+    digest.wrapping_mul(1_099_511_628_211).wrapping_add(part)
+}
+
+/// A number, changed by octets.
+fn mix_text(digest: u64, text: &[u8]) -> u64
+    ensures { result ≡ fold mixed digest text.now }
+{
+    text.iter()
+        .fold(digest, |digest, byte| mix(digest, u64::from(*byte)))
+}
+
+/// A number, changed by names.
+fn mix_names(digest: u64, names: &[Text]) -> u64
+    ensures { result ≡ names_mixed digest names.now }
+{
+    names.iter().fold(
+        digest,
+        |digest, name| mix_text(mix(digest, 1), name.as_slice()),
+    )
+}
+
+/// A number, changed by attributes.
+fn mix_attributes(digest: u64, attributes: &[Attr]) -> u64
+    ensures { result ≡ attributes_mixed digest attributes.now }
+{
+    attributes.iter().fold(digest, |digest, attribute| {
+        mix(
+            mix(digest, u64::from(attribute.kind)),
+            u64::from(attribute.value),
+        )
+    })
+}
+
+/// A number, changed by a term.
+fn mix_term(digest: u64, term: &Term) -> u64
+    ensures { result ≡ term_mixed digest term.now }
+{
+    match term {
+        Term::General(text) => mix_text(mix(digest, 2), text.as_slice()),
+        Term::Number(number) => mix(mix(digest, 3), number.unsigned_abs()),
+        Term::Words(text) => mix_text(mix(digest, 4), text.as_slice()),
+    }
+}
+
+/// A number, changed by a query. It calls itself as deep as the query is.
+fn mix_tree(digest: u64, query: &Rpn) -> u64
+    ensures { result ≡ tree_mixed query.now digest }
+{
+    match &query.node {
+        Node::Leaf(attributes, term) => {
+            mix_term(mix_attributes(digest, attributes.as_slice()), term)
+        }
+        Node::Set(name) => mix_text(mix(digest, 5), name.as_slice()),
+        Node::And(left, right) => mix_tree(mix_tree(mix(digest, 6), left), right),
+        Node::Or(left, right) => mix_tree(mix_tree(mix(digest, 7), left), right),
+        Node::AndNot(left, right) => mix_tree(mix_tree(mix(digest, 8), left), right),
+    }
+}
