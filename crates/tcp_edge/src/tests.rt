@@ -1,0 +1,15 @@
+//! The adapters over the real files, clock and sockets, on loopback.
+
+mod connections;
+mod files;
+mod links;
+
+use std::io::Result;
+use std::net::{SocketAddr, TcpListener, TcpStream};
+
+/// A listener on loopback, and its address.
+fn listening(runtime: &HostRuntime) -> Result<(TcpListener, SocketAddr)> {
+    let listener = TcpListener::bind(runtime, "127.0.0.1:0")?;
+    let address = listener.local_addr()?;
+    Ok((listener, address))
+}

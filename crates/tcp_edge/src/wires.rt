@@ -1,0 +1,244 @@
+//! The wire to test targets and to targets at hosts.
+
+ghost use Rattle.std.specs.Prelude.{◌≡◌, false, None};
+ghost use Rattle.z_types.specs.declared.address.Address.TheVariants as At;
+ghost use Rattle.gw_outside.specs.Counts.{WireCounts, no_counts};
+ghost use Rattle.gw_outside.specs.Happened.{AreSame};
+ghost use Rattle.gw_outside.specs.Wires.{IfLink, IsNewLink, SendFits, LookFits, SendsSteadily, LooksSteadily, dial_counted};
+ghost use Rattle.tcp_edge.specs.declared.links.EdgeLink.TheVariants as Edge;
+ghost use Rattle.tcp_edge.specs.Links.{arrived_at, peer_at};
+ghost use Rattle.tcp_edge.specs.Wires.{counts_in, happened_at};
+
+use crate::links::{EdgeLink, TcpLink, connect};
+use crate::tally::Tally;
+use gw_outside::{Dialled, Linked, Looked, Sent, Watched, Wire};
+use log::{Log, warn};
+use std::alloc::Global;
+use std::net::{Net, SocketAddr, TcpStream};
+use std::{io, str, time};
+use test_target::TestWorld;
+use test_wire::{TestLink, TestWire};
+use z_types::{Address, Text, World};
+
+/// A wire that serves test targets as a `TestWire`, and targets at hosts by a socket each. It logs each
+/// of these that failed.
+#[derive(Drop)]
+pub struct EdgeWire<'a, R: Net + time::Clock, L: Log> {
+    runtime: &'a R,
+    log: &'a L,
+    test: TestWire,
+    tally: Tally,
+}
+
+impl<'a, R: Net<Stream = TcpStream> + time::Clock, L: Log> EdgeWire<'a, R, L> {
+    /// A wire without links, which counted nothing yet.
+    pub fn new(alloc: Global, runtime: &'a R, log: &'a L) -> EdgeWire<'a, R, L>
+        ensures { counts_in result.tally ≡ no_counts }
+    {
+        EdgeWire {
+            runtime,
+            log,
+            test: TestWire::new(alloc),
+            tally: Tally::new(),
+        }
+    }
+
+    /// What it counted.
+    pub fn tally(&self) -> Tally
+        ensures { result ≡ self.now.tally }
+    {
+        self.tally
+    }
+
+    /// Makes a link to a test target.
+    #[tactic(auto, using(crate::proofs::WireLemmas::new_unsteady, crate::proofs::WireLemmas::same_unsteady))]
+    fn dial_test(&mut self, alloc: Global, address: &Address) -> Dialled<EdgeLink>
+        ensures link { IfLink result (IsNewLink ⟦<TestWorld as World>⟧ ⟦<EdgeLink as Linked>⟧
+            false address.now (counts_in self.new.tally)) }
+        ensures happened { AreSame (happened_at self.old.test) (happened_at self.new.test) }
+        ensures counts { WireCounts false
+            (dial_counted result) (counts_in self.old.tally) (counts_in self.new.tally) }
+    {
+        match self.test.dial(alloc, address) {
+            Dialled::Link(link) => {
+                self.tally.count_dial();
+                Dialled::Link(EdgeLink::Test(link))
+            }
+            Dialled::Failed => {
+                self.tally.count_fault();
+                Dialled::Failed
+            }
+            Dialled::Memory => Dialled::Memory,
+        }
+    }
+
+    /// Makes a link to a target at a host.
+    fn dial_host(&mut self, alloc: Global, host: &Text, port: u16) -> Dialled<EdgeLink>
+        ensures link { IfLink result (IsNewLink ⟦<TestWorld as World>⟧ ⟦<EdgeLink as Linked>⟧
+            false (At.Tcp host.now port) (counts_in self.new.tally)) }
+        ensures test { self.new.test ≡ self.old.test }
+        ensures counts { WireCounts false
+            (dial_counted result) (counts_in self.old.tally) (counts_in self.new.tally) }
+    {
+        match connect(self.runtime, host.as_slice(), port) {
+            Ok((stream, address)) => {
+                self.tally.count_dial();
+                let number = self.tally.dials;
+                Dialled::Link(EdgeLink::Tcp(TcpLink::new(alloc, stream, address, number)))
+            }
+            Err(error) => {
+                self.tell_unmade(host, port, error);
+                self.tally.count_fault();
+                Dialled::Failed
+            }
+        }
+    }
+
+    /// Sends a unit over a link, without counting.
+    #[tactic(auto, using(crate::proofs::WireLemmas::sends_untold))]
+    fn send_over(&mut self, alloc: Global, link: &mut EdgeLink, unit: &[u8]) -> Sent
+        ensures arrived { arrived_at link.new ≡ arrived_at link.old }
+        ensures peer { SendFits ⟦<TestWorld as World>⟧ unit.now (happened_at self.old.test)
+            (peer_at link.old) (peer_at link.new) result }
+        ensures steady { SendsSteadily ⟦<EdgeLink as Linked>⟧ unit.now link.old link.new
+            (happened_at self.old.test) (happened_at self.new.test) result }
+        ensures tally { self.new.tally ≡ self.old.tally }
+    {
+        match link {
+            EdgeLink::Test(link) => self.send_test(alloc, link, unit),
+            EdgeLink::Tcp(link) => self.send_host(link, unit),
+        }
+    }
+
+    /// Sends a unit over a link with a test target.
+    #[tactic(auto, using(crate::proofs::WireLemmas::fits_unsteady))]
+    fn send_test(&mut self, alloc: Global, link: &mut TestLink, unit: &[u8]) -> Sent
+        ensures arrived { arrived_at (Edge.Test link.new) ≡ arrived_at (Edge.Test link.old) }
+        ensures peer { SendFits ⟦<TestWorld as World>⟧ unit.now (happened_at self.old.test)
+            (peer_at (Edge.Test link.old)) (peer_at (Edge.Test link.new)) result }
+        ensures steady { SendsSteadily ⟦<EdgeLink as Linked>⟧ unit.now
+            (Edge.Test link.old) (Edge.Test link.new)
+            (happened_at self.old.test) (happened_at self.new.test) result }
+        ensures tally { self.new.tally ≡ self.old.tally }
+    {
+        self.test.send(alloc, link, unit)
+    }
+
+    /// Sends a unit over a link with a target at a host.
+    fn send_host(&self, link: &mut TcpLink, unit: &[u8]) -> Sent
+        ensures arrived { link.new.arrived ≡ link.old.arrived }
+        ensures number { link.new.number ≡ link.old.number }
+    {
+        match link.send(unit) {
+            Ok(()) => Sent::Sent,
+            Err(error) => {
+                self.tell_failed(link.address, error);
+                Sent::Failed
+            }
+        }
+    }
+
+    /// Looks at a link, without counting.
+    #[tactic(auto, using(crate::proofs::WireLemmas::looks_untold))]
+    fn look_over(&mut self, alloc: Global, link: &mut EdgeLink) -> Looked
+        ensures fits { LookFits (peer_at link.old) (peer_at link.new)
+            (arrived_at link.old) (arrived_at link.new) result }
+        ensures steady { LooksSteadily ⟦<EdgeLink as Linked>⟧ link.old link.new
+            (happened_at self.old.test) (happened_at self.new.test) result }
+        ensures tally { self.new.tally ≡ self.old.tally }
+    {
+        match link {
+            EdgeLink::Test(link) => self.look_test(alloc, link),
+            EdgeLink::Tcp(link) => self.look_host(link),
+        }
+    }
+
+    /// Looks at a link with a test target.
+    #[tactic(auto, using(crate::proofs::WireLemmas::looks_unsteady))]
+    fn look_test(&mut self, alloc: Global, link: &mut TestLink) -> Looked
+        ensures fits { LookFits (peer_at (Edge.Test link.old)) (peer_at (Edge.Test link.new))
+            (arrived_at (Edge.Test link.old)) (arrived_at (Edge.Test link.new)) result }
+        ensures steady { LooksSteadily ⟦<EdgeLink as Linked>⟧
+            (Edge.Test link.old) (Edge.Test link.new)
+            (happened_at self.old.test) (happened_at self.new.test) result }
+        ensures tally { self.new.tally ≡ self.old.tally }
+    {
+        self.test.look(alloc, link)
+    }
+
+    /// Looks at a link with a target at a host.
+    fn look_host(&self, link: &mut TcpLink) -> Looked
+        ensures fits { LookFits None None link.old.arrived.items link.new.arrived.items result }
+        ensures number { link.new.number ≡ link.old.number }
+    {
+        match link.look() {
+            Ok(looked) => looked,
+            Err(error) => {
+                self.tell_failed(link.address, error);
+                Looked::Failed
+            }
+        }
+    }
+
+    /// Logs a target that could not be dialled.
+    fn tell_unmade(&self, host: &Text, port: u16, error: io::Error) {
+        let name = str::from_utf8(host.as_slice()).unwrap_or("?");
+        warn!(self.log; "target {name}:{port} cannot be dialled: {error}");
+    }
+
+    /// Logs a target whose link failed.
+    fn tell_failed(&self, address: SocketAddr, error: io::Error) {
+        warn!(self.log; "target {address} failed: {error}");
+    }
+}
+
+impl<R: Net + time::Clock, L: Log> Watched for EdgeWire<'_, R, L> {
+    ghost use Rattle.std.specs.Prelude.{false};
+    ghost use Rattle.tcp_edge.specs.Wires.{counts_in, happened_at};
+
+    ghost counts = { λ wire. counts_in wire.tally };
+
+    ghost exact = { false };
+
+    ghost happened = { λ wire. happened_at wire.test };
+}
+
+impl<R: Net<Stream = TcpStream> + time::Clock, L: Log> Wire<TestWorld> for EdgeWire<'_, R, L> {
+    type Link = EdgeLink;
+
+    #[tactic(auto, using(crate::proofs::WireLemmas::same_self))]
+    fn dial(&mut self, alloc: Global, address: &Address) -> Dialled<EdgeLink> {
+        match address {
+            Address::Test(_) => self.dial_test(alloc, address),
+            Address::Tcp(host, port) => self.dial_host(alloc, host, *port),
+        }
+    }
+
+    fn send(&mut self, alloc: Global, link: &mut EdgeLink, unit: &[u8]) -> Sent {
+        let sent = self.send_over(alloc, link, unit);
+        self.tally.count_send(sent);
+        sent
+    }
+
+    fn look(&mut self, alloc: Global, link: &mut EdgeLink) -> Looked {
+        let looked = self.look_over(alloc, link);
+        self.tally.count_look(looked);
+        looked
+    }
+
+    fn arrived<'a>(&self, link: &'a EdgeLink) -> &'a [u8] {
+        match link {
+            EdgeLink::Test(link) => self.test.arrived(link),
+            EdgeLink::Tcp(link) => link.arrived.as_slice(),
+        }
+    }
+
+    fn consume(&mut self, link: &mut EdgeLink, count: usize) {
+        match link {
+            EdgeLink::Test(link) => self.test.consume(link, count),
+            EdgeLink::Tcp(link) => link.arrived.advance(count),
+        }
+    }
+
+    ghost exact_links = { λ e. e };
+}
