@@ -10,3 +10,5 @@ pub mod Mapped
 pub mod Faults
 pub mod Fault
 pub mod Sentences
+pub mod Laws
+pub mod Long

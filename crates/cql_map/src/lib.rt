@@ -3,9 +3,11 @@
 #![tactic(auto)]
 
 mod bib1;
+mod checks;
 mod fault;
 mod head;
 mod index;
+mod laws;
 mod leaf;
 mod map;
 mod operator;
@@ -13,5 +15,7 @@ mod relation;
 mod term;
 mod words;
 
+pub use checks::check;
 pub use fault::MapFault;
+pub use laws::{long_is_too_deep, mapped_or_faulty};
 pub use map::to_rpn;

@@ -106,7 +106,7 @@ fn map_term(alloc: Global, value: u32, row: Row, term: &Text) -> Result<Rpn, Map
 }
 
 /// Whether there is a sort.
-fn has_sort(query: &Cql) -> bool
+pub(crate) fn has_sort(query: &Cql) -> bool
     ensures { result ≡ has_sort query.now }
 {
     match &query.node {

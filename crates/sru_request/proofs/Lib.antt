@@ -2,3 +2,4 @@ mod EndLemmas
 mod NumberLemmas
 mod CheckLemmas
 mod FirstLemmas
+mod HeadStays

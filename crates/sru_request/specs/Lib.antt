@@ -6,3 +6,4 @@ pub mod Parameters
 pub mod Choices
 pub mod Firsts
 pub mod Checks
+pub mod Laws

@@ -8,6 +8,7 @@ mod choices;
 mod end;
 mod faults;
 mod head;
+mod laws;
 mod name;
 mod number;
 mod others;
@@ -17,5 +18,6 @@ mod target;
 
 pub use faults::{HeadFault, QueryFault};
 pub use head::{Get, HeadGot, MOST_FIELDS, MOST_HEAD_OCTETS, read_head};
+pub use laws::head_stays;
 pub use name::name_of;
 pub use query::{SruQuery, query_of};

@@ -1,0 +1,4 @@
+mod Limits
+mod WhatIsRead
+mod Beginning
+mod Ending

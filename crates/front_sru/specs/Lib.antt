@@ -1,0 +1,4 @@
+pub mod Kept
+pub mod Queries
+pub mod Gets
+pub mod Followed

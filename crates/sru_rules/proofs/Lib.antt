@@ -1,0 +1,10 @@
+mod OneReading
+mod OneCourse
+mod OneAnswer
+mod SomeText
+mod SomeAnswer
+mod Stays
+mod BothWorks
+mod Classes
+mod Mapped
+pub mod CanBegin

@@ -1,0 +1,9 @@
+pub mod Diagnostics
+pub mod Reading
+pub mod Course
+pub mod Asking
+pub mod Settling
+pub mod Run
+pub mod Answers
+pub mod Laws
+pub mod steps
