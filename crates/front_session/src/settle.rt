@@ -3,20 +3,16 @@
 ghost use Rattle.std.specs.Prelude.{◌≡◌, ◌≤◌, ◌<◌, ◌+◌, ◌^◌, [], None, IfOk};
 ghost use Rattle.limit_rules.specs.Limits.{most_records};
 ghost use Rattle.gateway_rules.specs.Given.{returned};
-ghost use Rattle.gateway_rules.specs.Marks.{marked_diag};
 ghost use Rattle.gateway_rules.specs.Settling as settling;
 ghost use Rattle.gateway_rules.specs.Works.{CanBegin, FitsWork};
 ghost use Rattle.front_session.specs.Settling.{ArePartsOf, IsAnswered, good_reply_to, only_why, reply_by_parts, searches_behind};
 
 use gateway_rules::{
-    count_returned, failed_reply, finished_reply, init_reply, present_reply, scan_reply,
-    search_reply,
+    count_returned, failed_reply, finished_reply, init_reply, marked_diag, present_reply,
+    scan_reply, search_reply,
 };
 use std::alloc::Global;
-use z_types::{
-    Condition, Diag, Fetched, List, Mark, Memory, Outcome, Reply, Request, ScanAnswer, Text, Work,
-    copy,
-};
+use z_types::{Diag, Fetched, List, Memory, Outcome, Reply, Request, ScanAnswer, Work, copy};
 
 /// A request that waits for what comes of its work.
 #[derive(Drop)]
@@ -134,26 +130,6 @@ fn no_entries(alloc: Global) -> ScanAnswer
         position: None,
         entries: List::new(alloc),
     }
-}
-
-/// The diagnostic that a mark gives.
-fn marked_diag(alloc: Global, mark: Mark, class: Text) -> Result<Option<Diag>, Memory>
-    ensures { IfOk result (λ diag. diag ≡ marked_diag mark class) }
-{
-    let (condition, addinfo) = match mark {
-        Mark::Plain => return Ok(None),
-        Mark::Link => (Condition::DatabaseUnavailable, class),
-        Mark::Silent(_) => (
-            Condition::TemporarySystemError,
-            Text::copy_of(alloc, b"patience")?,
-        ),
-        Mark::Gone => (Condition::ResultSetNoLongerExists, Text::new(alloc)),
-        Mark::Full(_) => (
-            Condition::TemporarySystemError,
-            Text::copy_of(alloc, b"sessions")?,
-        ),
-    };
-    Ok(Some(Diag::bib1(alloc, condition, addinfo)?))
 }
 
 /// The reply to the request that waits, and the hits that a Search found.

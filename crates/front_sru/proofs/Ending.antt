@@ -15,12 +15,12 @@ use Rattle.z_types.specs.declared.work.Work.{Work}
 use Rattle.route_config.specs.Sound.{IsSound}
 use Rattle.route_config.specs.declared.route.Route.{Route}
 use Rattle.gateway_rules.specs.Settling.{why_failed, found_hits}
-use Rattle.gateway_rules.specs.Works.{CanBegin, FitsWork, IsAskable}
+use Rattle.gateway_rules.specs.Works.{CanBegin, FitsWork, IsAskable, mark_of}
 use Rattle.sru_reply.specs.Reply.{reply}
 use Rattle.sru_rules.specs.declared.retrieval.Retrieval.{Retrieval}
 use Rattle.sru_rules.specs.Asking.{search_work, fetch_work, fetched_count}
 use Rattle.sru_rules.specs.Settling.{Next, answered, fetches, is_out_of_range, after_hits, after_search, fetch_answer, unless_failed}
-use Rattle.sru_rules.specs.steps.Works.{IsRetrieval, mark_of}
+use Rattle.sru_rules.specs.steps.Works.{IsRetrieval}
 use Rattle.sru_rules.proofs.CanBegin.{fetch_can_begin}
 use Rattle.front_sru.specs.Followed.{IsReady, next_in}
 use Rattle.front_sru.specs.Gets.{Awaits, IsAwaited, work_of, Served, IsPut, IsNextDone, IsEnded, next_behind}

@@ -12,7 +12,7 @@ use Rattle.z_types.specs.declared.sru.SruDiag.{SruDiag}
 use Rattle.z_types.specs.declared.work.Work.{Work}
 use Rattle.route_config.specs.declared.route.Database.{Database}
 use Rattle.route_config.specs.declared.route.Route.{Route}
-use Rattle.gateway_rules.specs.Works.{CanBegin, IsAskable}
+use Rattle.gateway_rules.specs.Works.{CanBegin, IsAskable, mark_of}
 use Rattle.sru_reply.specs.Bare.{bare}
 use Rattle.sru_reply.specs.Reply.{reply}
 use Rattle.sru_reply.specs.declared.bare.Refusal.TheVariants.{NotFound}
@@ -23,7 +23,6 @@ use Rattle.sru_rules.specs.Course.{database_of}
 use Rattle.sru_rules.specs.Reading.{Reading, IsReading}
 use Rattle.sru_rules.specs.Run.{Due, at_once, searches, due}
 use Rattle.sru_rules.specs.Settling.{Next, answered, fetches, refusal, fetch_answer, after_search}
-use Rattle.sru_rules.specs.steps.Works.{mark_of}
 use Rattle.front_sru.specs.Kept.{fetching}
 use Rattle.front_sru.specs.declared.begun.Begun.{Begun}
 use Rattle.front_sru.specs.declared.begun.Begun.TheVariants as begun

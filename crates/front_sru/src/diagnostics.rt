@@ -3,14 +3,13 @@
 
 ghost use Rattle.std.specs.Prelude.{◌≡◌, IfOk};
 ghost use Rattle.std.specs.Fmt.{decimal};
-ghost use Rattle.gateway_rules.specs.Marks as marks;
 ghost use Rattle.sru_request.specs.Checks as checks;
 ghost use Rattle.sru_rules.specs.Diagnostics as diagnostics;
 
 use cql_map::MapFault;
 use std::alloc::Global;
 use z_bib1::sru_of_diag;
-use z_types::{Condition, Diag, Mark, Memory, SruDiag, Text, copy};
+use z_types::{Diag, Memory, SruDiag, Text, copy};
 
 /// Query syntax error.
 const QUERY_SYNTAX_ERROR: u32 = 10;
@@ -95,24 +94,4 @@ fn addinfo_of(diag: Diag) -> Text
     ensures { result ≡ diag.addinfo }
 {
     diag.addinfo
-}
-
-/// The diagnostic that a mark gives.
-pub(crate) fn marked_diag(alloc: Global, mark: Mark, class: Text) -> Result<Option<Diag>, Memory>
-    ensures { IfOk result (λ diag. diag ≡ marks.marked_diag mark class) }
-{
-    let (condition, addinfo) = match mark {
-        Mark::Plain => return Ok(None),
-        Mark::Link => (Condition::DatabaseUnavailable, class),
-        Mark::Silent(_) => (
-            Condition::TemporarySystemError,
-            Text::copy_of(alloc, b"patience")?,
-        ),
-        Mark::Gone => (Condition::ResultSetNoLongerExists, Text::new(alloc)),
-        Mark::Full(_) => (
-            Condition::TemporarySystemError,
-            Text::copy_of(alloc, b"sessions")?,
-        ),
-    };
-    Ok(Some(Diag::bib1(alloc, condition, addinfo)?))
 }

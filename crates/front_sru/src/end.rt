@@ -11,9 +11,10 @@ ghost use Rattle.front_sru.specs.Followed.{IsReady, next_in};
 
 use crate::answer::{failure, fetch_answer, given, put_answer, refusal};
 use crate::diagnostics::out_of_range;
-use crate::outcomes::{Came, came_of, mark_of};
+use crate::outcomes::{Came, came_of};
 use crate::works::{fetch_work, fetched_count, is_out_of_range};
 use crate::{Begun, SruStage, SruState};
+use gateway_rules::mark_of;
 use multi_merge::total;
 use route_config::Route;
 use sru_rules::Retrieval;

@@ -1,12 +1,11 @@
 //! What came of a work.
 
 ghost use Rattle.std.specs.Prelude.{◌≡◌, IfOk};
-ghost use Rattle.sru_rules.specs.steps.Works as works;
 ghost use Rattle.front_sru.specs.Kept.{IsCameOf, nothing_came};
 
-use crate::diagnostics::marked_diag;
+use gateway_rules::marked_diag;
 use std::alloc::Global;
-use z_types::{Diag, Fetched, List, Mark, Memory, Outcome};
+use z_types::{Diag, Fetched, List, Memory, Outcome};
 
 /// What came of a work.
 #[derive(Drop)]
@@ -15,16 +14,6 @@ pub(crate) enum Came {
     Failed(Diag),
     /// Hits and records, each empty where there are none.
     Good(List<u32>, Fetched),
-}
-
-/// The mark of what came of a work.
-pub(crate) fn mark_of(outcome: &Outcome) -> Mark
-    ensures { result ≡ works.mark_of outcome.now }
-{
-    match outcome {
-        Outcome::Marked { mark, .. } => *mark,
-        _ => Mark::Plain,
-    }
 }
 
 /// What came of a work, in its parts.

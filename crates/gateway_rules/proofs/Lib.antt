@@ -6,3 +6,4 @@ pub mod Runs
 pub mod SomeAnswer
 mod FairLegs
 pub mod Joined
+pub mod MarkLemmas

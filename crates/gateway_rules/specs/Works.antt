@@ -1,10 +1,11 @@
--- For contracts alone: which works are begun, what they may ask of targets, and which outcomes fit
--- them (this project's own)
+-- For contracts alone: which works are begun, what they may ask of targets, which outcomes fit
+-- them, and under which mark (this project's own)
 use Rattle.std.specs.Prelude.{◌≡◌, ◌≢◌, ◌+◌, ◌≤◌, length, false}
 use Rattle.z_types.specs.Numbers.{ScanHasNumbers}
 use Rattle.z_types.specs.QueryMeasures.{leaf_cost}
 use Rattle.z_types.specs.declared.scan.ScanAsk.{ScanAsk}
 use Rattle.z_types.specs.MergedOrder.{total}
+use Rattle.z_types.specs.declared.marks.Mark.{Mark}
 use Rattle.z_types.specs.declared.marks.Mark.TheVariants.{Plain}
 use Rattle.z_types.specs.declared.outcome.Outcome.{Outcome}
 use Rattle.z_types.specs.declared.outcome.Outcome.TheVariants as outcome
@@ -51,3 +52,8 @@ FitsWork (work.Scan login leg ask) (outcome.Scanned answer) = Unit {0}
 FitsWork work (outcome.Refused diag) = Unit {0}
 FitsWork work (outcome.Marked mark class) = mark ≢ Plain
 FitsWork work other = ⊥
+
+-- the mark of what came of a work
+abbrev pub mark_of : Outcome → Mark
+mark_of (outcome.Marked mark class) = mark
+mark_of other = Plain

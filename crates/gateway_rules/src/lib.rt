@@ -6,6 +6,7 @@
 mod given;
 mod init;
 mod laws;
+mod marks;
 mod replies;
 mod statuses;
 
@@ -14,6 +15,7 @@ pub use init::{init_reply, is_accepted};
 pub use laws::{
     fair_legs, one_answer, one_end, one_reading, rest_ends, runs_go_on, some_answer, units_end,
 };
+pub use marks::{mark_of, marked_diag};
 pub use replies::{bad_unit_reply, failed_reply, finished_reply, limit_reply};
 
 #[cfg(test)]

@@ -15,5 +15,6 @@ pub mod RankGood
 mod RecordsSaid
 pub mod FinishedIs
 pub mod FinishedFit
+pub mod MarkSaid
 pub mod LegsAsked
 pub mod Allowed

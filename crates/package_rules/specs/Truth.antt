@@ -10,7 +10,7 @@ use Rattle.gateway_rules.specs.Fair.{IsFair}
 use Rattle.gateway_rules.specs.Marks.{IsAllowed}
 use Rattle.gateway_rules.specs.Outcomes.{classes_asked, outcome_of}
 use Rattle.gateway_rules.specs.Targets.{hits_of}
-use Rattle.gateway_rules.specs.Works.{FitsWork}
+use Rattle.gateway_rules.specs.Works.{FitsWork, mark_of as mark_of_outcome}
 use Rattle.leg.specs.Right.{AnswerFits, IsRight}
 use Rattle.leg.specs.Terms.{terms_of}
 use Rattle.package_rules.specs.declared.answered.Answered.{Answered}
@@ -48,6 +48,12 @@ FinishedIsOutcome w =
     (route : Route) (asked : Work) (first later : List Answered) → IsFair w route → IsSound route → AreThere route asked
     → HasWorldsHits w route asked → AreAnswered w route asked first later
     → finished route asked first later ≡ outcome_of w route asked (cause_of route (first ++ later))
+
+-- it has the mark of its cause
+abbrev pub FinishedHasMark : Type 0
+FinishedHasMark =
+    (route : Route) (asked : Work) (first later : List Answered)
+    → mark_of_outcome (finished route asked first later) ≡ (cause_of route (first ++ later)).mark
 
 -- on every route it fits the work
 abbrev pub FinishedFits : {W : Type 0} → world.Ghosts W → Type 0

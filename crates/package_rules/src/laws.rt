@@ -3,7 +3,7 @@
 //! they ensure is the law.
 
 ghost use Rattle.package_rules.specs.steps.Asking.{FetchesMayBeAsked, ScansMayBeAsked, SearchesMayBeAsked};
-ghost use Rattle.package_rules.specs.Truth.{CauseIsAllowed, FinishedFits, FinishedIsOutcome, FirstMarkDecides, OthersDecide};
+ghost use Rattle.package_rules.specs.Truth.{CauseIsAllowed, FinishedFits, FinishedHasMark, FinishedIsOutcome, FirstMarkDecides, OthersDecide};
 
 use z_types::World;
 
@@ -28,6 +28,11 @@ pub fn scans_may_be_asked()
 /// mark of the first leg that is marked, with its class, or else what the targets mean.
 pub fn finished_is_outcome<W: World>()
     ensures { FinishedIsOutcome W.World }
+{}
+
+/// What comes of a work by its legs' answers has the mark of their cause.
+pub fn finished_has_mark()
+    ensures { FinishedHasMark }
 {}
 
 /// What comes of a work by its legs' answers fits the work.

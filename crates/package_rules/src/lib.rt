@@ -5,13 +5,15 @@
 
 mod answered;
 mod laws;
+mod members;
 mod spans;
 #[cfg(test)]
 mod tests;
 
 pub use answered::Answered;
 pub use laws::{
-    cause_is_allowed, fetches_may_be_asked, finished_fits, finished_is_outcome, first_mark_decides,
-    scans_may_be_asked, searches_may_be_asked,
+    cause_is_allowed, fetches_may_be_asked, finished_fits, finished_has_mark, finished_is_outcome,
+    first_mark_decides, scans_may_be_asked, searches_may_be_asked,
 };
+pub use members::have_members;
 pub use spans::{Met, Span, spans_of};

@@ -4,7 +4,6 @@ use Rattle.z_types.specs.declared.diagnostic.Diag.{Diag}
 use Rattle.z_types.specs.declared.marks.Mark.TheVariants.{Plain, Link, Silent, Gone, Full}
 use Rattle.z_types.specs.declared.marks.Mark.{Mark}
 use Rattle.z_types.specs.declared.outcome.Fetched.{Fetched}
-use Rattle.z_types.specs.declared.outcome.Outcome.{Outcome}
 use Rattle.z_types.specs.MergedOrder.{total}
 use Rattle.z_types.specs.declared.schemas.Schema.{Schema}
 use Rattle.z_types.specs.declared.sru.SruAnswer.{SruAnswer}
@@ -13,15 +12,16 @@ use Rattle.z_types.specs.declared.world.World as world
 use Rattle.route_config.specs.declared.route.Database.{Database}
 use Rattle.route_config.specs.declared.route.Route.{Route}
 use Rattle.gateway_rules.specs.Marks.{Cause}
-use Rattle.gateway_rules.specs.Outcomes.{found, outcome_of, under_mark, plain_outcome}
+use Rattle.gateway_rules.specs.Outcomes.{found, outcome_of, plain_outcome}
 use Rattle.gateway_rules.specs.Targets.{hits_of}
+use Rattle.gateway_rules.proofs.MarkLemmas.{found-plain, mark-kept}
 use Rattle.sru_rules.specs.declared.retrieval.Retrieval.{Retrieval}
 use Rattle.sru_rules.specs.Asking.{search_work, fetch_work, fetched_count}
 use Rattle.sru_rules.specs.Laws.{SearchAnswers, FetchAnswers, FoundIsMeant, MarkIsKept}
 use Rattle.sru_rules.specs.Reading.{Reading}
 use Rattle.sru_rules.specs.Run.{answer_to, next_answer, get_answer, due, searches}
 use Rattle.sru_rules.specs.Settling.{answered, fetches, fetch_answer, is_out_of_range, after_search}
-use Rattle.sru_rules.specs.steps.Works.{HasFound, mark_of}
+use Rattle.sru_rules.specs.steps.Works.{HasFound}
 
 pub search_answers : {W : Type 0} → (w : world.Ghosts W) → SearchAnswers w
 search_answers w route database reading retrieval cause answer asks is =
@@ -76,21 +76,9 @@ found_is_meant w route retrieval hits has =
 
 -- ---- the mark
 
-under_kept : (mark : Mark) (class : List ℕ) (plainly : Outcome) → mark_of plainly ≡ Plain
-    → mark_of (under_mark mark class plainly) ≡ mark
-under_kept Plain class plainly h = h
-under_kept Link class plainly h = refl
-under_kept (Silent looks) class plainly h = refl
-under_kept Gone class plainly h = refl
-under_kept (Full sessions) class plainly h = refl
-
-found_plain : (said : Result (List ℕ) Diag) (records : List ℕ → Fetched) → mark_of (found said records) ≡ Plain
-found_plain (Ok hits) records = refl
-found_plain (Err diag) records = refl
-
 pub mark_is_kept : {W : Type 0} → (w : world.Ghosts W) → MarkIsKept w
 mark_is_kept w route retrieval hits cause = (
-  under_kept cause.mark cause.class (plain_outcome w route (search_work retrieval))
-      (found_plain (hits_of w route retrieval.legs retrieval.query) _),
-  under_kept cause.mark cause.class (plain_outcome w route (fetch_work route.schemas retrieval hits)) refl,
+  mark-kept cause.mark cause.class (plain_outcome w route (search_work retrieval))
+      (found-plain (hits_of w route retrieval.legs retrieval.query) _),
+  mark-kept cause.mark cause.class (plain_outcome w route (fetch_work route.schemas retrieval hits)) refl,
 )

@@ -15,7 +15,7 @@ use Rattle.gateway_rules.specs.Marks.{Cause, IsAllowed}
 use Rattle.gateway_rules.specs.OneAnswer.{AreMarksPlain}
 use Rattle.gateway_rules.specs.Outcomes.{outcome_of, classes_asked}
 use Rattle.gateway_rules.specs.Targets.{hits_of}
-use Rattle.gateway_rules.specs.Works.{CanBegin, IsAskable}
+use Rattle.gateway_rules.specs.Works.{CanBegin, IsAskable, mark_of}
 use Rattle.sru_reply.specs.Reply.{reply}
 use Rattle.sru_reply.specs.declared.bare.Refusal.{Refusal}
 use Rattle.sru_request.specs.declared.faults.HeadFault.{HeadFault}
@@ -30,7 +30,7 @@ use Rattle.sru_rules.specs.Course.{Course, ends, IsCourse, IsGetOf, HasGet, Head
 use Rattle.sru_rules.specs.Reading.{CqlText, IsCqlText, Reading, IsReading}
 use Rattle.sru_rules.specs.Run.{due, searches, next_of, get_answer, last_written, taken_at}
 use Rattle.sru_rules.specs.Settling.{answered, fetches, fetch_answer, after_hits}
-use Rattle.sru_rules.specs.steps.Works.{IsRetrieval, HasFound, mark_of}
+use Rattle.sru_rules.specs.steps.Works.{IsRetrieval, HasFound}
 
 -- ---- what HTTP adds
 

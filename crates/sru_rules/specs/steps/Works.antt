@@ -1,10 +1,6 @@
 -- For contracts alone: the two works of a GET, one behind the other (this project's own)
 use Rattle.std.specs.Prelude.{◌≡◌, ◌≤◌, ℕ, List, length}
 use Rattle.z_types.specs.Bounds.{most_legs}
-use Rattle.z_types.specs.declared.marks.Mark.{Mark}
-use Rattle.z_types.specs.declared.marks.Mark.TheVariants.{Plain}
-use Rattle.z_types.specs.declared.outcome.Outcome.{Outcome}
-use Rattle.z_types.specs.declared.outcome.Outcome.TheVariants.{Marked}
 use Rattle.z_types.specs.declared.world.World as world
 use Rattle.z_sets.specs.Askable.{IsAskableQuery}
 use Rattle.route_config.specs.declared.route.Route.{Route}
@@ -27,8 +23,3 @@ pub record IsRetrieval (retrieval : Retrieval) : Type 0 where
 abbrev pub HasFound : {W : Type 0} → world.Ghosts W → Route → Retrieval → (hits : List ℕ) → Type 0
 HasFound w route retrieval hits =
     next_of w route retrieval plain ≡ fetches hits (fetch_work route.schemas retrieval hits)
-
--- the mark of what came of a work
-abbrev pub mark_of : Outcome → Mark
-mark_of (Marked mark class) = mark
-mark_of other = Plain
