@@ -1,8 +1,10 @@
 -- What a roster keeps, and what is told of it
 use Rattle.std.proofs.Common.{◌≡◌, ℕ, suc, zero, ◌+◌, ◌-◌, ◌^◌, ◌<◌, ◌≤◌, min, nat_lt, true, false, cond, not, List, [], ◌∷◌, ◌++◌, length, get_or, set, map, filter, find, Contains, position, Some, is_some, IfSome, refl, sym, ◌∙◌, ap, subst, arith, All}
+use Rattle.std.specs.List.Sorted.{IsPermutation}
 use Rattle.std.proofs.lemmas.Bool.Decides.{leb_tells}
 use Rattle.std.proofs.lemmas.List.{map-set, map-append, get_or-map, length-map}
-use Rattle.std.proofs.lemmas.List.Elements.{All-filter, All-nil, All-cons, All-map, All-set, All-push, All-weaker, All-contains}
+use Rattle.std.proofs.lemmas.List.Sorted.{Contains-permutation}
+use Rattle.std.proofs.lemmas.List.Elements.{All-filter, All-nil, All-cons, All-map, All-set, All-push, All-weaker}
 use Rattle.z_types.specs.declared.key.SetKey.{SetKey}
 use Rattle.z_types.specs.equality.Key as keys
 use Rattle.z_types.specs.declared.address.Address.{Address}
@@ -246,7 +248,7 @@ module _ {S : Type 0} where
     roster_lacking after bs lacks r = relisted after bs r (λ k d w i e h whole. let bad : true ≡ false = sym whole ∙ lacks in cc)
 
     -- an index that is filled with the pairs of all sets
-    pub roster_filled : (after : Indexed) (ps : List Pair) (bs : List (Berth (Session S))) → All (Holds after) ps → All (λ b. AreGathered digest ps b.session.number (sets_of b.session.stand)) bs → IsRoster digest index x oldest ttl bs → IsRoster digest after x oldest ttl bs
-    roster_filled after ps bs holds gathered r =
+    pub roster_filled : (after : Indexed) (ps : List Pair) (bs : List (Berth (Session S))) → IsPermutation ps after.pairs → All (λ b. AreGathered digest ps b.session.number (sets_of b.session.stand)) bs → IsRoster digest index x oldest ttl bs → IsRoster digest after x oldest ttl bs
+    roster_filled after ps bs moved gathered r =
         relisted after bs r (λ k d w. All-weaker (λ (e : Entry). Contains ps (pair (digest e.key) (get_or bs k d).session.number)) (λ e. Holds after (pair (digest e.key) (get_or bs k d).session.number))
-        (λ e there. All-contains (Holds after) ps (pair (digest e.key) (get_or bs k d).session.number) holds there) (sets_of (get_or bs k d).session.stand) (gathered k d w))
+        (λ e there whole. Contains-permutation ps after.pairs (pair (digest e.key) (get_or bs k d).session.number) moved there) (sets_of (get_or bs k d).session.stand) (gathered k d w))

@@ -1,10 +1,12 @@
 -- Pairs in order
-use Rattle.std.proofs.Common.{◌≡◌, ℕ, ◌+◌, ◌*◌, ◌^◌, ◌<◌, ◌≤◌, Bool, true, false, nat_lt, nat_eq, List, length, get_or, Contains, None, Some, refl, sym, ◌∙◌, ap, subst, arith}
+use Rattle.std.proofs.Common.{◌≡◌, ◌⊎◌, inl, inr, ℕ, zero, suc, ◌+◌, ◌*◌, ◌^◌, ◌<◌, ◌≤◌, Bool, true, false, if◌then◌else◌, nat_lt, nat_eq, List, ◌∷◌, length, get_or, Contains, None, Some, refl, sym, ◌∙◌, ap, subst, arith}
+use Rattle.std.specs.List.{insert}
 use Rattle.std.specs.List.Sorted.{IsPartitionPoint, IsNonDecreasingBy}
 use Rattle.std.proofs.lemmas.Bool.{eqb-true}
 use Rattle.std.specs.Cmp.{nat_eq_equiv}
 use Rattle.std.proofs.lemmas.Bool.Decides.{leb_tells}
 use Rattle.std.proofs.lemmas.List.{get_or_default}
+use Rattle.std.proofs.lemmas.List.Sorted.{Contains-permutation, IsPermutation-insert, IsPermutation-sym}
 use Rattle.pool_keys.specs.declared.index.Pair.{Pair}
 use Rattle.pool_keys.specs.Pairs.{rank, is_before, pair, IsNext}
 
@@ -22,6 +24,21 @@ one_pair p q a k =
 -- a pair that is read at a place is there
 pub there : (ps : List Pair) (i : ℕ) (d q : Pair) → i < length ps → (get_or ps i d).digest ≡ q.digest → nat_eq (get_or ps i d).number q.number ≡ true → Contains ps q
 there ps i d q within h k = (i, within, get_or_default ps i q d within ∙ one_pair (get_or ps i d) q h k)
+
+-- what stands in a list with a head stands in the rest, or is the head
+in_cons : (xs : List Pair) (y p : Pair) → Contains (y ∷ xs) p → Contains xs p ⊎ (p ≡ y)
+in_cons xs y p (zero, within, e) = inr (sym e)
+in_cons xs y p (suc k, within, e) = inl (k, omega arith, e)
+
+-- what stands after a pair was put in stood before, or is that pair
+in_insert : (xs : List Pair) (i : ℕ) (y p : Pair) → Contains (insert xs i y) p → Contains xs p ⊎ (p ≡ y)
+in_insert xs i y p h =
+    in_cons xs y p (Contains-permutation (insert xs i y) (y ∷ xs) p (IsPermutation-sym (y ∷ xs) (insert xs i y) (IsPermutation-insert xs i y)) h)
+
+-- whether or not there was room for it
+pub in_put : (put : Bool) (xs : List Pair) (i : ℕ) (y p : Pair) → Contains (if put then insert xs i y else xs) p → Contains xs p ⊎ (p ≡ y)
+in_put true xs i y p h = in_insert xs i y p h
+in_put false xs i y p h = inl h
 
 abbrev pub Point : Pair → List Pair → ℕ → Type 0
 Point q ps i = IsPartitionPoint (λ p. is_before q p ≡ true) (λ p. is_before q p ≡ false) ps i
@@ -51,6 +68,7 @@ module _ (ps : List Pair) (digest from i : ℕ) (point : Point (pair digest from
   -- none stands where the pairs end there
   pub none_next : (whole : Bool) → length ps ≤ i → IsNext (record { pairs = ps; whole = whole }) digest from None
   none_next whole le = record {
+    there = tt;
     from_there = tt;
     least = λ m h s c. none_before m c.0 h c.2 (is_under c.0 i (length ps) c.1 le);
   }
@@ -76,6 +94,7 @@ module _ (ps : List Pair) (digest from i : ℕ) (point : Point (pair digest from
     -- a pair of another digest
     pub other_next : (whole : Bool) → nat_eq p.digest digest ≡ false → IsNext (record { pairs = ps; whole = whole }) digest from None
     other_next whole other = record {
+      there = tt;
       from_there = tt;
       least = λ m h s c. let e = one_next m h s c in let bad : true ≡ false = sym (ap (λ d. nat_eq d digest) e.0 ∙ nat_eq_equiv.refl digest) ∙ other in cc;
     }
@@ -83,6 +102,7 @@ module _ (ps : List Pair) (digest from i : ℕ) (point : Point (pair digest from
     -- a pair of the digest
     pub this_next : (whole : Bool) → p.digest ≡ digest → IsNext (record { pairs = ps; whole = whole }) digest from (Some p.number)
     this_next whole same = record {
+      there = (i, within, get_or_default ps i (pair digest p.number) p within ∙ sym is ∙ (λ j. record { digest = same j; number = p.number }));
       from_there = from_le digest p.digest p.number from from_here same;
       least = λ m h s c. (one_next m h s c).1;
     }

@@ -1,5 +1,5 @@
 -- For contracts alone: pairs of digests and numbers (this project's own)
-use Rattle.std.specs.Prelude.{◌≡◌, ℕ, ◌+◌, ◌*◌, ◌^◌, ◌≤◌, ◌<◌, nat_lt, Bool, true, List, Contains, Option, None, Some, IfSome}
+use Rattle.std.specs.Prelude.{◌≡◌, ◌⊎◌, ℕ, ◌+◌, ◌*◌, ◌^◌, ◌≤◌, ◌<◌, nat_lt, Bool, true, List, Contains, Option, None, Some, IfSome}
 use Rattle.pool_keys.specs.declared.index.Pair.{Pair}
 
 -- the pairs, and whether none is lacking that was put in
@@ -22,6 +22,10 @@ Holds index p = index.whole ≡ true → Contains index.pairs p
 abbrev pub Grows : Indexed → Indexed → Type 0
 Grows old new = (p : Pair) → Holds old p → Holds new p
 
+-- what is there was there before, or is that pair
+abbrev pub GainsAtMost : Indexed → Pair → Indexed → Type 0
+GainsAtMost old one new = (p : Pair) → Contains new.pairs p → Contains old.pairs p ⊎ (p ≡ one)
+
 abbrev pub pair : ℕ → ℕ → Pair
 pair digest number = record { digest = digest; number = number }
 
@@ -30,7 +34,8 @@ abbrev pub IsAtMost : Option ℕ → ℕ → Type 0
 IsAtMost None number = ⊥
 IsAtMost (Some found) number = found ≤ number
 
--- the least number from one on that stands with a digest: none that does is less than it
+-- the least number from one on that stands with a digest: it does, and none that does is less than it
 pub record IsNext (index : Indexed) (digest from : ℕ) (found : Option ℕ) : Type 0 where
+  pub there : IfSome found (λ n. Contains index.pairs (pair digest n))
   pub from_there : IfSome found (λ n. from ≤ n)
   pub least : (m : ℕ) → from ≤ m → m < 2 ^ 64 → Contains index.pairs (pair digest m) → IsAtMost found m

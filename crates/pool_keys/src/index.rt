@@ -1,9 +1,9 @@
 //! The digests of keys in order, with the numbers of the sessions that hold sets of them.
 
-ghost use Rattle.std.specs.Prelude.{◌≡◌, ◌≤◌, true, false, [], length, Contains, if◌then◌else◌, All};
+ghost use Rattle.std.specs.Prelude.{◌≡◌, ◌≤◌, true, false, [], length, Contains, if◌then◌else◌};
 ghost use Rattle.std.specs.List.{insert};
 ghost use Rattle.std.specs.List.Sorted.{IsPartitionPoint, IsNonDecreasingBy, IsPermutation};
-ghost use Rattle.pool_keys.specs.Pairs.{rank, is_before, Holds, Grows, IsNext};
+ghost use Rattle.pool_keys.specs.Pairs.{rank, is_before, Holds, Grows, GainsAtMost, IsNext};
 
 use std::alloc::Global;
 use std::marker::Model;
@@ -125,6 +125,9 @@ impl KeyIndex {
     pub fn admit(&mut self, pair: Pair)
         ensures holds { Holds self.new pair }
         ensures grows { Grows self.old self.new }
+        ensures only { GainsAtMost self.old pair self.new }
+        ensures lacks { self.old.whole ≡ false → self.new ≡ self.old }
+        ensures full { self.new.whole ≡ false → self.new.pairs ≡ self.old.pairs }
     {
         if !self.whole {
             return;
@@ -149,7 +152,8 @@ impl KeyIndex {
 
     /// Holds these pairs in place of its own, in order, and is whole.
     pub fn refill(&mut self, mut pairs: Vec<Pair>)
-        ensures { All (Holds self.new) pairs.items }
+        ensures pairs { IsPermutation pairs.items self.new.pairs }
+        ensures whole { self.new.whole ≡ true }
     {
         sort(pairs.as_mut_slice());
         self.pairs = pairs;

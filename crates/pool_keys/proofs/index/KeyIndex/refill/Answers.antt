@@ -1,8 +1,7 @@
-use Rattle.std.proofs.Common.{◌≡◌, ◌∙◌, drop, length, get_or, sym, subst, Contains}
+use Rattle.std.proofs.Common.{◌≡◌, ◌∙◌, drop, length, sym, subst}
 use Rattle.std.specs.List.Sorted.{IsNonDecreasingBy, IsPermutation}
 use Rattle.std.proofs.lemmas.List.{take_at}
-use Rattle.std.proofs.lemmas.List.Elements.{Contains-get_or}
-use Rattle.std.proofs.lemmas.List.Sorted.{Contains-permutation, length_permutation}
+use Rattle.std.proofs.lemmas.List.Sorted.{length_permutation}
 use Rattle.pool_keys.specs.Pairs.{rank}
 use Rattle.pool_keys.proofs.index.KeyIndex.refill.Goals as goal
 
@@ -12,10 +11,10 @@ invariant_of-self c =
     let long : length ys ≡ c.args.pairs.len = length_permutation c.as_mut_slice.result.now ys c.sort.ensures.same ∙ c.as_mut_slice.ensures.len in
     subst (IsNonDecreasingBy rank) (sym (take_at ys (drop (length ys) c.args.pairs.items) c.args.pairs.len long)) c.sort.ensures.order
 
-pub returns : goal.returns
-returns c =
+pub returns-clause-pairs : goal.returns-clause-pairs
+returns-clause-pairs c =
     let ys = c.sort.new.pairs in
     let xs = c.args.pairs.items in
     let long : length ys ≡ c.args.pairs.len = length_permutation c.as_mut_slice.result.now ys c.sort.ensures.same ∙ c.as_mut_slice.ensures.len in
     let moved = subst (λ zs. IsPermutation zs ys) c.as_mut_slice.ensures.value c.sort.ensures.same in
-    λ k d h e. let x = get_or xs k d in subst (λ zs. Contains zs x) (sym (take_at ys (drop (length ys) xs) c.args.pairs.len long)) (Contains-permutation xs ys x moved (Contains-get_or xs k d h))
+    subst (IsPermutation xs) (sym (take_at ys (drop (length ys) xs) c.args.pairs.len long)) moved
