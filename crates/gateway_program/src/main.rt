@@ -1,9 +1,6 @@
 //! The program: the top call over the real files, output and test targets.
 #![tactic(auto)]
 
-mod descriptors;
-mod files;
-mod output;
 mod program;
 #[cfg(test)]
 mod tests;

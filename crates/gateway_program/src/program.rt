@@ -1,11 +1,10 @@
 //! The program over the real files, output and test targets.
 
-use crate::files::SystemFiles;
-use crate::output::SystemOutput;
 use crate::words::words;
 use gateway_top::{Status, command};
 use std::process::ExitCode;
 use std::{io, rt};
+use tcp_edge::{SystemFiles, WriterSink};
 use test_target::TestWorld;
 use z_types::Memory;
 
@@ -14,7 +13,7 @@ use z_types::Memory;
 pub(crate) fn run<R: rt::Env + rt::Files + Print + AllocGlobal>(runtime: &R) -> ExitCode {
     let alloc = runtime.alloc();
     let mut files = SystemFiles::new(runtime);
-    let mut output = SystemOutput::new(io::writer(runtime));
+    let mut output = WriterSink::new(io::writer(runtime));
     let status = match words(alloc, runtime) {
         Ok(words) => command(alloc, words.as_slice(), &mut files, &mut output, &TestWorld),
         Err(Memory) => Status::Memory,

@@ -1,7 +1,5 @@
-//! The adapters over the system: its files, its output and the words that it hands on.
+//! The commands over the system's files and output, and the words that the system hands on.
 
-use crate::files::SystemFiles;
-use crate::output::SystemOutput;
 use crate::words::words;
 use gateway_top::{Status, command};
 use gw_memory::MemorySink;
@@ -10,6 +8,7 @@ use std::env::FillError;
 use std::fs::OpenOptions;
 use std::rt::Env;
 use std::test::Fail;
+use tcp_edge::{SystemFiles, WriterSink};
 use test_target::TestWorld;
 use z_types::{List, Memory, Text};
 
@@ -71,7 +70,7 @@ fn status_at_a_full_output(runtime: &HostRuntime, line: &[&str]) -> Result<Statu
     let full = OpenOptions::new().write(true).open(runtime, "/dev/full")?;
     let words = texts(runtime.alloc(), line)?;
     let mut files = SystemFiles::new(runtime);
-    let mut out = SystemOutput::new(full);
+    let mut out = WriterSink::new(full);
     let alloc = runtime.alloc();
     Ok(command(alloc, words.as_slice(), &mut files, &mut out, &TestWorld))
 }
