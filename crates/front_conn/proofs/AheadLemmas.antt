@@ -1,6 +1,6 @@
 -- What a connection goes on with decides what its step did.
-use Rattle.std.proofs.Common.{◌≡◌, ℕ, Bool, true, false, List, [], ◌∷◌, ◌++◌, length, Option, None, refl, sym, ap, ◌∙◌, subst, inl, inr, arith, length-append}
-use Rattle.std.specs.Prelude.{if◌then◌else◌, IsSome}
+use Rattle.std.proofs.Common.{◌≡◌, ℕ, Bool, true, false, List, [], ◌∷◌, ◌++◌, length, refl, sym, ap, ◌∙◌, subst, inl, inr, arith, length-append}
+use Rattle.std.specs.Prelude.{if◌then◌else◌}
 use Rattle.std.specs.Char.{is_ascii_alphabetic}
 use Rattle.z_types.specs.declared.marks.End.{End}
 use Rattle.z_types.specs.declared.marks.End.TheVariants.{Finished, Cut}
@@ -8,9 +8,9 @@ use Rattle.z_ber.specs.Frames.{IsFrame}
 use Rattle.z_frame.specs.Framing.{Framing, IsGiven}
 use Rattle.gateway_rules.specs.Answers as kind
 use Rattle.gateway_rules.specs.Answers.{kind_of, IsOpen, IsBad}
-use Rattle.front_conn.specs.States.{ConnectionState}
-use Rattle.front_conn.specs.Steps.{IsIdle, NothingWaits, AreUnfinished, BeginsWithLetter}
-use Rattle.front_conn.specs.Ahead.{AreAhead, IsOctetAhead, StaysGood, Stays, is_letter_first, end_or_nothing}
+use Rattle.front_conn.specs.steps.States.{ConnectionState}
+use Rattle.front_conn.specs.steps.Steps.{NothingWaits, AreUnfinished, BeginsWithLetter}
+use Rattle.front_conn.specs.steps.Ahead.{AreAhead, IsOctetAhead, StaysGood, Stays, is_letter_first, end_or_nothing}
 use Rattle.front_conn.specs.declared.ahead.Ahead.TheVariants.{Nothing, Ended, Bad, Whole}
 use Rattle.front_conn.proofs.EndLemmas.{EndsSo, BadSo, frame-octets}
 
@@ -55,7 +55,7 @@ nothing-one : (has_ended : Bool) (other : End) → Nothing ≡ end_or_nothing ha
 nothing-one true other h = absurd cc
 nothing-one false other h = refl
 
-nothing-octet : (letter has_ended : Bool) (old new : Framing) (state : ConnectionState) (octet : ℕ) (octets : List ℕ)
+nothing-octet : {S : Type 0} (letter has_ended : Bool) (old new : Framing) (state : ConnectionState S) (octet : ℕ) (octets : List ℕ)
     → state.at ≡ old.end → is_letter_first old.end octet ≡ letter → old.rest ≡ octet ∷ octets
     → IsOctetAhead letter has_ended old new Nothing
     → (has_ended ≡ false) × AreUnfinished state (octet ∷ octets) × StaysGood old new
@@ -67,7 +67,7 @@ nothing-octet false has_ended old new state octet octets at first rest h =
     (nothing-one has_ended (Cut (length old.rest)) h.0, (no, subst IsOpen rest h.1), h.2)
 
 -- no whole unit has come, and the input goes on
-pub ahead-nothing : (left : List ℕ) (has_ended : Bool) (old new : Framing) (state : ConnectionState) → state.at ≡ old.end
+pub ahead-nothing : {S : Type 0} (left : List ℕ) (has_ended : Bool) (old new : Framing) (state : ConnectionState S) → state.at ≡ old.end
     → old.rest ≡ left → AreAhead left has_ended old new Nothing
     → (has_ended ≡ false) × AreUnfinished state left × StaysGood old new
 ahead-nothing [] has_ended old new state at rest h = (nothing-one has_ended Finished h.0, tt, h.1)
@@ -123,31 +123,25 @@ ahead-whole (octet ∷ octets) has_ended old new start end h =
 
 -- ---- what waits
 
--- a connection that goes on is not idle where something waits
-busy : (state : ConnectionState) → state.end ≡ None → (NothingWaits state → ⊥) → ¬ IsIdle state
-busy state goes waits (inl ended) =
-    let e : false ≡ true = subst (λ (e : Option End). IsSome e) goes ended in
-    absurd cc
-busy state goes waits (inr nothing) = waits nothing
-
-bad-waits : (state : ConnectionState) (left : List ℕ) (at : ℕ) → BadSo state.at left at → AreUnfinished state left → ⊥
+bad-waits : {S : Type 0} (state : ConnectionState S) (left : List ℕ) (at : ℕ) → BadSo state.at left at → AreUnfinished state left → ⊥
 bad-waits state [] at so un = so
 bad-waits state (octet ∷ octets) at (inl so) un = un.0 (so.0, so.2)
 bad-waits state (octet ∷ octets) at (inr so) un = so.0 un.1.1
 
 -- the end of the input waits
-pub busy-ended : (state : ConnectionState) → state.end ≡ None → state.has_ended ≡ true → ¬ IsIdle state
-busy-ended state goes ended = busy state goes (λ nothing. let e : true ≡ false = sym ended ∙ nothing.goes_on in absurd cc)
+pub busy-ended : {S : Type 0} (state : ConnectionState S) → state.has_ended ≡ true → ¬ NothingWaits state
+busy-ended state ended nothing = let e : true ≡ false = sym ended ∙ nothing.goes_on in absurd cc
 
 -- octets that are no unit wait
-pub busy-bad : (state : ConnectionState) (at : ℕ) → state.end ≡ None → BadSo state.at state.left at → ¬ IsIdle state
-busy-bad state at goes so = busy state goes (λ nothing. bad-waits state state.left at so nothing.unfinished)
+pub busy-bad : {S : Type 0} (state : ConnectionState S) (at : ℕ) → BadSo state.at state.left at → ¬ NothingWaits state
+busy-bad state at so nothing = bad-waits state state.left at so nothing.unfinished
 
-whole-waits : (state : ConnectionState) (left unit rest : List ℕ) → IsFrame unit → left ≡ unit ++ rest → AreUnfinished state left → ⊥
+whole-waits : {S : Type 0} (state : ConnectionState S) (left unit rest : List ℕ) → IsFrame unit → left ≡ unit ++ rest
+    → AreUnfinished state left → ⊥
 whole-waits state [] unit rest f e un = omega (arith, ap length e, length-append unit rest, frame-octets unit f)
 whole-waits state (octet ∷ octets) unit rest f e un = un.1.0 (unit, rest, f, e)
 
 -- a unit waits
-pub busy-whole : (state : ConnectionState) (unit rest : List ℕ) → state.end ≡ None → IsFrame unit → state.left ≡ unit ++ rest
-    → ¬ IsIdle state
-busy-whole state unit rest goes f e = busy state goes (λ nothing. whole-waits state state.left unit rest f e nothing.unfinished)
+pub busy-whole : {S : Type 0} (state : ConnectionState S) (unit rest : List ℕ) → IsFrame unit → state.left ≡ unit ++ rest
+    → ¬ NothingWaits state
+busy-whole state unit rest f e nothing = whole-waits state state.left unit rest f e nothing.unfinished

@@ -17,7 +17,6 @@ use Rattle.gateway_rules.specs.Answers as kind
 use Rattle.gateway_rules.specs.Answers.{Answers, Kind, kind_of, IsReceived, IsOpen, IsBad, IsCourseOf, RestLeadsTo}
 use Rattle.gateway_rules.specs.Course as course
 use Rattle.gateway_rules.specs.Course.{Received, octets_of, ends}
-use Rattle.gateway_rules.specs.OneAnswer.{AreMarksPlain}
 use Rattle.gateway_rules.specs.Runs.{marks_of, written_as}
 use Rattle.gateway_rules.specs.Replies.{bad_unit_reply}
 use Rattle.gateway_rules.specs.Session as session
@@ -25,9 +24,9 @@ use Rattle.gateway_rules.specs.Session.{run, stopped}
 use Rattle.gateway_rules.specs.State.{new_client, at_the_start}
 use Rattle.gateway_rules.proofs.OneEnding.{extent-filled}
 use Rattle.gateway_rules.proofs.Runs.{rest-ends}
-use Rattle.front_conn.specs.States.{ConnectionState, StandsBehind, StandsOrEnded, HasEnded, BeginsWithUnits, MayCome}
-use Rattle.front_conn.specs.Steps.{KeepsState}
-use Rattle.front_conn.proofs.StateLemmas.{kind-more, kind-fed}
+use Rattle.front_conn.specs.steps.States.{BeginsWithUnits, ConnectionState, MayCome, Rests}
+use Rattle.front_conn.specs.steps.Steps.{KeepsState}
+use Rattle.front_conn.proofs.StateLemmas.{kind-fed, kind-more, of-ended, rests-of}
 
 -- ---- a connection without units
 
@@ -49,39 +48,39 @@ kind-ended w route bytes written of_kind last end same is out = record {
 }
 
 -- a state that stands behind no units has no marks, and nothing was written
-pub record IsFirst (fed written : List ℕ) (state : ConnectionState) : Type 0 where
+pub record IsFirst {S : Type 0} (fed written : List ℕ) (state : ConnectionState S) : Type 0 where
   pub fed-is : fed ≡ state.left
   pub marks : state.marks ≡ []
   pub out : written ++ state.out ≡ []
 
-first-state : {W : Type 0} (w : world.Ghosts W) (route : Route) (fed written : List ℕ) (state : ConnectionState)
-    (sb : StandsBehind w route fed written state) → sb.units ≡ [] → IsFirst fed written state
-first-state w route fed written state sb e =
-    let got : stopped [] sb.causes new_client (session.standing at_the_start) ≡ sb.got =
-    ap (λ u. run w route new_client (course.course route at_the_start u) sb.causes) (sym e) ∙ sb.has_run.runs in
-    let causes : sb.causes ≡ [] = ap (λ r. r.left) got ∙ sb.has_run.none_left in
+first-state : {W S : Type 0} (w : world.Ghosts W) (route : Route) (fed written : List ℕ) (state : ConnectionState S)
+    (rb : Rests w route fed written state) → rb.units ≡ [] → IsFirst fed written state
+first-state w route fed written state rb e =
+    let got : stopped [] rb.answered.causes new_client (session.standing at_the_start) ≡ rb.answered.got =
+    ap (λ u. run w route new_client (course.course route at_the_start u) rb.answered.causes) (sym e) ∙ rb.answered.has_run.runs in
+    let causes : rb.answered.causes ≡ [] = ap (λ r. r.left) got ∙ rb.answered.has_run.none_left in
     record {
-      fed-is = sb.spelled ∙ ap (λ u. octets_of u ++ state.left) e;
-      marks = sym sb.of_marks ∙ ap marks_of causes;
-      out = sb.replies ∙ ap (λ r. written_as r.replies) (sym got);
+      fed-is = rb.spelled ∙ ap (λ u. octets_of u ++ state.left) e;
+      marks = sym rb.answered.of_marks ∙ ap marks_of causes;
+      out = rb.answered.replies ∙ ap (λ r. written_as r.replies) (sym got);
     }
 
 -- ---- the rest
 
 -- the answers where the rest of the octets ends the session
-rest-answers : {W : Type 0} (w : world.Ghosts W) (route : Route) (fed written more : List ℕ) (old new : ConnectionState)
-    (last : Option Reply) (end : End) (sb : StandsBehind w route fed written old) → kind_of (fed ++ more) ≡ kind.unit
-    → RestLeadsTo (length (octets_of sb.units)) (old.left ++ more) (ends last end) → new.marks ≡ old.marks
-    → written ++ new.out ≡ written_as (sb.got.replies ++ option_to_list last)
+rest-answers : {W S : Type 0} (w : world.Ghosts W) (route : Route) (fed written more : List ℕ) (old new : ConnectionState S)
+    (last : Option Reply) (end : End) (rb : Rests w route fed written old) → kind_of (fed ++ more) ≡ kind.unit
+    → RestLeadsTo (length (octets_of rb.units)) (old.left ++ more) (ends last end) → new.marks ≡ old.marks
+    → written ++ new.out ≡ written_as (rb.answered.got.replies ++ option_to_list last)
     → Answers w route (fed ++ more) new.marks (written ++ new.out) end
-rest-answers w route fed written more old new last end sb of_units leads marks out =
-    let octets : octets_of sb.units ++ (old.left ++ more) ≡ fed ++ more =
-    sym (append_assoc (octets_of sb.units) old.left more) ∙ ap (λ o. o ++ more) (sym sb.spelled) in
+rest-answers w route fed written more old new last end rb of_units leads marks out =
+    let octets : octets_of rb.units ++ (old.left ++ more) ≡ fed ++ more =
+    sym (append_assoc (octets_of rb.units) old.left more) ∙ ap (λ o. o ++ more) (sym rb.spelled) in
     let of_kind = subst (λ (o : List ℕ). kind_of o ≡ kind.unit) (sym octets) of_units in
-    let replies : List Reply = sb.got.replies ++ option_to_list last in
-    let all = rest-ends w route sb.units sb.causes sb.got _ (old.left ++ more) last end sb.has_run sb.standing leads of_kind in
-    let by_octets = subst (λ (o : List ℕ). Answers w route o (marks_of sb.causes) (written_as replies) end) octets all in
-    let by_marks = subst (λ (m : List Mark). Answers w route (fed ++ more) m (written_as replies) end) (sb.of_marks ∙ sym marks) by_octets in
+    let replies : List Reply = rb.answered.got.replies ++ option_to_list last in
+    let all = rest-ends w route rb.units rb.answered.causes rb.answered.got _ (old.left ++ more) last end rb.answered.has_run rb.answered.standing leads of_kind in
+    let by_octets = subst (λ (o : List ℕ). Answers w route o (marks_of rb.answered.causes) (written_as replies) end) octets all in
+    let by_marks = subst (λ (m : List Mark). Answers w route (fed ++ more) m (written_as replies) end) (rb.answered.of_marks ∙ sym marks) by_octets in
     subst (λ (o : List ℕ). Answers w route (fed ++ more) new.marks o end) (sym out) by_marks
 
 -- what was written is unchanged, or goes on with a last reply
@@ -128,64 +127,62 @@ nothing-comes true more e h = h
 nothing-comes false more e h = absurd cc
 
 -- the connection is unchanged but for its end
-pub record Ends (old new : ConnectionState) (end : End) : Type 0 where
+pub record Ends {S : Type 0} (old new : ConnectionState S) (end : End) : Type 0 where
   pub goes : old.end ≡ None
+  pub rests : old.in_work ≡ None
   pub ended : new.end ≡ Some end
   pub input : new.has_ended ≡ true
   pub marks : new.marks ≡ old.marks
   pub out : new.out ≡ old.out
 
 -- the answers where nothing is left
-finished-answers : {W : Type 0} (w : world.Ghosts W) (route : Route) (fed written : List ℕ) (old new : ConnectionState)
-    (sb : StandsBehind w route fed written old) → old.left ≡ [] → new.marks ≡ old.marks → new.out ≡ old.out
+finished-answers : {W S : Type 0} (w : world.Ghosts W) (route : Route) (fed written : List ℕ) (old new : ConnectionState S)
+    (rb : Rests w route fed written old) → old.left ≡ [] → new.marks ≡ old.marks → new.out ≡ old.out
     → Answers w route (fed ++ []) new.marks (written ++ new.out) Finished
-finished-answers w route fed written old new sb left marks out =
-    by-units (Answers w route (fed ++ []) new.marks (written ++ new.out) Finished) sb.units fed sb.kind
-    (λ begins. rest-answers w route fed written [] old new None Finished sb (kind-more fed [] begins)
-    (subst (λ (l : List ℕ). RestLeadsTo (length (octets_of sb.units)) (l ++ []) (ends None Finished)) (sym left) refl) marks
-    (no-reply written old.out new.out sb.got.replies sb.replies out))
+finished-answers w route fed written old new rb left marks out =
+    by-units (Answers w route (fed ++ []) new.marks (written ++ new.out) Finished) rb.units fed rb.kind
+    (λ begins. rest-answers w route fed written [] old new None Finished rb (kind-more fed [] begins)
+    (subst (λ (l : List ℕ). RestLeadsTo (length (octets_of rb.units)) (l ++ []) (ends None Finished)) (sym left) refl) marks
+    (no-reply written old.out new.out rb.answered.got.replies rb.answered.replies out))
     (λ none.
-    let first = first-state w route fed written old sb none in
+    let first = first-state w route fed written old rb none in
     subst (λ (m : List Mark). Answers w route (fed ++ []) m (written ++ new.out) Finished) (sym first.marks ∙ sym marks)
     (kind-ended w route (fed ++ []) (written ++ new.out) kind.empty None Finished
     (ap kind_of (append-nil fed ∙ first.fed-is ∙ left)) refl (ap (λ o. written ++ o) out ∙ first.out)))
 
 -- the answers where the input ends inside a unit
-cut-answers : {W : Type 0} (w : world.Ghosts W) (route : Route) (fed written : List ℕ) (old new : ConnectionState) (octet : ℕ)
-    (octets : List ℕ) (sb : StandsBehind w route fed written old) → old.left ≡ octet ∷ octets → IsOpen (octet ∷ octets)
+cut-answers : {W S : Type 0} (w : world.Ghosts W) (route : Route) (fed written : List ℕ) (old new : ConnectionState S) (octet : ℕ)
+    (octets : List ℕ) (rb : Rests w route fed written old) → old.left ≡ octet ∷ octets → IsOpen (octet ∷ octets)
     → (old.at ≡ 0 → kind_of (octet ∷ octets) ≡ kind.unit) → new.marks ≡ old.marks → new.out ≡ old.out
     → Answers w route (fed ++ []) new.marks (written ++ new.out) (Cut (length (octet ∷ octets)))
-cut-answers w route fed written old new octet octets sb left is_open first marks out =
+cut-answers w route fed written old new octet octets rb left is_open first marks out =
     let end : End = Cut (length (octet ∷ octets)) in
-    let of_units = kind-fed sb.units fed old.left old.at sb.spelled sb.offset sb.kind (λ z. ap kind_of left ∙ first z) in
-    rest-answers w route fed written [] old new None end sb (kind-more fed [] of_units)
-    (subst (λ (l : List ℕ). RestLeadsTo (length (octets_of sb.units)) l (ends None end)) (sym (append-nil old.left ∙ left))
-    (inl (is_open, refl))) marks (no-reply written old.out new.out sb.got.replies sb.replies out)
+    let of_units = kind-fed rb.units fed old.left old.at rb.spelled rb.offset rb.kind (λ z. ap kind_of left ∙ first z) in
+    rest-answers w route fed written [] old new None end rb (kind-more fed [] of_units)
+    (subst (λ (l : List ℕ). RestLeadsTo (length (octets_of rb.units)) l (ends None end)) (sym (append-nil old.left ∙ left))
+    (inl (is_open, refl))) marks (no-reply written old.out new.out rb.answered.got.replies rb.answered.replies out)
 
 -- either
-ends-answers : {W : Type 0} (w : world.Ghosts W) (route : Route) (fed written : List ℕ) (old new : ConnectionState) (end : End)
-    (left : List ℕ) (sb : StandsBehind w route fed written old) → old.left ≡ left → EndsSo old.at left end
+ends-answers : {W S : Type 0} (w : world.Ghosts W) (route : Route) (fed written : List ℕ) (old new : ConnectionState S) (end : End)
+    (left : List ℕ) (rb : Rests w route fed written old) → old.left ≡ left → EndsSo old.at left end
     → new.marks ≡ old.marks → new.out ≡ old.out → Answers w route (fed ++ []) new.marks (written ++ new.out) end
-ends-answers w route fed written old new end [] sb e so marks out =
+ends-answers w route fed written old new end [] rb e so marks out =
     subst (λ (x : End). Answers w route (fed ++ []) new.marks (written ++ new.out) x) (sym so)
-    (finished-answers w route fed written old new sb e marks out)
-ends-answers w route fed written old new end (octet ∷ octets) sb e so marks out =
+    (finished-answers w route fed written old new rb e marks out)
+ends-answers w route fed written old new end (octet ∷ octets) rb e so marks out =
     subst (λ (x : End). Answers w route (fed ++ []) new.marks (written ++ new.out) x) (sym so.1)
-    (cut-answers w route fed written old new octet octets sb e so.0 so.2 marks out)
+    (cut-answers w route fed written old new octet octets rb e so.0 so.2 marks out)
 
 -- a connection whose input has ended is answered whole
-pub end-keeps : {W : Type 0} (w : world.Ghosts W) (route : Route) (old new : ConnectionState) (end : End)
+pub end-keeps : {W S : Type 0} (w : world.Ghosts W) (route : Route) (old new : ConnectionState S) (end : End)
     → Ends old new end → EndsSo old.at old.left end → KeepsState w route old new
-end-keeps w route old new end t so = λ fed written h.
-    let sb : StandsBehind w route fed written old = subst (λ (e : Option End). StandsOrEnded e w route fed written old) t.goes h in
-    let ended : HasEnded w route fed written new end = record {
-      answers = λ more may.
-          subst (λ (m : List ℕ). Answers w route (fed ++ m) new.marks (written ++ new.out) end)
-          (sym (nothing-comes new.has_ended more t.input may))
-          (ends-answers w route fed written old new end old.left sb refl so t.marks t.out);
-      plainly = subst AreMarksPlain (sym t.marks) sb.plainly;
-    } in
-    subst (λ (e : Option End). StandsOrEnded e w route fed written new) (sym t.ended) ended
+end-keeps w route old new end t so = λ fair fed written h.
+    let rb = rests-of w route fed written old t.goes t.rests h in
+    of-ended w route fed written new end t.ended
+    (λ more may.
+    subst (λ (m : List ℕ). Answers w route (fed ++ m) new.marks (written ++ new.out) end)
+    (sym (nothing-comes new.has_ended more t.input may))
+    (ends-answers w route fed written old new end old.left rb refl so t.marks t.out))
 
 -- ---- octets that are no unit
 
@@ -197,8 +194,9 @@ BadSo at (octet ∷ octets) state =
     ⊎ (IsBad (octet ∷ octets) × (state ≡ at) × (at ≡ 0 → kind_of (octet ∷ octets) ≡ kind.unit))
 
 -- the connection is unchanged but for a Close, and its end
-pub record Refuses (old new : ConnectionState) (at : ℕ) : Type 0 where
+pub record Refuses {S : Type 0} (old new : ConnectionState S) (at : ℕ) : Type 0 where
   pub goes : old.end ≡ None
+  pub rests : old.in_work ≡ None
   pub ended : new.end ≡ Some (Malformed at)
   pub marks : new.marks ≡ old.marks
   pub out : new.out ≡ old.out ++ spell_reply bad_unit_reply
@@ -212,13 +210,13 @@ letter-kind : (octet : ℕ) (octets : List ℕ) → IsTrue (is_ascii_alphabetic 
 letter-kind octet octets h = ap (λ b. if b then kind.letter else kind.unit) h
 
 -- the answers where a letter stands first
-letter-answers : {W : Type 0} (w : world.Ghosts W) (route : Route) (fed written more : List ℕ) (old new : ConnectionState)
-    (sb : StandsBehind w route fed written old) → old.at ≡ 0 → kind_of (old.left ++ more) ≡ kind.letter
+letter-answers : {W S : Type 0} (w : world.Ghosts W) (route : Route) (fed written more : List ℕ) (old new : ConnectionState S)
+    (rb : Rests w route fed written old) → old.at ≡ 0 → kind_of (old.left ++ more) ≡ kind.letter
     → new.marks ≡ old.marks → new.out ≡ old.out ++ spell_reply bad_unit_reply
     → Answers w route (fed ++ more) new.marks (written ++ new.out) (Malformed 0)
-letter-answers w route fed written more old new sb zero is_letter marks out =
-    let none = none-at_0 sb.units sb.has_run.each (sym sb.offset ∙ zero) in
-    let first = first-state w route fed written old sb none in
+letter-answers w route fed written more old new rb zero is_letter marks out =
+    let none = none-at_0 rb.units rb.answered.has_run.each (sym rb.offset ∙ zero) in
+    let first = first-state w route fed written old rb none in
     let reply : List ℕ = spell_reply bad_unit_reply in
     let all : written ++ new.out ≡ written_as (bad_unit_reply ∷ []) =
     ap (λ o. written ++ o) out ∙ sym (append_assoc written old.out reply) ∙ ap (λ o. o ++ reply) first.out
@@ -228,41 +226,38 @@ letter-answers w route fed written more old new sb zero is_letter marks out =
     (ap (λ f. kind_of (f ++ more)) first.fed-is ∙ is_letter) refl all)
 
 -- the answers where no unit can come
-bad-answers : {W : Type 0} (w : world.Ghosts W) (route : Route) (fed written more : List ℕ) (old new : ConnectionState) (octet : ℕ)
-    (octets : List ℕ) (sb : StandsBehind w route fed written old) → old.left ≡ octet ∷ octets → IsBad (octet ∷ octets)
+bad-answers : {W S : Type 0} (w : world.Ghosts W) (route : Route) (fed written more : List ℕ) (old new : ConnectionState S) (octet : ℕ)
+    (octets : List ℕ) (rb : Rests w route fed written old) → old.left ≡ octet ∷ octets → IsBad (octet ∷ octets)
     → (old.at ≡ 0 → kind_of (octet ∷ octets) ≡ kind.unit) → new.marks ≡ old.marks
     → new.out ≡ old.out ++ spell_reply bad_unit_reply
     → Answers w route (fed ++ more) new.marks (written ++ new.out) (Malformed old.at)
-bad-answers w route fed written more old new octet octets sb left bad first marks out =
-    let of_units = kind-fed sb.units fed old.left old.at sb.spelled sb.offset sb.kind (λ z. ap kind_of left ∙ first z) in
-    let end : End = Malformed (within64 (length (octets_of sb.units))) in
-    subst (λ (a : ℕ). Answers w route (fed ++ more) new.marks (written ++ new.out) (Malformed a)) (sym sb.offset)
-    (rest-answers w route fed written more old new (Some bad_unit_reply) end sb (kind-more fed more of_units)
-    (subst (λ (l : List ℕ). RestLeadsTo (length (octets_of sb.units)) (l ++ more) (ends (Some bad_unit_reply) end)) (sym left)
+bad-answers w route fed written more old new octet octets rb left bad first marks out =
+    let of_units = kind-fed rb.units fed old.left old.at rb.spelled rb.offset rb.kind (λ z. ap kind_of left ∙ first z) in
+    let end : End = Malformed (within64 (length (octets_of rb.units))) in
+    subst (λ (a : ℕ). Answers w route (fed ++ more) new.marks (written ++ new.out) (Malformed a)) (sym rb.offset)
+    (rest-answers w route fed written more old new (Some bad_unit_reply) end rb (kind-more fed more of_units)
+    (subst (λ (l : List ℕ). RestLeadsTo (length (octets_of rb.units)) (l ++ more) (ends (Some bad_unit_reply) end)) (sym left)
     (inr (bad-more (octet ∷ octets) more bad, refl))) marks
-    (last-reply written old.out new.out sb.got.replies bad_unit_reply sb.replies out))
+    (last-reply written old.out new.out rb.answered.got.replies bad_unit_reply rb.answered.replies out))
 
 -- either
-refused-answers : {W : Type 0} (w : world.Ghosts W) (route : Route) (fed written more : List ℕ) (old new : ConnectionState) (at : ℕ)
-    (left : List ℕ) (sb : StandsBehind w route fed written old) → old.left ≡ left → BadSo old.at left at
+refused-answers : {W S : Type 0} (w : world.Ghosts W) (route : Route) (fed written more : List ℕ) (old new : ConnectionState S) (at : ℕ)
+    (left : List ℕ) (rb : Rests w route fed written old) → old.left ≡ left → BadSo old.at left at
     → new.marks ≡ old.marks → new.out ≡ old.out ++ spell_reply bad_unit_reply
     → Answers w route (fed ++ more) new.marks (written ++ new.out) (Malformed at)
-refused-answers w route fed written more old new at [] sb e so marks out = absurd so
-refused-answers w route fed written more old new at (octet ∷ octets) sb e (inl so) marks out =
+refused-answers w route fed written more old new at [] rb e so marks out = absurd so
+refused-answers w route fed written more old new at (octet ∷ octets) rb e (inl so) marks out =
     subst (λ (a : ℕ). Answers w route (fed ++ more) new.marks (written ++ new.out) (Malformed a)) (sym so.1)
-    (letter-answers w route fed written more old new sb so.0
+    (letter-answers w route fed written more old new rb so.0
     (ap (λ l. kind_of (l ++ more)) e ∙ letter-kind octet (octets ++ more) so.2) marks out)
-refused-answers w route fed written more old new at (octet ∷ octets) sb e (inr so) marks out =
+refused-answers w route fed written more old new at (octet ∷ octets) rb e (inr so) marks out =
     subst (λ (a : ℕ). Answers w route (fed ++ more) new.marks (written ++ new.out) (Malformed a)) (sym so.1)
-    (bad-answers w route fed written more old new octet octets sb e so.0 so.2 marks out)
+    (bad-answers w route fed written more old new octet octets rb e so.0 so.2 marks out)
 
 -- a connection that is refused is answered whole, whatever may still come
-pub refuse-keeps : {W : Type 0} (w : world.Ghosts W) (route : Route) (old new : ConnectionState) (at : ℕ)
+pub refuse-keeps : {W S : Type 0} (w : world.Ghosts W) (route : Route) (old new : ConnectionState S) (at : ℕ)
     → Refuses old new at → BadSo old.at old.left at → KeepsState w route old new
-refuse-keeps w route old new at t so = λ fed written h.
-    let sb : StandsBehind w route fed written old = subst (λ (e : Option End). StandsOrEnded e w route fed written old) t.goes h in
-    let ended : HasEnded w route fed written new (Malformed at) = record {
-      answers = λ more may. refused-answers w route fed written more old new at old.left sb refl so t.marks t.out;
-      plainly = subst AreMarksPlain (sym t.marks) sb.plainly;
-    } in
-    subst (λ (e : Option End). StandsOrEnded e w route fed written new) (sym t.ended) ended
+refuse-keeps w route old new at t so = λ fair fed written h.
+    let rb = rests-of w route fed written old t.goes t.rests h in
+    of-ended w route fed written new (Malformed at) t.ended
+    (λ more may. refused-answers w route fed written more old new at old.left rb refl so t.marks t.out)

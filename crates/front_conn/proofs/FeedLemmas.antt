@@ -1,6 +1,7 @@
 -- What a connection's state is of: where nothing has come, a piece more, the end of the input; where output was written.
 use Rattle.std.proofs.Common.{◌≡◌, ℕ, Bool, true, false, List, [], ◌∷◌, ◌++◌, Option, Some, None, refl, sym, ap, ◌∙◌, subst, append_assoc, append-nil}
 use Rattle.z_types.specs.declared.marks.End.{End}
+use Rattle.z_types.specs.declared.sitting.Sitting as sitting
 use Rattle.z_types.specs.declared.world.World as world
 use Rattle.route_config.specs.declared.route.Route.{Route}
 use Rattle.gateway_rules.specs.Answers.{Answers}
@@ -8,27 +9,30 @@ use Rattle.gateway_rules.specs.Course.{Received, octets_of}
 use Rattle.gateway_rules.specs.Session as session
 use Rattle.gateway_rules.specs.Session.{stopped}
 use Rattle.gateway_rules.specs.State.{new_client, at_the_start}
-use Rattle.front_conn.specs.States.{ConnectionState, StandsBehind, StandsOrEnded, HasEnded, BeginsWithUnits, MayCome}
-use Rattle.front_conn.specs.Feeding.{StandsAtStart, StandsWhenFed, StandsWhenEnded, StandsWhenWritten, EndsAnswered, fed_piece, with_end, without_out}
+use Rattle.front_session.specs.Sessions.{SessionState}
+use Rattle.package.specs.steps.Packages.{PackageView}
+use Rattle.front_conn.specs.steps.Feeding.{EndsAnswered, StandsAtStart, StandsWhenEnded, StandsWhenFed, StandsWhenWritten, StaysOfRoute, fed_piece, with_end, without_out}
+use Rattle.front_conn.specs.steps.States.{BeginsWithUnits, ConnectionState, HasAnswered, HasEnded, IsConnOf, IsStateOf, MayCome, Rests, StandsOrEnded, Works}
 use Rattle.front_conn.proofs.StateLemmas.{kind-more}
 
 -- ---- the start
 
-pub stands-at-start : {W : Type 0} (w : world.Ghosts W) → StandsAtStart w
-stands-at-start w route = record {
+pub stands-at-start : {W S : Type 0} (w : world.Ghosts W) (t : sitting.Ghosts S W) → StandsAtStart w t
+stands-at-start w t route = record {
   units = [];
   spelled = refl;
   kind = tt;
   offset = refl;
-  causes = [];
-  of_marks = refl;
-  plainly = tt;
-  got = stopped [] [] new_client (session.standing at_the_start);
-  has_run = record { each = tt; runs = refl; allowed = tt; none_left = refl };
-  replies = refl;
-  client = refl;
-  standing = refl;
-  sets = tt;
+  answered = record {
+    causes = [];
+    of_marks = refl;
+    got = stopped [] [] new_client (session.standing at_the_start);
+    has_run = record { each = tt; runs = refl; allowed = tt; none_left = refl };
+    replies = refl;
+    client = refl;
+    standing = refl;
+    sets = tt;
+  };
   waits_not = refl;
 }
 
@@ -38,123 +42,163 @@ begins-more : (units : List Received) (fed piece : List ℕ) → BeginsWithUnits
 begins-more [] fed piece h = tt
 begins-more (unit ∷ units) fed piece h = kind-more fed piece h
 
--- where the connection goes on
-stands-fed : {W : Type 0} (w : world.Ghosts W) (route : Route) (fed written piece : List ℕ) (state : ConnectionState)
-    → StandsBehind w route fed written state
-    → StandsBehind w route (fed ++ piece) written (record state { left = state.left ++ piece })
-stands-fed w route fed written piece state sb = record {
-  units = sb.units;
-  spelled = ap (λ o. o ++ piece) sb.spelled ∙ append_assoc (octets_of sb.units) state.left piece;
-  kind = begins-more sb.units fed piece sb.kind;
-  offset = sb.offset;
-  causes = sb.causes;
-  of_marks = sb.of_marks;
-  plainly = sb.plainly;
-  got = sb.got;
-  has_run = sb.has_run;
-  replies = sb.replies;
-  client = sb.client;
-  standing = sb.standing;
-  sets = sb.sets;
-  waits_not = sb.waits_not;
-}
-
 -- before the end of the input anything may come
 may-come : (has_ended : Bool) (more : List ℕ) → has_ended ≡ false → MayCome has_ended more
 may-come true more h = absurd cc
 may-come false more h = tt
 
--- where it has ended
-ended-fed : {W : Type 0} (w : world.Ghosts W) (route : Route) (fed written piece : List ℕ) (state : ConnectionState) (end : End)
-    → state.has_ended ≡ false → HasEnded w route fed written state end → HasEnded w route (fed ++ piece) written state end
-ended-fed w route fed written piece state end open_ h = record {
-  answers = λ more may.
-      subst (λ (o : List ℕ). Answers w route o state.marks (written ++ state.out) end) (sym (append_assoc fed piece more))
-      (h.answers (piece ++ more) (may-come state.has_ended (piece ++ more) open_));
-  plainly = h.plainly;
-}
-
-by-end-fed : {W : Type 0} (w : world.Ghosts W) (route : Route) (fed written piece : List ℕ) (state : ConnectionState)
-    (end : Option End) → state.has_ended ≡ false → state.end ≡ end → StandsOrEnded end w route fed written state
-    → StandsOrEnded (fed_piece end state piece).end w route (fed ++ piece) written (fed_piece end state piece)
-by-end-fed w route fed written piece state None open_ e h =
-    subst (λ (x : Option End). StandsOrEnded x w route (fed ++ piece) written (record state { left = state.left ++ piece })) (sym e)
-    (stands-fed w route fed written piece state h)
-by-end-fed w route fed written piece state (Some end) open_ e h =
-    subst (λ (x : Option End). StandsOrEnded x w route (fed ++ piece) written state) (sym e)
-    (ended-fed w route fed written piece state end open_ h)
-
-pub stands-when-fed : {W : Type 0} (w : world.Ghosts W) → StandsWhenFed w
-stands-when-fed w route fed written piece state open_ h =
-    by-end-fed w route fed written piece state state.end open_ refl h
-
--- ---- the end of the input
-
 nothing-may : (has_ended : Bool) (more : List ℕ) → more ≡ [] → MayCome has_ended more
 nothing-may true more h = h
 nothing-may false more h = tt
 
-by-end-ended : {W : Type 0} (w : world.Ghosts W) (route : Route) (fed written : List ℕ) (state : ConnectionState)
-    (end : Option End) → StandsOrEnded end w route fed written state → StandsOrEnded end w route fed written (with_end state)
-by-end-ended w route fed written state None sb = record {
-  units = sb.units;
-  spelled = sb.spelled;
-  kind = sb.kind;
-  offset = sb.offset;
-  causes = sb.causes;
-  of_marks = sb.of_marks;
-  plainly = sb.plainly;
-  got = sb.got;
-  has_run = sb.has_run;
-  replies = sb.replies;
-  client = sb.client;
-  standing = sb.standing;
-  sets = sb.sets;
-  waits_not = sb.waits_not;
-}
-by-end-ended w route fed written state (Some end) h = record {
-  answers = λ more may. h.answers more (nothing-may state.has_ended more may);
-  plainly = h.plainly;
-}
+module _ {W S : Type 0} (w : world.Ghosts W) (route : Route) (fed written : List ℕ) (state : ConnectionState S) where
+  -- where no request is in work
+  rests-fed : (piece : List ℕ) → Rests w route fed written state
+      → Rests w route (fed ++ piece) written (record state { left = state.left ++ piece })
+  rests-fed piece r = record {
+    units = r.units;
+    spelled = ap (λ o. o ++ piece) r.spelled ∙ append_assoc (octets_of r.units) state.left piece;
+    kind = begins-more r.units fed piece r.kind;
+    offset = r.offset;
+    answered = r.answered;
+    waits_not = r.waits_not;
+  }
 
-pub stands-when-ended : {W : Type 0} (w : world.Ghosts W) → StandsWhenEnded w
-stands-when-ended w route fed written state h = by-end-ended w route fed written state state.end h
+  -- where one is
+  works-fed : (piece : List ℕ) (view : PackageView S) → Works w route fed written state view
+      → Works w route (fed ++ piece) written (record state { left = state.left ++ piece }) view
+  works-fed piece view k = record {
+    units = k.units;
+    unit = k.unit;
+    received = k.received;
+    spelled = ap (λ o. o ++ piece) k.spelled ∙ append_assoc (octets_of (k.units ++ k.unit ∷ [])) state.left piece;
+    kind = kind-more fed piece k.kind;
+    offset = k.offset;
+    before = k.before;
+    answered = k.answered;
+    request = k.request;
+    is_due = k.is_due;
+    asks = k.asks;
+    waits = k.waits;
+  }
 
--- ---- what was written
+  -- where it has ended
+  ended-fed : (piece : List ℕ) (end : End) → state.has_ended ≡ false → HasEnded w route fed written state end
+      → HasEnded w route (fed ++ piece) written state end
+  ended-fed piece end goes h = λ more may.
+      subst (λ (o : List ℕ). Answers w route o state.marks (written ++ state.out) end) (sym (append_assoc fed piece more))
+      (h (piece ++ more) (may-come state.has_ended (piece ++ more) goes))
 
-by-end-written : {W : Type 0} (w : world.Ghosts W) (route : Route) (fed written : List ℕ) (state : ConnectionState)
-    (end : Option End) → StandsOrEnded end w route fed written state
-    → StandsOrEnded end w route fed (written ++ state.out) (without_out state)
-by-end-written w route fed written state None sb = record {
-  units = sb.units;
-  spelled = sb.spelled;
-  kind = sb.kind;
-  offset = sb.offset;
-  causes = sb.causes;
-  of_marks = sb.of_marks;
-  plainly = sb.plainly;
-  got = sb.got;
-  has_run = sb.has_run;
-  replies = append-nil (written ++ state.out) ∙ sb.replies;
-  client = sb.client;
-  standing = sb.standing;
-  sets = sb.sets;
-  waits_not = sb.waits_not;
+  by-end-fed : (piece : List ℕ) (end : Option End) (works : Option (PackageView S)) → state.has_ended ≡ false → state.end ≡ end
+      → state.in_work ≡ works → StandsOrEnded w route fed written state end works
+      → IsStateOf w route (fed ++ piece) written (fed_piece end state piece)
+  by-end-fed piece None None goes e i h =
+      let new : ConnectionState S = record state { left = state.left ++ piece } in
+      subst (λ (x : Option End). StandsOrEnded w route (fed ++ piece) written new x state.in_work) (sym e)
+      (subst (λ (x : Option (PackageView S)). StandsOrEnded w route (fed ++ piece) written new None x) (sym i) (rests-fed piece h))
+  by-end-fed piece None (Some view) goes e i h =
+      let new : ConnectionState S = record state { left = state.left ++ piece } in
+      subst (λ (x : Option End). StandsOrEnded w route (fed ++ piece) written new x state.in_work) (sym e)
+      (subst (λ (x : Option (PackageView S)). StandsOrEnded w route (fed ++ piece) written new None x) (sym i) (works-fed piece view h))
+  by-end-fed piece (Some end) works goes e i h =
+      subst (λ (x : Option End). StandsOrEnded w route (fed ++ piece) written state x state.in_work) (sym e)
+      (ended-fed piece end goes h)
+
+  -- ---- the end of the input
+
+  by-end-ended : (end : Option End) (works : Option (PackageView S)) → StandsOrEnded w route fed written state end works
+      → StandsOrEnded w route fed written (with_end state) end works
+  by-end-ended None None r = record {
+    units = r.units;
+    spelled = r.spelled;
+    kind = r.kind;
+    offset = r.offset;
+    answered = r.answered;
+    waits_not = r.waits_not;
+  }
+  by-end-ended None (Some view) k = record {
+    units = k.units;
+    unit = k.unit;
+    received = k.received;
+    spelled = k.spelled;
+    kind = k.kind;
+    offset = k.offset;
+    before = k.before;
+    answered = k.answered;
+    request = k.request;
+    is_due = k.is_due;
+    asks = k.asks;
+    waits = k.waits;
+  }
+  by-end-ended (Some end) works h = λ more may. h more (nothing-may state.has_ended more may)
+
+  -- ---- what was written
+
+  -- as if it had been written before
+  abbrev all_written : List ℕ
+  all_written = written ++ state.out
+
+  answered-written : (units : List Received) (session : SessionState) → HasAnswered w route units state.marks all_written session
+      → HasAnswered w route units state.marks (all_written ++ []) session
+  answered-written units session a =
+      subst (λ (o : List ℕ). HasAnswered w route units state.marks o session) (sym (append-nil all_written)) a
+
+  by-end-written : (end : Option End) (works : Option (PackageView S)) → StandsOrEnded w route fed written state end works
+      → StandsOrEnded w route fed all_written (without_out state) end works
+  by-end-written None None r = record {
+    units = r.units;
+    spelled = r.spelled;
+    kind = r.kind;
+    offset = r.offset;
+    answered = answered-written r.units state.session r.answered;
+    waits_not = r.waits_not;
+  }
+  by-end-written None (Some view) k = record {
+    units = k.units;
+    unit = k.unit;
+    received = k.received;
+    spelled = k.spelled;
+    kind = k.kind;
+    offset = k.offset;
+    before = k.before;
+    answered = answered-written k.units k.before k.answered;
+    request = k.request;
+    is_due = k.is_due;
+    asks = k.asks;
+    waits = k.waits;
+  }
+  by-end-written (Some end) works h = λ more may.
+      subst (λ (o : List ℕ). Answers w route (fed ++ more) state.marks o end) (sym (append-nil all_written)) (h more may)
+
+pub stands-when-fed : {W S : Type 0} (w : world.Ghosts W) (t : sitting.Ghosts S W) → StandsWhenFed w t
+stands-when-fed w t route fed written piece state goes h =
+    by-end-fed w route fed written state piece state.end state.in_work goes refl refl h
+
+pub stands-when-ended : {W S : Type 0} (w : world.Ghosts W) (t : sitting.Ghosts S W) → StandsWhenEnded w t
+stands-when-ended w t route fed written state h = by-end-ended w route fed written state state.end state.in_work h
+
+pub stands-when-written : {W S : Type 0} (w : world.Ghosts W) (t : sitting.Ghosts S W) → StandsWhenWritten w t
+stands-when-written w t route fed written state h = by-end-written w route fed written state state.end state.in_work h
+
+-- ---- of one route
+
+of-piece : {W S : Type 0} (w : world.Ghosts W) (t : sitting.Ghosts S W) (route : Route) (most : ℕ) (state : ConnectionState S)
+    (piece : List ℕ) (end : Option End) → IsConnOf w t route most state → IsConnOf w t route most (fed_piece end state piece)
+of-piece w t route most state piece None h = h
+of-piece w t route most state piece (Some end) h = h
+
+pub stays-of-route : {W S : Type 0} (w : world.Ghosts W) (t : sitting.Ghosts S W) → StaysOfRoute w t
+stays-of-route w t route most state h = record {
+  fed = λ piece. of-piece w t route most state piece state.end h;
+  ended = h;
+  written = h;
 }
-by-end-written w route fed written state (Some end) h = record {
-  answers = λ more may.
-      subst (λ (o : List ℕ). Answers w route (fed ++ more) state.marks o end) (sym (append-nil (written ++ state.out)))
-      (h.answers more may);
-  plainly = h.plainly;
-}
-
-pub stands-when-written : {W : Type 0} (w : world.Ghosts W) → StandsWhenWritten w
-stands-when-written w route fed written state h = by-end-written w route fed written state state.end h
 
 -- ---- the answers
 
-pub ends-answered : {W : Type 0} (w : world.Ghosts W) → EndsAnswered w
-ends-answered w route fed written state end h e ended =
-    let whole : HasEnded w route fed written state end = subst (λ (x : Option End). StandsOrEnded x w route fed written state) e h in
+pub ends-answered : {W S : Type 0} (w : world.Ghosts W) (t : sitting.Ghosts S W) → EndsAnswered w t
+ends-answered w t route fed written state end h e ended =
+    let whole : HasEnded w route fed written state end =
+    subst (λ (x : Option End). StandsOrEnded w route fed written state x state.in_work) e h in
     let may : MayCome state.has_ended [] = subst (λ (b : Bool). MayCome b []) (sym ended) refl in
-    subst (λ (o : List ℕ). Answers w route o state.marks (written ++ state.out) end) (append-nil fed) (whole.answers [] may)
+    subst (λ (o : List ℕ). Answers w route o state.marks (written ++ state.out) end) (append-nil fed) (whole [] may)

@@ -1,7 +1,16 @@
-pub mod SetLemmas
-pub mod AnswerLemmas
-pub mod StateLemmas
-pub mod EndLemmas
-pub mod AheadLemmas
-pub mod StepLemmas
-pub mod FeedLemmas
+mod WorkLemmas
+mod SetLemmas
+mod StateLemmas
+mod FeedLemmas
+mod EndLemmas
+mod AheadLemmas
+mod UnitLemmas
+mod TurnLemmas
+mod TotalLemmas
+mod AnsweringLemmas
+mod BegunLemmas
+mod EndedLemmas
+mod StepLemmas
+mod TurnedLemmas
+mod WrittenLemmas
+mod ServingLemmas

@@ -1,10 +1,12 @@
 -- The sets that are kept have the hits that the targets mean, before a request and behind it.
-use Rattle.std.proofs.Common.{◌≡◌, ℕ, Bool, true, false, List, [], ◌∷◌, Option, Some, Result, Ok, Err, refl, sym, ap, ◌∙◌, subst, map, inl, inr}
-use Rattle.std.specs.Prelude.{unwrap_or, option_map, find, cond, Contains}
+use Rattle.std.proofs.Common.{◌≡◌, ℕ, ◌<◌, length, Bool, true, false, List, [], ◌∷◌, Option, Some, Result, Ok, Err, refl, sym, ap, ◌∙◌, subst, map, inl, inr}
+use Rattle.std.specs.Prelude.{All, unwrap_or, option_map, find, cond, Contains}
 use Rattle.std.specs.List.{AllByRecursion}
 use Rattle.std.proofs.lemmas.List.Elements.{All-from_recursion}
 use Rattle.z_types.specs.declared.diagnostic.Diag.{Diag}
 use Rattle.z_types.specs.declared.known_set.KnownSet.{KnownSet}
+use Rattle.z_types.specs.declared.marks.Mark.{Mark}
+use Rattle.z_types.specs.declared.marks.Mark.TheVariants.{Plain, Link, Silent, Gone, Full}
 use Rattle.z_types.specs.declared.outcome.Fetched.{Fetched}
 use Rattle.z_types.specs.declared.outcome.Outcome.{Outcome}
 use Rattle.z_types.specs.declared.outcome.Outcome.TheVariants as outcome
@@ -16,12 +18,16 @@ use Rattle.z_types.specs.declared.world.World as world
 use Rattle.z_types.specs.Same.{is_same}
 use Rattle.z_sets.specs.Sets.{StoredSet, stored, set_named}
 use Rattle.route_config.specs.declared.route.Route.{Route}
-use Rattle.gateway_rules.specs.Asking.{asked, asked_with, hits_meant, known_hits, present_due, unless_refused}
-use Rattle.gateway_rules.specs.Outcomes.{plain_outcome, found}
+use Rattle.gateway_rules.specs.Asking.{asked, asked_with, hits_meant, known_hits, present_due, unless_refused, works}
+use Rattle.gateway_rules.specs.Marks.{Cause}
+use Rattle.gateway_rules.specs.Outcomes.{found, outcome_of, under_mark}
 use Rattle.gateway_rules.specs.Targets.{hits_of}
+use Rattle.package_rules.specs.Planned.{AreThere}
+use Rattle.package_rules.specs.Truth.{HasWorldsHits}
 use Rattle.front_session.specs.Sessions.{SessionState, client_of}
 use Rattle.front_session.specs.Admitting.{hits_named, HasGivenHits, IsFoundSet}
-use Rattle.front_conn.specs.States.{HasMeantHits}
+use Rattle.front_conn.specs.steps.States.{HasLegsOf, HasMeantHits}
+use Rattle.front_conn.proofs.WorkLemmas.{ComesFrom, comes-from}
 
 -- ---- before a request
 
@@ -55,6 +61,43 @@ asked_with-meant w route session (request.Present present) all =
 asked_with-meant w route session (request.Scan scan) all = refl
 asked_with-meant w route session (request.Close close) all = refl
 
+-- a set that is found has hits that the targets mean
+found-here : {W : Type 0} (w : world.Ghosts W) (route : Route) (known : KnownSet) (b : Bool) (others : Option StoredSet) (set : StoredSet)
+    → HasMeantHits w route known → (others ≡ Some set → hits_of w route set.legs set.query ≡ Ok (hits_meant w route (Some set)))
+    → cond b (Some (stored known)) others ≡ Some set → hits_of w route set.legs set.query ≡ Ok (hits_meant w route (Some set))
+found-here w route known true others set meant rest h =
+    let same : stored known ≡ set = cc in
+    subst (λ (s : StoredSet). hits_of w route s.legs s.query ≡ Ok (hits_meant w route (Some s))) same
+    (meant ∙ ap (λ r. Ok (known_hits r)) (sym meant))
+found-here w route known false others set meant rest h = rest h
+
+found-among : {W : Type 0} (w : world.Ghosts W) (route : Route) (sets : List KnownSet) (name : List ℕ) (set : StoredSet)
+    → AllByRecursion (HasMeantHits w route) sets → set_named name (map stored sets) ≡ Some set
+    → hits_of w route set.legs set.query ≡ Ok (hits_meant w route (Some set))
+found-among w route [] name set all h = absurd cc
+found-among w route (known ∷ sets) name set all h =
+    found-here w route known (is_same known.name name) (set_named name (map stored sets)) set all.0
+    (found-among w route sets name set all.1) h
+
+-- so a fetch goes by the hits that the targets mean
+fetch-meant : {W : Type 0} (w : world.Ghosts W) (route : Route) (session : SessionState) (job : Work)
+    → AllByRecursion (HasMeantHits w route) session.sets
+    → ComesFrom (λ name. hits_meant w route (set_named name (map stored session.sets))) route (client_of session) job
+    → HasWorldsHits w route job
+fetch-meant w route session (work.Search login legs query small large medium small_element medium_element syntax room) all from = tt
+fetch-meant w route session (work.Fetch login legs query hits first count syntax element) all from =
+    ap (λ l. hits_of w route l query) from.of_legs ∙ ap (hits_of w route from.set.legs) from.of_query
+    ∙ found-among w route session.sets from.name from.set all from.found
+    ∙ ap (λ s. Ok (hits_meant w route s)) (sym from.found) ∙ ap Ok (sym from.of_hits)
+fetch-meant w route session (work.Scan login leg ask) all from = tt
+
+pub asked-hits : {W : Type 0} (w : world.Ghosts W) (route : Route) (session : SessionState) (asks : Request) (job : Work)
+    → AllByRecursion (HasMeantHits w route) session.sets → asked w route (client_of session) asks ≡ works job
+    → HasWorldsHits w route job
+asked-hits w route session asks job all h =
+    let told : List ℕ → List ℕ = λ name. hits_meant w route (set_named name (map stored session.sets)) in
+    fetch-meant w route session job all (comes-from told route (client_of session) asks job h)
+
 -- ---- behind a request
 
 -- the hits of what was found are those of the targets
@@ -63,35 +106,71 @@ found-hits : (answer : Result (List ℕ) Diag) (records : List ℕ → Fetched) 
 found-hits (Ok others) records hits fetched e = cc
 found-hits (Err diag) records hits fetched e = absurd cc
 
+-- nothing is found under a mark
+unmarked : (mark : Mark) (class : List ℕ) (plainly : Outcome) (hits : List ℕ) (fetched : Fetched)
+    → outcome.Found hits fetched ≡ under_mark mark class plainly → outcome.Found hits fetched ≡ plainly
+unmarked Plain class plainly hits fetched e = e
+unmarked Link class plainly hits fetched e = absurd cc
+unmarked (Silent looks) class plainly hits fetched e = absurd cc
+unmarked Gone class plainly hits fetched e = absurd cc
+unmarked (Full sessions) class plainly hits fetched e = absurd cc
+
 -- a set that was found has the hits that the targets mean
-found-meant : {W : Type 0} (w : world.Ghosts W) (route : Route) (asks : Work) (got : Outcome) (set : KnownSet)
-    → got ≡ plain_outcome w route asks → IsFoundSet asks got set → HasMeantHits w route set
-found-meant w route (work.Search login legs query small large medium small_element medium_element syntax room) (outcome.Found hits fetched) set e p =
+found-meant : {W : Type 0} (w : world.Ghosts W) (route : Route) (asks : Work) (cause : Cause) (got : Outcome) (set : KnownSet)
+    → got ≡ outcome_of w route asks cause → IsFoundSet asks got set → HasMeantHits w route set
+found-meant w route (work.Search login legs query small large medium small_element medium_element syntax room) cause (outcome.Found hits fetched) set e p =
     ap (λ l. hits_of w route l set.query) p.0 ∙ ap (hits_of w route legs) p.1
-    ∙ found-hits (hits_of w route legs query) _ hits fetched e ∙ ap Ok (sym p.2)
-found-meant w route (work.Search login legs query small large medium small_element medium_element syntax room) (outcome.Fetched fetched) set e p = absurd p
-found-meant w route (work.Search login legs query small large medium small_element medium_element syntax room) (outcome.Scanned answer) set e p = absurd p
-found-meant w route (work.Search login legs query small large medium small_element medium_element syntax room) (outcome.Refused diag) set e p = absurd p
-found-meant w route (work.Search login legs query small large medium small_element medium_element syntax room) (outcome.Marked mark class) set e p = absurd p
-found-meant w route (work.Fetch login legs query hits first count syntax element) got set e p = absurd p
-found-meant w route (work.Scan login leg ask) got set e p = absurd p
+    ∙ found-hits (hits_of w route legs query) _ hits fetched (unmarked cause.mark cause.class _ hits fetched e) ∙ ap Ok (sym p.2)
+found-meant w route (work.Search login legs query small large medium small_element medium_element syntax room) cause (outcome.Fetched fetched) set e p = absurd p
+found-meant w route (work.Search login legs query small large medium small_element medium_element syntax room) cause (outcome.Scanned answer) set e p = absurd p
+found-meant w route (work.Search login legs query small large medium small_element medium_element syntax room) cause (outcome.Refused diag) set e p = absurd p
+found-meant w route (work.Search login legs query small large medium small_element medium_element syntax room) cause (outcome.Marked mark class) set e p = absurd p
+found-meant w route (work.Fetch login legs query hits first count syntax element) cause got set e p = absurd p
+found-meant w route (work.Scan login leg ask) cause got set e p = absurd p
 
 -- what is true of each set is true of one among them
 contained : (P : KnownSet → Type 0) (sets : List KnownSet) (set : KnownSet) → AllByRecursion P sets → Contains sets set → P set
 contained P sets set all c = subst P c.2 (All-from_recursion P sets all c.0 set c.1)
 
 -- a set that was there, or was found, has the hits that the targets mean
-given-meant : {W : Type 0} (w : world.Ghosts W) (route : Route) (sets : List KnownSet) (asks : Work) (set : KnownSet)
-    → AllByRecursion (HasMeantHits w route) sets → HasGivenHits sets asks (plain_outcome w route asks) set
+given-meant : {W : Type 0} (w : world.Ghosts W) (route : Route) (sets : List KnownSet) (asks : Work) (cause : Cause) (set : KnownSet)
+    → AllByRecursion (HasMeantHits w route) sets → HasGivenHits sets asks (outcome_of w route asks cause) set
     → HasMeantHits w route set
-given-meant w route sets asks set all (inl there) = contained (HasMeantHits w route) sets set all there
-given-meant w route sets asks set all (inr p) = found-meant w route asks (plain_outcome w route asks) set refl p
+given-meant w route sets asks cause set all (inl there) = contained (HasMeantHits w route) sets set all there
+given-meant w route sets asks cause set all (inr p) = found-meant w route asks cause (outcome_of w route asks cause) set refl p
 
 -- and so have all
 pub sets-meant : {W : Type 0} (w : world.Ghosts W) (route : Route) (sets : List KnownSet) (asks : Work)
-    (news : List KnownSet) → AllByRecursion (HasMeantHits w route) sets
-    → AllByRecursion (HasGivenHits sets asks (plain_outcome w route asks)) news
+    (cause : Cause) (news : List KnownSet) → AllByRecursion (HasMeantHits w route) sets
+    → AllByRecursion (HasGivenHits sets asks (outcome_of w route asks cause)) news
     → AllByRecursion (HasMeantHits w route) news
-sets-meant w route sets asks [] all given = tt
-sets-meant w route sets asks (set ∷ news) all given =
-    (given-meant w route sets asks set all given.0, sets-meant w route sets asks news all given.1)
+sets-meant w route sets asks cause [] all given = tt
+sets-meant w route sets asks cause (set ∷ news) all given =
+    (given-meant w route sets asks cause set all given.0, sets-meant w route sets asks cause news all given.1)
+
+-- ---- of one route
+
+-- a set that was found has the legs of its work
+found-legs : (route : Route) (asks : Work) (got : Outcome) (set : KnownSet) → AreThere route asks → IsFoundSet asks got set
+    → HasLegsOf route set
+found-legs route (work.Search login legs query small large medium small_element medium_element syntax room) (outcome.Found hits fetched) set there p =
+    subst (All (λ leg. leg < length route.legs)) (sym p.0) there
+found-legs route (work.Search login legs query small large medium small_element medium_element syntax room) (outcome.Fetched fetched) set there p = absurd p
+found-legs route (work.Search login legs query small large medium small_element medium_element syntax room) (outcome.Scanned answer) set there p = absurd p
+found-legs route (work.Search login legs query small large medium small_element medium_element syntax room) (outcome.Refused diag) set there p = absurd p
+found-legs route (work.Search login legs query small large medium small_element medium_element syntax room) (outcome.Marked mark class) set there p = absurd p
+found-legs route (work.Fetch login legs query hits first count syntax element) got set there p = absurd p
+found-legs route (work.Scan login leg ask) got set there p = absurd p
+
+given-legs : (route : Route) (sets : List KnownSet) (asks : Work) (got : Outcome) (set : KnownSet) → AllByRecursion (HasLegsOf route) sets
+    → AreThere route asks → HasGivenHits sets asks got set → HasLegsOf route set
+given-legs route sets asks got set all there (inl here) = contained (HasLegsOf route) sets set all here
+given-legs route sets asks got set all there (inr p) = found-legs route asks got set there p
+
+-- the legs of all sets are the route's behind a request, too
+pub sets-legs : (route : Route) (sets : List KnownSet) (asks : Work) (got : Outcome) (news : List KnownSet)
+    → AllByRecursion (HasLegsOf route) sets → AreThere route asks → AllByRecursion (HasGivenHits sets asks got) news
+    → AllByRecursion (HasLegsOf route) news
+sets-legs route sets asks got [] all there given = tt
+sets-legs route sets asks got (set ∷ news) all there given =
+    (given-legs route sets asks got set all there given.0, sets-legs route sets asks got news all there given.1)

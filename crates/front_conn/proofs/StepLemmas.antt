@@ -1,177 +1,266 @@
--- A step of a connection does what its contract says, by what the connection goes on with.
-use Rattle.std.proofs.Common.{◌≡◌, ℕ, Bool, false, List, ◌++◌, Option, Some, None, Result, Ok, Err, refl, sym, ◌∙◌, subst, inl, inr}
-use Rattle.std.specs.Prelude.{is_some, IsSome, OnOk, OnErr, option_to_list}
+-- A step of a connection with no request in work does what its contract says, by what the connection goes on with.
+use Rattle.std.proofs.Common.{◌≡◌, ℕ, Bool, false, true, List, [], ◌∷◌, ◌++◌, Option, Some, None, Result, Ok, Err, refl, sym, ◌∙◌, subst, ap, inl, inr}
+use Rattle.std.specs.Prelude.{IfOk, IfSome, IsSome, OnErr, OnOk}
+use Rattle.std.specs.List.{AllByRecursion}
 use Rattle.z_types.specs.declared.marks.End.{End}
 use Rattle.z_types.specs.declared.marks.End.TheVariants.{Malformed}
-use Rattle.z_types.specs.declared.marks.Mark.{Mark}
 use Rattle.z_types.specs.declared.memory.Memory as memory
+use Rattle.z_types.specs.declared.sitting.Sitting as sitting
 use Rattle.z_types.specs.declared.world.World as world
 use Rattle.route_config.specs.declared.route.Route.{Route}
 use Rattle.unit_forms.specs.Replies.{spell_reply}
 use Rattle.z_frame.specs.Framing.{Framing}
 use Rattle.gateway_rules.specs.Replies.{bad_unit_reply}
-use Rattle.front_session.specs.Sessions.{SessionState}
-use Rattle.front_conn.specs.States.{ConnectionState}
-use Rattle.front_conn.specs.Steps.{IsIdle, IsStepped, GoesOn, KeepsState, UnlessMemory, IsEndAfter}
-use Rattle.front_conn.specs.Ahead.{AreAhead}
-use Rattle.front_conn.specs.Answering.{AnswersUnit, EndsByUnit}
-use Rattle.front_conn.specs.declared.answer.UnitAnswer.{UnitAnswer}
+use Rattle.package.specs.steps.Packages.{IsPackageOf, PackageView}
+use Rattle.front_conn.specs.steps.Ahead.{AreAhead}
+use Rattle.front_conn.specs.steps.Answering.{AnsweringState, IsBegunSo, IsUnbegun, IsUnitBegun}
+use Rattle.front_conn.specs.steps.States.{ConnectionState, HasLegsOf, IsOfRoute, IsOneWork, IsStateOf}
+use Rattle.front_conn.specs.steps.Steps.{EndsAtRest, GoesAhead, IsEndAfter, KeepsState, NothingWaits, UnlessMemory}
 use Rattle.front_conn.specs.declared.ahead.Ahead.TheVariants.{Nothing, Ended, Bad, Whole}
 use Rattle.front_conn.specs.declared.stepped.Stepped.{Stepped}
-use Rattle.front_conn.proofs.StateLemmas.{unit-keeps, served}
-use Rattle.front_conn.proofs.EndLemmas.{end-keeps, refuse-keeps, frame-octets}
-use Rattle.front_conn.proofs.AheadLemmas.{ahead-nothing, ahead-ended, ahead-bad, ahead-whole, busy-bad, busy-ended, busy-whole}
+use Rattle.front_conn.proofs.AheadLemmas.{ahead-bad, ahead-ended, ahead-nothing, ahead-whole, busy-bad, busy-ended, busy-whole}
+use Rattle.front_conn.proofs.EndLemmas.{EndsSo, end-keeps, frame-octets, refuse-keeps}
+use Rattle.front_conn.proofs.UnitLemmas.{begun-ends, unit-keeps, unit-sets}
 
--- the state of a connection with such parts
-abbrev pub state_of : Framing → SessionState → List ℕ → List Mark → Option End → Bool → ConnectionState
-state_of f session out marks end has_ended =
-    record { session = session; at = f.end; left = f.rest; has_ended = has_ended; marks = marks; out = out; end = end }
+-- how the end of the input ends it
+ends-at : (has_ended : Bool) (at : ℕ) (left : List ℕ) (how : End) → has_ended ≡ true → EndsSo at left how → EndsAtRest has_ended (Some how)
+ends-at has_ended at [] how is so = subst (λ (e : End). EndsAtRest has_ended (Some e)) (sym so) is
+ends-at has_ended at (octet ∷ octets) how is so = subst (λ (e : End). EndsAtRest has_ended (Some e)) (sym so.1) is
 
--- a connection that has not ended
-pub none-of : (end : Option End) → is_some end ≡ false → end ≡ None
-none-of None h = refl
-none-of (Some end) h = absurd cc
+module _ {S : Type 0} where
+  -- the state of a connection with such parts
+  abbrev pub state_of : Framing → AnsweringState S → Option End → Bool → ConnectionState S
+  state_of f a end has_ended = record {
+    session = a.session;
+    in_work = a.in_work;
+    totals = a.totals;
+    marks = a.marks;
+    out = a.out;
+    at = f.end;
+    left = f.rest;
+    has_ended = has_ended;
+    end = end;
+  }
 
--- ---- nothing
+  -- ---- nothing
 
-pub step-nothing : (f g : Framing) (session : SessionState) (out : List ℕ) (marks : List Mark) (end : Option End)
-    (has_ended : Bool) (old : ConnectionState) → state_of f session out marks end has_ended ≡ old
-    → AreAhead f.rest has_ended f g Nothing → IsIdle old × (state_of g session out marks end has_ended ≡ old)
-step-nothing f g session out marks end has_ended old e h =
-    let here : ConnectionState = state_of f session out marks end has_ended in
-    let a = ahead-nothing f.rest has_ended f g here refl refl h in
-    let at = a.2.stays.place in
-    let left = a.2.stays.rest in
-    let same : state_of g session out marks end has_ended ≡ here = λ i. record here { at = at i; left = left i } in
-    (subst IsIdle e (inr (record { goes_on = a.0; unfinished = a.1 })), same ∙ e)
+  pub goes-nothing : (route : Route) (f g : Framing) (a : AnsweringState S) (end : Option End) (has_ended : Bool)
+      (old : ConnectionState S) → state_of f a end has_ended ≡ old → AreAhead f.rest has_ended f g Nothing
+      → NothingWaits old × (state_of g a end has_ended ≡ old)
+  goes-nothing route f g a end has_ended old e h =
+      let here : ConnectionState S = state_of f a end has_ended in
+      let ahead = ahead-nothing f.rest has_ended f g here refl refl h in
+      let at = ahead.2.stays.place in
+      let left = ahead.2.stays.rest in
+      let same : state_of g a end has_ended ≡ here = λ i. record here { at = at i; left = left i } in
+      (subst NothingWaits e (record { goes_on = ahead.0; unfinished = ahead.1 }), same ∙ e)
 
--- ---- the end of the input
+  -- ---- the end of the input
 
-pub step-ended : {W : Type 0} (w : world.Ghosts W) (route : Route) (f g : Framing) (session : SessionState)
-    (out : List ℕ) (marks : List Mark) (end : Option End) (has_ended : Bool) (old : ConnectionState) (how : End)
-    → state_of f session out marks end has_ended ≡ old → end ≡ None → AreAhead f.rest has_ended f g (Ended how)
-    → KeepsState w route old (state_of g session out marks (Some how) has_ended)
-step-ended w route f g session out marks end has_ended old how e goes h =
-    let here : ConnectionState = state_of f session out marks end has_ended in
-    let new : ConnectionState = state_of g session out marks (Some how) has_ended in
-    let a = ahead-ended f.rest has_ended f g how refl h in
-    subst (λ (o : ConnectionState). KeepsState w route o new) e
-    (end-keeps w route here new how
-    (record { goes = goes; ended = refl; input = a.0; marks = refl; out = refl }) a.1)
+  pub goes-ended : (route : Route) (f g : Framing) (a : AnsweringState S) (end new_end : Option End) (has_ended : Bool)
+      (old : ConnectionState S) (how : End) (answer : Stepped) → state_of f a end has_ended ≡ old
+      → AreAhead f.rest has_ended f g (Ended how) → IsEndAfter (Ok (Some how)) new_end answer
+      → GoesAhead route old (state_of g a new_end has_ended) answer
+  goes-ended route f g a end new_end has_ended old how answer e h done =
+      let here : ConnectionState S = state_of f a end has_ended in
+      let new : ConnectionState S = state_of g a new_end has_ended in
+      let ahead = ahead-ended f.rest has_ended f g how refl h in
+      let some : EndsAtRest has_ended new_end =
+      subst (λ (o : Option End). EndsAtRest has_ended o) (sym done.0) (ends-at has_ended f.end f.rest how ahead.0 ahead.1) in
+      subst (λ (o : ConnectionState S). GoesAhead route o new answer) e
+      (subst (λ (s : Stepped). GoesAhead route here new s) (sym done.1) (
+        busy-ended here ahead.0,
+        refl,
+        inr (record {
+          left = ahead.2.stays.rest;
+          at = ahead.2.stays.place;
+          session = refl;
+          in_work = refl;
+          totals = refl;
+          marks = refl;
+          ended = some;
+        }),
+      ))
 
-pub step-finished : (f g : Framing) (session : SessionState) (out : List ℕ) (marks : List Mark) (end : Option End)
-    (has_ended : Bool) (old : ConnectionState) (how : End) → state_of f session out marks end has_ended ≡ old → end ≡ None
-    → AreAhead f.rest has_ended f g (Ended how)
-    → ¬ IsIdle old × GoesOn old (state_of g session out marks (Some how) has_ended)
-step-finished f g session out marks end has_ended old how e goes h =
-    let here : ConnectionState = state_of f session out marks end has_ended in
-    let new : ConnectionState = state_of g session out marks (Some how) has_ended in
-    let a = ahead-ended f.rest has_ended f g how refl h in
-    subst (λ (o : ConnectionState). ¬ IsIdle o × GoesOn o new) e (
-      busy-ended here goes a.0,
-      (goes, refl, inr (record { left = a.2.stays.rest; at = a.2.stays.place; session = refl; marks = refl; ended = refl })),
-    )
+  pub keeps-ended : {W : Type 0} (w : world.Ghosts W) (route : Route) (f g : Framing) (a : AnsweringState S) (end new_end : Option End)
+      (has_ended : Bool) (old : ConnectionState S) (how : End) (answer : Stepped) → state_of f a end has_ended ≡ old → end ≡ None
+      → a.in_work ≡ None → AreAhead f.rest has_ended f g (Ended how) → IsEndAfter (Ok (Some how)) new_end answer
+      → UnlessMemory answer (KeepsState w route old (state_of g a new_end has_ended))
+  keeps-ended w route f g a end new_end has_ended old how answer e goes rests h done =
+      let here : ConnectionState S = state_of f a end has_ended in
+      let new : ConnectionState S = state_of g a new_end has_ended in
+      let ahead = ahead-ended f.rest has_ended f g how refl h in
+      let keeps = end-keeps w route here new how
+      (record { goes = goes; rests = rests; ended = done.0; input = ahead.0; marks = refl; out = refl }) ahead.1 in
+      subst (λ (s : Stepped). UnlessMemory s (KeepsState w route old new)) (sym done.1)
+      (subst (λ (o : ConnectionState S). KeepsState w route o new) e keeps)
 
--- ---- octets that are no unit
+  -- ---- octets that are no unit
 
-pub step-bad : (f g : Framing) (session : SessionState) (out new_out : List ℕ) (marks : List Mark)
-    (end new_end : Option End) (has_ended : Bool) (old : ConnectionState) (at : ℕ) (done : Result (Unit {0}) memory.Memory)
-    (answer : Stepped) → state_of f session out marks end has_ended ≡ old → end ≡ None
-    → AreAhead f.rest has_ended f g (Bad at) → IsEndAfter done (Some (Malformed at)) new_end answer
-    → OnErr done (new_out ≡ out) → IsStepped old (state_of g session new_out marks new_end has_ended) answer
-step-bad f g session out new_out marks end new_end has_ended old at (Ok nothing) answer e goes h done none =
-    let here : ConnectionState = state_of f session out marks end has_ended in
-    let new : ConnectionState = state_of g session new_out marks new_end has_ended in
-    let a = ahead-bad f.rest has_ended f g at refl h in
-    let some : IsSome new_end = subst (λ (o : Option End). IsSome o) (sym done.0) refl in
-    subst (λ (o : ConnectionState). IsStepped o new answer) e
-    (subst (λ (s : Stepped). IsStepped here new s) (sym done.1) (
-      busy-bad here at goes a.0,
-      (goes, refl, inr (record { left = a.1.rest; at = a.1.place; session = refl; marks = refl; ended = some })),
-    ))
-step-bad f g session out new_out marks end new_end has_ended old at (Err want) answer e goes h done none =
-    let new : ConnectionState = state_of g session new_out marks new_end has_ended in
-    subst (λ (o : ConnectionState). IsStepped o new answer) e
-    (subst (λ (s : Stepped). IsStepped (state_of f session out marks end has_ended) new s) (sym done.1)
-    (record { ended = done.0; out = none; marks = refl }))
+  pub goes-bad : (route : Route) (f g : Framing) (a b : AnsweringState S) (end new_end : Option End) (has_ended : Bool)
+      (old : ConnectionState S) (at : ℕ) (done : Result (Option End) memory.Memory) (answer : Stepped) → state_of f a end has_ended ≡ old
+      → a.in_work ≡ None → AreAhead f.rest has_ended f g (Bad at) → IfOk done (λ ended. ended ≡ Some (Malformed at))
+      → OnOk done (b ≡ record a { out = a.out ++ spell_reply bad_unit_reply }) → OnErr done (b ≡ a) → IsEndAfter done new_end answer
+      → GoesAhead route old (state_of g b new_end has_ended) answer
+  goes-bad route f g a b end new_end has_ended old at (Ok ended) answer e rests h how put none done =
+      let here : ConnectionState S = state_of f a end has_ended in
+      let new : ConnectionState S = state_of g b new_end has_ended in
+      let ahead = ahead-bad f.rest has_ended f g at refl h in
+      let some : EndsAtRest has_ended new_end = subst (λ (o : Option End). EndsAtRest has_ended o) (sym (done.0 ∙ how)) tt in
+      subst (λ (o : ConnectionState S). GoesAhead route o new answer) e
+      (subst (λ (s : Stepped). GoesAhead route here new s) (sym done.1) (
+        busy-bad here at ahead.0,
+        refl,
+        inr (record {
+          left = ahead.1.rest;
+          at = ahead.1.place;
+          session = ap (λ (s : AnsweringState S). s.session) put;
+          in_work = ap (λ (s : AnsweringState S). s.in_work) put;
+          totals = ap (λ (s : AnsweringState S). s.totals) put;
+          marks = ap (λ (s : AnsweringState S). s.marks) put;
+          ended = some;
+        }),
+      ))
+  goes-bad route f g a b end new_end has_ended old at (Err want) answer e rests h how put none done =
+      let here : ConnectionState S = state_of f a end has_ended in
+      let new : ConnectionState S = state_of g b new_end has_ended in
+      let unbegun : IsUnbegun route a b = record {
+        unwritten = record { out = ap (λ (s : AnsweringState S). s.out) none; marks = ap (λ (s : AnsweringState S). s.marks) none };
+        in_work = ap (λ (s : AnsweringState S). s.in_work) none ∙ rests;
+        totals = inl (ap (λ (s : AnsweringState S). s.totals) none);
+      } in
+      subst (λ (o : ConnectionState S). GoesAhead route o new answer) e
+      (subst (λ (s : Stepped). GoesAhead route here new s) (sym done.1) (record { ended = done.0; has_ended = refl; unbegun = unbegun }))
 
-pub keeps-bad : {W : Type 0} (w : world.Ghosts W) (route : Route) (f g : Framing) (session : SessionState)
-    (out new_out : List ℕ) (marks : List Mark) (end new_end : Option End) (has_ended : Bool) (old : ConnectionState) (at : ℕ)
-    (done : Result (Unit {0}) memory.Memory) (answer : Stepped) → state_of f session out marks end has_ended ≡ old
-    → end ≡ None → AreAhead f.rest has_ended f g (Bad at) → IsEndAfter done (Some (Malformed at)) new_end answer
-    → OnOk done (new_out ≡ out ++ spell_reply bad_unit_reply)
-    → UnlessMemory answer (KeepsState w route old (state_of g session new_out marks new_end has_ended))
-keeps-bad w route f g session out new_out marks end new_end has_ended old at (Ok nothing) answer e goes h done written =
-    let here : ConnectionState = state_of f session out marks end has_ended in
-    let new : ConnectionState = state_of g session new_out marks new_end has_ended in
-    let a = ahead-bad f.rest has_ended f g at refl h in
-    let keeps = refuse-keeps w route here new at
-    (record { goes = goes; ended = done.0; marks = refl; out = written }) a.0 in
-    subst (λ (s : Stepped). UnlessMemory s (KeepsState w route old new)) (sym done.1)
-    (subst (λ (o : ConnectionState). KeepsState w route o new) e keeps)
-keeps-bad w route f g session out new_out marks end new_end has_ended old at (Err want) answer e goes h done written =
-    let new : ConnectionState = state_of g session new_out marks new_end has_ended in
-    subst (λ (s : Stepped). UnlessMemory s (KeepsState w route old new)) (sym done.1) tt
+  pub keeps-bad : {W : Type 0} (w : world.Ghosts W) (route : Route) (f g : Framing) (a b : AnsweringState S) (end new_end : Option End)
+      (has_ended : Bool) (old : ConnectionState S) (at : ℕ) (done : Result (Option End) memory.Memory) (answer : Stepped)
+      → state_of f a end has_ended ≡ old → end ≡ None → a.in_work ≡ None → AreAhead f.rest has_ended f g (Bad at)
+      → IfOk done (λ ended. ended ≡ Some (Malformed at)) → OnOk done (b ≡ record a { out = a.out ++ spell_reply bad_unit_reply })
+      → IsEndAfter done new_end answer → UnlessMemory answer (KeepsState w route old (state_of g b new_end has_ended))
+  keeps-bad w route f g a b end new_end has_ended old at (Ok ended) answer e goes rests h how put done =
+      let here : ConnectionState S = state_of f a end has_ended in
+      let new : ConnectionState S = state_of g b new_end has_ended in
+      let ahead = ahead-bad f.rest has_ended f g at refl h in
+      let keeps = refuse-keeps w route here new at (record {
+        goes = goes;
+        rests = rests;
+        ended = done.0 ∙ how;
+        marks = ap (λ (s : AnsweringState S). s.marks) put;
+        out = ap (λ (s : AnsweringState S). s.out) put;
+      }) ahead.0 in
+      subst (λ (s : Stepped). UnlessMemory s (KeepsState w route old new)) (sym done.1)
+      (subst (λ (o : ConnectionState S). KeepsState w route o new) e keeps)
+  keeps-bad w route f g a b end new_end has_ended old at (Err want) answer e goes rests h how put done =
+      subst (λ (s : Stepped). UnlessMemory s (KeepsState w route old (state_of g b new_end has_ended))) (sym done.1) tt
 
--- ---- a unit
+  -- ---- a unit
 
-pub step-whole : (f g : Framing) (session new_session : SessionState) (out new_out : List ℕ) (marks new_marks : List Mark)
-    (end new_end ended : Option End) (has_ended : Bool) (old : ConnectionState) (from to : ℕ)
-    (done : Result (Unit {0}) memory.Memory) (answer : Stepped)
-    → state_of f session out marks end has_ended ≡ old → end ≡ None → AreAhead f.rest has_ended f g (Whole from to)
-    → IsEndAfter done ended new_end answer → OnOk done (EndsByUnit ended) → OnErr done (new_out ≡ out) → OnErr done (new_marks ≡ marks)
-    → IsStepped old (state_of g new_session new_out new_marks new_end has_ended) answer
-step-whole f g session new_session out new_out marks new_marks end new_end ended has_ended old from to (Ok nothing) answer e goes h done by no_out no_marks =
-    let here : ConnectionState = state_of f session out marks end has_ended in
-    let new : ConnectionState = state_of g new_session new_out new_marks new_end has_ended in
-    let a = ahead-whole f.rest has_ended f g from to h in
-    subst (λ (o : ConnectionState). IsStepped o new answer) e
-    (subst (λ (s : Stepped). IsStepped here new s) (sym done.1) (
-      busy-whole here g.unit g.rest goes a.given.frame a.given.spelled,
-      (
-        goes,
+  pub goes-whole : (route : Route) (f g : Framing) (a b : AnsweringState S) (end new_end : Option End) (has_ended : Bool)
+      (old : ConnectionState S) (from to : ℕ) (unit : List ℕ) (done : Result (Option End) memory.Memory) (answer : Stepped)
+      → state_of f a end has_ended ≡ old → AreAhead f.rest has_ended f g (Whole from to) → unit ≡ g.unit
+      → IfOk done (IsUnitBegun route from unit a b) → OnErr done (IsUnbegun route a b) → IsEndAfter done new_end answer
+      → GoesAhead route old (state_of g b new_end has_ended) answer
+  goes-whole route f g a b end new_end has_ended old from to unit (Ok ended) answer e h is begun none done =
+      let here : ConnectionState S = state_of f a end has_ended in
+      let new : ConnectionState S = state_of g b new_end has_ended in
+      let ahead = ahead-whole f.rest has_ended f g from to h in
+      let at_unit = subst (λ (u : List ℕ). IsUnitBegun route from u a b ended) is begun in
+      let at_place = subst (λ (p : ℕ). IsUnitBegun route p g.unit a b ended) ahead.from at_unit in
+      let by_end = subst (λ (o : Option End). IsUnitBegun route f.end g.unit a b o) (sym done.0) at_place in
+      subst (λ (o : ConnectionState S). GoesAhead route o new answer) e
+      (subst (λ (s : Stepped). GoesAhead route here new s) (sym done.1) (
+        busy-whole here g.unit g.rest ahead.given.frame ahead.given.spelled,
         refl,
         inl (record {
           unit = g.unit;
-          whole = a.given.frame;
-          filled = frame-octets g.unit a.given.frame;
-          taken = a.given.spelled;
-          ended = subst EndsByUnit (sym done.0) by;
+          whole = ahead.given.frame;
+          filled = frame-octets g.unit ahead.given.frame;
+          taken = ahead.given.spelled;
+          begun = by_end;
+          ended = begun-ends route f.end g.unit a b new_end by_end;
         }),
-      ),
-    ))
-step-whole f g session new_session out new_out marks new_marks end new_end ended has_ended old from to (Err want) answer e goes h done by no_out no_marks =
-    let new : ConnectionState = state_of g new_session new_out new_marks new_end has_ended in
-    subst (λ (o : ConnectionState). IsStepped o new answer) e
-    (subst (λ (s : Stepped). IsStepped (state_of f session out marks end has_ended) new s) (sym done.1)
-    (record { ended = done.0; out = no_out; marks = no_marks }))
+      ))
+  goes-whole route f g a b end new_end has_ended old from to unit (Err want) answer e h is begun none done =
+      let here : ConnectionState S = state_of f a end has_ended in
+      let new : ConnectionState S = state_of g b new_end has_ended in
+      subst (λ (o : ConnectionState S). GoesAhead route o new answer) e
+      (subst (λ (s : Stepped). GoesAhead route here new s) (sym done.1) (record { ended = done.0; has_ended = refl; unbegun = none }))
 
-pub keeps-whole : {W : Type 0} (w : world.Ghosts W) (route : Route) (f g : Framing) (session new_session : SessionState)
-    (out new_out : List ℕ) (marks new_marks : List Mark) (end new_end : Option End) (has_ended : Bool) (old : ConnectionState)
-    (from to : ℕ) (unit : List ℕ) (of_unit : UnitAnswer) (done : Result (Unit {0}) memory.Memory) (answer : Stepped)
-    → state_of f session out marks end has_ended ≡ old → end ≡ None → AreAhead f.rest has_ended f g (Whole from to)
-    → unit ≡ g.unit
-    → AnswersUnit w route from unit (record { session = session; out = out }) (record { session = new_session; out = new_out }) of_unit
-    → OnOk done (new_marks ≡ marks ++ option_to_list of_unit.mark) → IsEndAfter done of_unit.end new_end answer
-    → UnlessMemory answer (KeepsState w route old (state_of g new_session new_out new_marks new_end has_ended))
-keeps-whole w route f g session new_session out new_out marks new_marks end new_end has_ended old from to unit of_unit (Ok nothing) answer e goes h is answers put done =
-    let here : ConnectionState = state_of f session out marks end has_ended in
-    let new : ConnectionState = state_of g new_session new_out new_marks new_end has_ended in
-    let a = ahead-whole f.rest has_ended f g from to h in
-    let at_unit = subst (λ (u : List ℕ). AnswersUnit w route from u (served here) (served new) of_unit) is answers in
-    let at_place = subst (λ (p : ℕ). AnswersUnit w route p g.unit (served here) (served new) of_unit) a.from at_unit in
-    let keeps = unit-keeps w route here new g.unit of_unit (record {
-      goes = goes;
-      frame = a.given.frame;
-      taken = a.given.spelled;
-      first = a.first;
-      place = a.given.ends;
-      answers = at_place;
-      marks = put;
-      ended = done.0;
-    }) in
-    subst (λ (s : Stepped). UnlessMemory s (KeepsState w route old new)) (sym done.1)
-    (subst (λ (o : ConnectionState). KeepsState w route o new) e keeps)
-keeps-whole w route f g session new_session out new_out marks new_marks end new_end has_ended old from to unit of_unit (Err want) answer e goes h is answers put done =
-    let new : ConnectionState = state_of g new_session new_out new_marks new_end has_ended in
-    subst (λ (s : Stepped). UnlessMemory s (KeepsState w route old new)) (sym done.1) tt
+  pub keeps-whole : {W : Type 0} (w : world.Ghosts W) (route : Route) (f g : Framing) (a b : AnsweringState S) (end new_end : Option End)
+      (has_ended : Bool) (old : ConnectionState S) (from to : ℕ) (unit : List ℕ) (done : Result (Option End) memory.Memory) (answer : Stepped)
+      → state_of f a end has_ended ≡ old → end ≡ None → a.in_work ≡ None → AreAhead f.rest has_ended f g (Whole from to) → unit ≡ g.unit
+      → IfOk done (IsUnitBegun route from unit a b) → IsEndAfter done new_end answer
+      → UnlessMemory answer (KeepsState w route old (state_of g b new_end has_ended))
+  keeps-whole w route f g a b end new_end has_ended old from to unit (Ok ended) answer e goes rests h is begun done =
+      let here : ConnectionState S = state_of f a end has_ended in
+      let new : ConnectionState S = state_of g b new_end has_ended in
+      let ahead = ahead-whole f.rest has_ended f g from to h in
+      let at_unit = subst (λ (u : List ℕ). IsUnitBegun route from u a b ended) is begun in
+      let at_place = subst (λ (p : ℕ). IsUnitBegun route p g.unit a b ended) ahead.from at_unit in
+      let by_end = subst (λ (o : Option End). IsUnitBegun route f.end g.unit a b o) (sym done.0) at_place in
+      let keeps = unit-keeps w route here new g.unit (record {
+        goes = goes;
+        rests = rests;
+        frame = ahead.given.frame;
+        taken = ahead.given.spelled;
+        first = ahead.first;
+        place = ahead.given.ends;
+        begun = by_end;
+      }) in
+      subst (λ (s : Stepped). UnlessMemory s (KeepsState w route old new)) (sym done.1)
+      (subst (λ (o : ConnectionState S). KeepsState w route o new) e keeps)
+  keeps-whole w route f g a b end new_end has_ended old from to unit (Err want) answer e goes rests h is begun done =
+      subst (λ (s : Stepped). UnlessMemory s (KeepsState w route old (state_of g b new_end has_ended))) (sym done.1) tt
+
+-- ---- by what begins a unit
+
+module _ {W S : Type 0} (w : world.Ghosts W) (t : sitting.Ghosts S W) (route : Route) (at : ℕ) (unit : List ℕ) (a b : AnsweringState S) where
+  pub begun-ok : (done : Result (Option End) memory.Memory) → IsBegunSo w t route at unit a b done → IfOk done (IsUnitBegun route at unit a b)
+  begun-ok (Ok ended) h = h.begun
+  begun-ok (Err want) h = tt
+
+  pub begun-err : (done : Result (Option End) memory.Memory) → IsBegunSo w t route at unit a b done → OnErr done (IsUnbegun route a b)
+  begun-err (Ok ended) h = tt
+  begun-err (Err want) h = h
+
+  pub begun-of : (most : ℕ) (done : Result (Option End) memory.Memory) (end : Option End) (answer : Stepped)
+      → AllByRecursion (HasLegsOf route) a.session.sets → IsBegunSo w t route at unit a b done → IsEndAfter done end answer → end ≡ None
+      → IsOfRoute w t route most b.session.sets b.in_work
+  begun-of most (Ok ended) end answer sets h done goes = record {
+    sets = unit-sets route at unit a b ended sets h.begun (sym done.0 ∙ goes);
+    in_work = h.of most;
+  }
+  begun-of most (Err want) end answer sets h done goes = let wrong = sym done.0 ∙ goes in absurd cc
+
+  pub begun-one : (done : Result (Option End) memory.Memory) (end : Option End) (answer : Stepped)
+      → IsBegunSo w t route at unit a b done → IsEndAfter done end answer → end ≡ None → IsOneWork b.session.waiting b.in_work
+  begun-one (Ok ended) end answer h done goes = h.one_work
+  begun-one (Err want) end answer h done goes = let wrong = sym done.0 ∙ goes in absurd cc
+
+-- a connection that ended does not go on
+some-ends : (done : Result (Option End) memory.Memory) (end : Option End) (answer : Stepped) → IfOk done IsSome → IsEndAfter done end answer
+    → end ≡ None → ⊥
+some-ends (Ok None) end answer some done goes = let wrong : false ≡ true = some in absurd cc
+some-ends (Ok (Some how)) end answer some done goes = let wrong = sym done.0 ∙ goes in absurd cc
+some-ends (Err want) end answer some done goes = let wrong = sym done.0 ∙ goes in absurd cc
+
+pub ended-stays : {P : Type 0} (how : End) (end : Option End) (answer : Stepped) → IsEndAfter (Ok (Some how)) end answer → end ≡ None → P
+ended-stays how end answer done goes = absurd (some-ends (Ok (Some how)) end answer refl done goes)
+
+bad-some : (done : Result (Option End) memory.Memory) (at : ℕ) → IfOk done (λ ended. ended ≡ Some (Malformed at)) → IfOk done IsSome
+bad-some (Ok ended) at h = subst (λ (o : Option End). IsSome o) (sym h) refl
+bad-some (Err want) at h = tt
+
+pub bad-stays : {P : Type 0} (done : Result (Option End) memory.Memory) (at : ℕ) (end : Option End) (answer : Stepped)
+    → IfOk done (λ ended. ended ≡ Some (Malformed at)) → IsEndAfter done end answer → end ≡ None → P
+bad-stays done at end answer how put goes = absurd (some-ends done end answer (bad-some done at how) put goes)
+
+-- a connection with no request in work, whose sets are of the route
+pub of-same : {W S : Type 0} (w : world.Ghosts W) (t : sitting.Ghosts S W) (route : Route) (most : ℕ) (a : AnsweringState S)
+    → AllByRecursion (HasLegsOf route) a.session.sets → a.in_work ≡ None → IsOfRoute w t route most a.session.sets a.in_work
+of-same {S = S} w t route most a sets rests =
+    record { sets = sets; in_work = subst (λ (i : Option (PackageView S)). IfSome i (IsPackageOf w t route most)) (sym rests) tt }
+
+-- a connection that stays as it was
+pub same-keeps : {W S : Type 0} (w : world.Ghosts W) (route : Route) (old new : ConnectionState S) → new ≡ old → KeepsState w route old new
+same-keeps {S = S} w route old new is = λ fair fed written h. subst (λ (s : ConnectionState S). IsStateOf w route fed written s) (sym is) h

@@ -1,5 +1,2 @@
-pub mod States
-pub mod Steps
-pub mod Feeding
-pub mod Ahead
-pub mod Answering
+pub mod steps
+pub mod Serving

@@ -1,7 +1,7 @@
 //! What a connection goes on with (ANSI/NISO Z39.50-2003, 4.2; X.690:2021, 8.1).
 
 ghost use Rattle.std.specs.Prelude.{◌≡◌, None};
-ghost use Rattle.front_conn.specs.Ahead.{IsAhead, IsUnitAhead, end_or_nothing, is_letter_first};
+ghost use Rattle.front_conn.specs.steps.Ahead.{IsAhead, IsUnitAhead, end_or_nothing, is_letter_first};
 
 use z_frame::{Framed, Framer};
 use z_types::End;

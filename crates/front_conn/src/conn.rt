@@ -1,78 +1,87 @@
 //! A connection.
 
-ghost use Rattle.std.specs.Prelude.{◌≡◌, Some, None, false, OnOk, OnErr};
+ghost use Rattle.std.specs.Prelude.{◌≡◌, ℕ, IfSome, IsSome, None, OnErr, OnOk, Some, false};
+ghost use Rattle.std.specs.List.{AllByRecursion};
+ghost use Rattle.std.specs.Option.{option_map};
+ghost use Rattle.route_config.specs.declared.route.Route.{Route};
 ghost use Rattle.front_session.specs.Sessions.{new_session};
-ghost use Rattle.front_conn.specs.States.{nothing_yet};
-ghost use Rattle.front_conn.specs.Feeding.{with_piece, with_end, without_out};
-ghost use Rattle.front_conn.specs.Steps.{IsEndAfter, IsStepped, KeepsState, UnlessMemory};
+ghost use Rattle.package.specs.steps.Ends.{lost_seats};
+ghost use Rattle.package.specs.steps.Packages.{IsPackageOf};
+ghost use Rattle.front_conn.specs.steps.Answering.{legs_in};
+ghost use Rattle.front_conn.specs.steps.Feeding.{with_end, with_piece, without_out, without_work};
+ghost use Rattle.front_conn.specs.steps.States.{HasLegsOf, IsConnOf, nothing_yet};
+ghost use Rattle.front_conn.specs.steps.Steps.{GoesAhead, HasTurned, IsEndAfter, IsStepped, KeepsState, UnlessMemory, end_of};
 
-use crate::Stepped;
 use crate::ahead::{Ahead, look};
-use crate::answer::take_unit;
-use front_session::FrontSession;
-use gateway_rules::bad_unit_reply;
-use gw_outside::Targets;
+use crate::answering::Answering;
+use crate::{Stepped, Total};
+use gw_outside::Backend;
+use package::{package_cause_is_allowed, package_outcome_is_true};
+use package_rules::have_members;
+use pool_sets::Door;
 use route_config::Route;
 use std::alloc::Global;
 use std::marker::Model;
 use z_frame::Framer;
-use z_types::{End, List, Mark, Memory, Text};
-use z_write::put_reply;
+use z_types::{End, List, Mark, Memory, Sitting, World};
 
-/// A connection of one client: the octets that were not taken yet, its session, and what was answered.
+/// A connection of one client: the octets that were not taken yet, its session, the request in work, and
+/// what was answered.
 ///
 /// ```text
 /// new    once, first
 /// feed   for each piece that comes, until the input has ended
 /// end_input   once no more will come
-/// step   after each piece, and after the end of the input, again until it is Idle or Memory
+/// step   after each piece, and after the end of the input, again until it is Idle or Memory, also
+///        after NotYet; with one route for all, and doors that open as many sessions at most
 /// out, clear_out   after steps: what is to be written, then cleared once it is written
 /// end    tells whether it has ended: from then on feed and step do nothing
-/// marks, into_parts   last
+/// give_up   where it is left before its end, and after Memory
+/// marks, totals, into_marks   last
 /// ```
 #[derive(Drop)]
-pub struct Conn {
+pub struct Conn<W: World, S: Sitting<W>> {
     framer: Framer,
-    session: FrontSession,
-    out: Text,
-    marks: List<Mark>,
+    answering: Answering<W, S>,
     end: Option<End>,
     has_ended: bool,
 }
 
-impl Model for Conn {
+impl<W: World, S: Sitting<W>> Model for Conn<W, S> {
     ghost use Rattle.std.specs.Prelude.{◌≡◌, None};
     ghost use Rattle.std.specs.Coded.{codes};
     ghost use Rattle.z_types.specs.Tree.{tree_code};
-    ghost use Rattle.front_conn.specs.States.{ConnectionState};
+    ghost use Rattle.front_conn.specs.steps.States.{ConnectionState, IsOneWork};
 
-    ghost Value = { ConnectionState };
+    ghost Value = { ConnectionState S };
 
     ghost coded = { Prim.hlevel (codes, tree_code) };
 
     ghost view = { λ c. record {
-      session = c.session;
+      session = c.answering.session;
+      in_work = c.answering.in_work;
+      totals = c.answering.totals;
+      marks = c.answering.marks;
+      out = c.answering.out;
       at = c.framer.end;
       left = c.framer.rest;
       has_ended = c.has_ended;
-      marks = c.marks;
-      out = c.out;
       end = c.end;
     } };
 
-    ghost invariant = { λ c. c.end ≡ None → c.framer.refused ≡ None };
+    ghost invariant = { λ c. c.end ≡ None
+        → (c.framer.refused ≡ None) × IsOneWork c.answering.session.waiting c.answering.in_work };
 }
 
-impl Conn {
+impl<W: World, S: Sitting<W>> Conn<W, S> {
     /// A connection of which nothing has come.
-    pub fn new(alloc: Global) -> Conn
-        ensures { result ≡ nothing_yet new_session }
+    pub fn new(alloc: Global) -> Conn<W, S>
+        ensures new { result ≡ nothing_yet new_session }
+        ensures of { (route : Route) (most : ℕ) → IsConnOf W.World S.Sitting route most result }
     {
         Conn {
             framer: Framer::new(alloc),
-            session: FrontSession::new(alloc),
-            out: Text::new(alloc),
-            marks: List::new(alloc),
+            answering: Answering::new(alloc),
             end: None,
             has_ended: false,
         }
@@ -102,21 +111,29 @@ impl Conn {
     pub fn out(&self) -> &[u8]
         ensures { result.now ≡ self.now.out }
     {
-        self.out.as_slice()
+        self.answering.out()
     }
 
     /// All that was to be written has been written.
     pub fn clear_out(&mut self)
         ensures { self.new ≡ without_out self.old }
     {
-        self.out.truncate(0);
+        self.answering.clear_out();
     }
 
     /// Under which mark each request was answered, in their order.
     pub fn marks(&self) -> &List<Mark>
         ensures { result.now ≡ self.now.marks }
     {
-        &self.marks
+        self.answering.marks()
+    }
+
+    /// What the legs of its requests counted: a sum for each class of the route, in their order, once a
+    /// unit was begun. What the legs of the request in work counted is not in them yet.
+    pub fn totals(&self) -> &List<Total>
+        ensures { result.now ≡ self.now.totals }
+    {
+        self.answering.totals()
     }
 
     /// How the connection has ended, if it did.
@@ -126,53 +143,138 @@ impl Conn {
         self.end
     }
 
-    /// What is to be written, and the marks.
-    pub fn into_parts(self) -> (Text, List<Mark>)
-        ensures out { result.0 ≡ self.out }
-        ensures marks { result.1 ≡ self.marks }
+    /// The marks, given back.
+    pub fn into_marks(self) -> List<Mark>
+        ensures { result ≡ self.marks }
     {
-        (self.out, self.marks)
+        self.answering.into_marks()
     }
 
-    /// Answers the next unit of the client, or ends the connection: by the end of its input, or by octets
-    /// that are no unit. One unit or one end is taken in a step. Without memory the connection ends so;
-    /// nothing is written then, and no mark is listed.
-    pub fn step<T: Targets>(&mut self, alloc: Global, route: &Route, targets: &T) -> Stepped
-        ensures stepped { IsStepped self.old self.new result }
-        ensures keeps { UnlessMemory result (KeepsState T.World route.now self.old self.new) }
+    /// One step: the request in work has its turn, in which each of its legs that is not done goes on, and
+    /// is answered once all are done; or else the next unit of the client is begun, and answered at once
+    /// where it asks nothing of a target; or the connection ends, by the end of its input or by octets that
+    /// are no unit. Without memory the connection ends so, with nothing written in that step.
+    pub fn step<B: Backend<W, Session = S>, D: Door<W, S>>(
+        &mut self,
+        alloc: Global,
+        route: &Route,
+        backend: &mut B,
+        door: &mut D,
+        now: u64,
+    ) -> Stepped
+        requires of { IsConnOf W.World S.Sitting route.now (D.counts door.old).most self.old }
+        ensures of { IsConnOf W.World S.Sitting route.now (D.counts door.new).most self.new }
+        ensures most { (D.counts door.new).most ≡ (D.counts door.old).most }
+        ensures stepped { IsStepped W.World S.Sitting B.exact route.now now self.old self.new result
+            (record {
+              door = record { pool = D.pool door.old; counts = D.counts door.old };
+              backend = record { counts = B.counts backend.old; happened = B.happened backend.old };
+            })
+            (record {
+              door = record { pool = D.pool door.new; counts = D.counts door.new };
+              backend = record { counts = B.counts backend.new; happened = B.happened backend.new };
+            }) }
+        ensures keeps { UnlessMemory result (KeepsState W.World route.now self.old self.new) }
     {
         if self.end.is_some() {
             return Stepped::Idle;
         }
+        if self.answering.is_in_work() {
+            return self.turn(alloc, route, backend, door, now);
+        }
+        self.go_ahead(alloc, route)
+    }
+
+    /// Turns the request in work.
+    fn turn<B: Backend<W, Session = S>, D: Door<W, S>>(
+        &mut self,
+        alloc: Global,
+        route: &Route,
+        backend: &mut B,
+        door: &mut D,
+        now: u64,
+    ) -> Stepped
+        requires goes_on { self.old.end ≡ None }
+        requires works { IsSome self.old.in_work }
+        requires of { IfSome self.old.in_work
+            (IsPackageOf W.World S.Sitting route.now (D.counts door.old).most) }
+        requires sets { AllByRecursion (HasLegsOf route.now) self.old.session.sets }
+        ensures of { IsConnOf W.World S.Sitting route.now (D.counts door.new).most self.new }
+        ensures most { (D.counts door.new).most ≡ (D.counts door.old).most }
+        ensures turns { IfSome self.old.in_work (λ view.
+            HasTurned W.World S.Sitting B.exact route.now now view self.old self.new result
+            (record {
+              door = record { pool = D.pool door.old; counts = D.counts door.old };
+              backend = record { counts = B.counts backend.old; happened = B.happened backend.old };
+            })
+            (record {
+              door = record { pool = D.pool door.new; counts = D.counts door.new };
+              backend = record { counts = B.counts backend.new; happened = B.happened backend.new };
+            })) }
+        ensures keeps { UnlessMemory result (KeepsState W.World route.now self.old self.new) }
+    {
+        let _ = route.parts();
+        have_members(route);
+        package_cause_is_allowed::<W, S>();
+        package_outcome_is_true::<W, S>();
+        let stepped = self.answering.turn(alloc, route, backend, door, now);
+        end_turn(&mut self.end, stepped);
+        stepped
+    }
+
+    /// Goes ahead where no request is in work: takes and begins the next unit, or ends the connection.
+    fn go_ahead(&mut self, alloc: Global, route: &Route) -> Stepped
+        requires goes_on { self.old.end ≡ None }
+        requires rests { self.old.in_work ≡ None }
+        requires sets { AllByRecursion (HasLegsOf route.now) self.old.session.sets }
+        ensures of { (most : ℕ) → IsConnOf W.World S.Sitting route.now most self.new }
+        ensures goes { GoesAhead route.now self.old self.new result }
+        ensures keeps { UnlessMemory result (KeepsState W.World route.now self.old self.new) }
+    {
         match look(&mut self.framer, self.has_ended) {
             Ahead::Nothing => Stepped::Idle,
-            Ahead::Ended(end) => {
-                self.end = Some(end);
-                Stepped::Went
-            }
+            Ahead::Ended(end) => end_step(&mut self.end, Ok(Some(end))),
             Ahead::Bad(at) => {
-                let put = put_reply(&mut self.out, &bad_unit_reply());
-                end_step(&mut self.end, put, Some(End::Malformed(at)))
+                let done = self.answering.refuse(at);
+                end_step(&mut self.end, done)
             }
             Ahead::Whole(start, end) => {
                 let unit = self.framer.unit(start, end);
-                let (session, out) = (&mut self.session, &mut self.out);
-                let marks = &mut self.marks;
-                match take_unit(alloc, session, route, unit, start, out, marks, targets) {
-                    Ok(answer) => end_step(&mut self.end, Ok(()), answer.end),
-                    Err(memory) => end_step(&mut self.end, Err(memory), None),
-                }
+                let done = self.answering.begin(alloc, route, unit, start);
+                end_step(&mut self.end, done)
             }
         }
     }
+
+    /// Gives up each session that is out for the request in work, which is answered no more; what its legs
+    /// counted is added to the sums. The connection is then of no more use.
+    pub fn give_up<D: Door<W, S>>(&mut self, door: &mut D)
+        ensures state { self.new ≡ without_work self.old }
+        ensures pool { D.pool door.new
+            ≡ option_map (lost_seats (legs_in self.old.in_work)) (D.pool door.old) }
+        ensures counts { D.counts door.new ≡ D.counts door.old }
+    {
+        self.answering.give_up(door);
+    }
 }
 
-/// How the connection stands behind a step: without memory it has ended so.
-fn end_step(end: &mut Option<End>, done: Result<(), Memory>, ended: Option<End>) -> Stepped
-    ensures { IsEndAfter done ended end.new result }
+/// How a connection stands behind the turn of a request in work: without memory it has ended so.
+fn end_turn(end: &mut Option<End>, stepped: Stepped)
+    requires { end.old ≡ None }
+    ensures { end.new ≡ end_of stepped }
+{
+    match stepped {
+        Stepped::Memory => *end = Some(End::Memory),
+        Stepped::Idle | Stepped::NotYet | Stepped::Went => {}
+    }
+}
+
+/// How a connection stands behind what was done: without memory it has ended so.
+fn end_step(end: &mut Option<End>, done: Result<Option<End>, Memory>) -> Stepped
+    ensures { IsEndAfter done end.new result }
 {
     match done {
-        Ok(()) => {
+        Ok(ended) => {
             *end = ended;
             Stepped::Went
         }

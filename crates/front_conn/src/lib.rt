@@ -1,14 +1,20 @@
-//! A connection of a client: octets in any pieces in, the answers to them out, one step at a time.
+//! A connection of a client: octets in any pieces in, the answers to them out, one step at a time, over
+//! links to the targets.
 #![tactic(auto)]
 
 mod ahead;
-mod answer;
+mod answering;
 mod conn;
 mod laws;
+mod serving;
 mod stepped;
+mod totals;
 
 pub use conn::Conn;
 pub use laws::{
     ends_answered, stands_at_start, stands_when_ended, stands_when_fed, stands_when_written,
+    stays_of_route,
 };
+pub use serving::{Served, serve_connection};
 pub use stepped::Stepped;
+pub use totals::Total;

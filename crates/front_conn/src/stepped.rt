@@ -3,12 +3,13 @@
 /// What a step of a connection did.
 #[derive(Clone, Copy, PartialEq, Eq, Debug)]
 pub enum Stepped {
-    /// Nothing: the connection has ended, or no whole request, no bad unit and no end waits.
+    /// Nothing: the connection has ended, or nothing is in work and no whole request, no bad unit and
+    /// no end waits.
     Idle,
-    /// Nothing yet: the targets of the request in work have not answered.
+    /// It turned the request in work, and each leg that was not done heard nothing.
     NotYet,
-    /// It answered a unit, or ended the connection.
+    /// It began or answered a request, turned the one in work, or ended the connection.
     Went,
-    /// No memory could be had.
+    /// No memory could be had: the connection has ended so, and is to be given up.
     Memory,
 }

@@ -7,7 +7,7 @@ ghost use Rattle.z_types.specs.Bib1.{bib1};
 ghost use Rattle.z_types.specs.Bounds.{most_number};
 ghost use Rattle.z_types.specs.declared.conditions.Condition.TheVariants.{PresentRequestOutOfRange};
 
-use front_conn::{
+use front_direct::{
     Conn, ends_answered, stands_at_start, stands_when_ended, stands_when_fed, stands_when_written,
 };
 use gw_outside::{TargetAnswer, Targets};

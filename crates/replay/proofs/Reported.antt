@@ -5,8 +5,8 @@ use Rattle.z_types.specs.declared.marks.Mark.{Mark}
 use Rattle.z_types.specs.declared.world.World as world
 use Rattle.route_config.specs.declared.route.Route.{Route}
 use Rattle.gateway_rules.specs.Answers.{Answers}
-use Rattle.front_conn.specs.States.{ConnectionState, IsStateOf, StandsOrEnded, HasEnded}
-use Rattle.front_conn.specs.Feeding.{EndsAnswered}
+use Rattle.front_direct.specs.States.{ConnectionState, IsStateOf, StandsOrEnded, HasEnded}
+use Rattle.front_direct.specs.Feeding.{EndsAnswered}
 use Rattle.gateway_rules.specs.OneAnswer.{AreMarksPlain}
 use Rattle.replay.specs.Report.{IsClientReport}
 

@@ -1,7 +1,7 @@
 -- How many steps a connection can still take, and how it ends.
 use Rattle.std.proofs.Common.{◌+◌, ℕ, length, Option, Some, None}
 use Rattle.z_types.specs.declared.marks.End.{End}
-use Rattle.front_conn.specs.States.{ConnectionState}
+use Rattle.front_direct.specs.States.{ConnectionState}
 
 -- one for each octet that is left, and one for the end
 abbrev pub steps_until : Option End → ℕ → ℕ

@@ -1,13 +1,13 @@
 //! One client's connection, fed and stepped to its end (ANSI/NISO Z39.50-2003, 4.2).
 
 ghost use Rattle.std.specs.Prelude.{◌≡◌, [], true, IfOk, OnOk, IsSome};
-ghost use Rattle.front_conn.specs.States.{IsStateOf};
-ghost use Rattle.front_conn.specs.Steps.{KeepsState};
+ghost use Rattle.front_direct.specs.States.{IsStateOf};
+ghost use Rattle.front_direct.specs.Steps.{KeepsState};
 ghost use Rattle.replay.specs.steps.Connections.{IsFedWhole};
 ghost use Rattle.replay.specs.Report.{IsClientReport};
 
 use crate::ClientReport;
-use front_conn::{
+use front_direct::{
     Conn, Stepped, ends_answered, stands_at_start, stands_when_ended, stands_when_fed,
 };
 use gw_outside::Targets;

@@ -2,4 +2,4 @@ use Rattle.front_conn.proofs.FeedLemmas.{stands-at-start}
 use Rattle.front_conn.proofs.laws.stands_at_start.Goals as goal
 
 pub returns : goal.returns
-returns g c = stands-at-start g.W.World
+returns g c = stands-at-start g.W.World g.S.Sitting

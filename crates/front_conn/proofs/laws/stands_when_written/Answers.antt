@@ -2,4 +2,4 @@ use Rattle.front_conn.proofs.FeedLemmas.{stands-when-written}
 use Rattle.front_conn.proofs.laws.stands_when_written.Goals as goal
 
 pub returns : goal.returns
-returns g c = stands-when-written g.W.World
+returns g c = stands-when-written g.W.World g.S.Sitting

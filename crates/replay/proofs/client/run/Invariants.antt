@@ -1,5 +1,5 @@
 use Rattle.std.proofs.Common.{◌≡◌, true}
-use Rattle.front_conn.specs.Steps.{KeepsState}
+use Rattle.front_direct.specs.Steps.{KeepsState}
 use Rattle.replay.proofs.Stepping.{steps_left}
 use Rattle.replay.proofs.client.run.Given as goal
 

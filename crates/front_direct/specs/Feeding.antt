@@ -5,7 +5,7 @@ use Rattle.z_types.specs.declared.world.World as world
 use Rattle.route_config.specs.declared.route.Route.{Route}
 use Rattle.gateway_rules.specs.Answers.{Answers}
 use Rattle.front_session.specs.Sessions.{new_session}
-use Rattle.front_conn.specs.States.{ConnectionState, IsStateOf, nothing_yet}
+use Rattle.front_direct.specs.States.{ConnectionState, IsStateOf, nothing_yet}
 
 -- a piece stands behind the octets that were not taken, where the connection has not ended
 abbrev pub fed_piece : Option End → ConnectionState → List ℕ → ConnectionState

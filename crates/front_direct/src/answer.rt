@@ -5,7 +5,7 @@ ghost use Rattle.z_types.specs.declared.marks.Mark.TheVariants.{Plain};
 ghost use Rattle.gateway_rules.specs.Outcomes.{plain_outcome};
 ghost use Rattle.gateway_rules.specs.Works.{CanBegin};
 ghost use Rattle.front_z.specs.Units.{IsEnded};
-ghost use Rattle.front_conn.specs.Answering.{AnswersUnit, EndsByUnit, IsWrittenBehind};
+ghost use Rattle.front_direct.specs.Answering.{AnswersUnit, EndsByUnit, IsWrittenBehind};
 
 use front_session::FrontSession;
 use front_z::{Begun, begin_unit, end_unit};

@@ -27,10 +27,10 @@ use Rattle.front_session.specs.Sessions.{SessionState, Waiting, client_of, progr
 use Rattle.front_session.specs.Admitting.{hits_named, counted}
 use Rattle.front_z.specs.Units.{Served, IsBegun, IsDueBegun, IsMetBegun, IsEnded}
 use Rattle.front_z.specs.declared.units.Begun.TheVariants as begun
-use Rattle.front_conn.specs.States.{HasMeantHits}
-use Rattle.front_conn.specs.Answering.{AnswersUnit, IsMetAnswered, IsPlainly, IsSteady, IsWrittenBehind}
-use Rattle.front_conn.specs.declared.answer.UnitAnswer.{UnitAnswer}
-use Rattle.front_conn.proofs.SetLemmas.{asked_with-meant, sets-meant}
+use Rattle.front_direct.specs.States.{HasMeantHits}
+use Rattle.front_direct.specs.Answering.{AnswersUnit, IsMetAnswered, IsPlainly, IsSteady, IsWrittenBehind}
+use Rattle.front_direct.specs.declared.answer.UnitAnswer.{UnitAnswer}
+use Rattle.front_direct.proofs.SetLemmas.{asked_with-meant, sets-meant}
 
 -- what was answered, and no end
 abbrev pub told_plainly : UnitAnswer

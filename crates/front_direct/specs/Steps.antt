@@ -8,10 +8,10 @@ use Rattle.z_types.specs.declared.world.World as world
 use Rattle.route_config.specs.declared.route.Route.{Route}
 use Rattle.z_ber.specs.Frames.{IsFrame}
 use Rattle.gateway_rules.specs.Answers.{IsOpen}
-use Rattle.front_conn.specs.Answering.{EndsByUnit}
-use Rattle.front_conn.specs.States.{ConnectionState, IsStateOf}
-use Rattle.front_conn.specs.declared.stepped.Stepped.{Stepped}
-use Rattle.front_conn.specs.declared.stepped.Stepped.TheVariants.{Idle, NotYet, Went, Memory}
+use Rattle.front_direct.specs.Answering.{EndsByUnit}
+use Rattle.front_direct.specs.States.{ConnectionState, IsStateOf}
+use Rattle.front_direct.specs.declared.stepped.Stepped.{Stepped}
+use Rattle.front_direct.specs.declared.stepped.Stepped.TheVariants.{Idle, NotYet, Went, Memory}
 
 -- the first octet of a connection is an ASCII letter
 abbrev pub BeginsWithLetter : ConnectionState → ℕ → Type 0

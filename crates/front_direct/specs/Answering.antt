@@ -18,8 +18,8 @@ use Rattle.gateway_rules.specs.Settling.{Settled}
 use Rattle.front_session.specs.Sessions.{SessionState, client_of, progress_of}
 use Rattle.front_z.specs.Units.{Served, IsMetBegun}
 use Rattle.front_z.specs.declared.units.Begun.TheVariants as begun
-use Rattle.front_conn.specs.States.{HasMeantHits}
-use Rattle.front_conn.specs.declared.answer.UnitAnswer.{UnitAnswer}
+use Rattle.front_direct.specs.States.{HasMeantHits}
+use Rattle.front_direct.specs.declared.answer.UnitAnswer.{UnitAnswer}
 
 -- what a request is answered where no target fails
 abbrev pub answered_plainly : {W : Type 0} → world.Ghosts W → Route → SessionState → Request

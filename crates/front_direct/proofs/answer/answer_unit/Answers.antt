@@ -1,5 +1,5 @@
-use Rattle.front_conn.proofs.AnswerLemmas.{write-answers, write-behind, work-answers, work-behind, work-unwritten}
-use Rattle.front_conn.proofs.answer.answer_unit.Goals as goal
+use Rattle.front_direct.proofs.AnswerLemmas.{write-answers, write-behind, work-answers, work-behind, work-unwritten}
+use Rattle.front_direct.proofs.answer.answer_unit.Goals as goal
 
 pub returns-in-Write-clause-answers : goal.returns-in-Write-clause-answers
 returns-in-Write-clause-answers g c =

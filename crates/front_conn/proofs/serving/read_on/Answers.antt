@@ -1,0 +1,32 @@
+use Rattle.std.proofs.Common.{sym, subst, refl, take}
+use Rattle.z_types.specs.declared.marks.End.TheVariants as how
+use Rattle.front_conn.specs.Serving.{IsServed, source_view}
+use Rattle.front_conn.specs.steps.Serving.{IsWrittenOut}
+use Rattle.front_conn.specs.steps.States.{ConnectionState}
+use Rattle.front_conn.proofs.ServingLemmas.{serving-fed, serving-unfed, serving-unread}
+use Rattle.front_conn.proofs.serving.read_on.Goals as goal
+
+pub returns-in-Failed-clause-goes : goal.returns-in-Failed-clause-goes
+returns-in-Failed-clause-goes g c = λ route start output at.
+    serving-unread g.W.World g.S.Sitting route start (source_view g.I.Source c.args.source.now) (source_view g.I.Source c.read.new.self)
+    output c.args.conn.now c.requires.goes_on c.requires.rests c.requires.nothing_waits c.in-Failed.ensures.given
+    (c.in-Failed.ensures.failed refl) at
+
+pub returns-in-Ok-clause-goes : goal.returns-in-Ok-clause-goes
+returns-in-Ok-clause-goes g c = λ route start output at.
+    subst
+    (λ (s : ConnectionState g.row.S.Denot).
+    IsWrittenOut g.W.World route start (record { input = source_view g.I.Source c.read.new.self; output = output }) s)
+    (sym c.in-Ok.ensures.ok)
+    (serving-fed g.W.World g.S.Sitting route start (source_view g.I.Source c.args.source.now) (source_view g.I.Source c.read.new.self)
+    output c.args.conn.now (take c.in-Bytes.count c.read.new.into) c.stands_when_fed.ensures c.requires.nothing_waits.goes_on
+    c.in-Bytes.ensures.given c.in-Bytes.ensures.faults at)
+
+pub returns-in-Err-clause-goes : goal.returns-in-Err-clause-goes
+returns-in-Err-clause-goes g c = λ route start output at.
+    subst
+    (λ (s : ConnectionState g.row.S.Denot).
+    IsServed g.W.World route start (record { input = source_view g.I.Source c.read.new.self; output = output }) s.marks how.Memory)
+    (sym c.in-Err.ensures.err)
+    (serving-unfed g.W.World g.S.Sitting route start (source_view g.I.Source c.args.source.now)
+    (source_view g.I.Source c.read.new.self) output c.args.conn.now (take c.in-Bytes.count c.read.new.into) c.in-Bytes.ensures.given at)

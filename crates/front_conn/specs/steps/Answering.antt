@@ -1,0 +1,198 @@
+-- For contracts alone: how a unit is begun and its request answered (ANSI/NISO Z39.50-2003, 4.2)
+use Rattle.std.specs.Prelude.{◌≡◌, ◌⊎◌, ℕ, ◌+◌, ◌||◌, Bool, List, [], ◌∷◌, ◌++◌, Option, None, Some, Result, Ok, Err, IfSome, option_to_list, take}
+use Rattle.std.specs.List.{AllByRecursion}
+use Rattle.z_types.specs.declared.marks.End.{End}
+use Rattle.z_types.specs.declared.marks.End.TheVariants.{Closed, Malformed, Limited}
+use Rattle.z_types.specs.declared.marks.Mark.{Mark}
+use Rattle.z_types.specs.declared.memory.Memory.{Memory as NoMemory}
+use Rattle.z_types.specs.declared.requests.Request.{Request}
+use Rattle.z_types.specs.declared.sitting.Sitting as sitting
+use Rattle.z_types.specs.declared.work.Work.{Work}
+use Rattle.z_types.specs.declared.world.World as world
+use Rattle.route_config.specs.declared.route.Route.{Route}
+use Rattle.unit_forms.specs.Replies.{spell_reply}
+use Rattle.gateway_rules.specs.Course.{accepts}
+use Rattle.gateway_rules.specs.Marks.{Cause}
+use Rattle.gateway_rules.specs.Session.{answered}
+use Rattle.front_session.specs.Sessions.{SessionState, Waiting, client_of, new_session}
+use Rattle.front_z.specs.Units.{IsBegun, IsEnded, Served}
+use Rattle.front_z.specs.declared.units.Begun.{Begun}
+use Rattle.front_z.specs.declared.units.Begun.TheVariants as begun
+use Rattle.leg.specs.Deeds.{BackendView}
+use Rattle.leg.specs.LegView.{LegView}
+use Rattle.leg.specs.Turns.{DoorView}
+use Rattle.leg.specs.declared.answers.Turned.{Turned}
+use Rattle.leg.specs.declared.answers.Turned.TheVariants as turned
+use Rattle.package.specs.steps.Ends.{cause_in, outcome_in}
+use Rattle.package.specs.steps.Packages.{IsOver, IsPackageOf, PackageView, all_accounts, new_package}
+use Rattle.package.specs.steps.Turns.{IsPackageTurn}
+use Rattle.front_conn.specs.declared.stepped.Stepped.{Stepped}
+use Rattle.front_conn.specs.declared.stepped.Stepped.TheVariants.{Memory, NotYet, Went}
+use Rattle.front_conn.specs.declared.totals.Total.{Total}
+use Rattle.front_conn.specs.steps.States.{HasMeantHits, IsOneWork}
+use Rattle.front_conn.specs.steps.Totals.{totals_after, totals_for}
+
+-- what answers a client: its session, the request in work, what legs counted, the marks, and what is to be written
+pub record AnsweringState (S : Type 0) : Type 0 where
+  pub session : SessionState
+  pub in_work : Option (PackageView S)
+  pub totals : List Total
+  pub marks : List Mark
+  pub out : List ℕ
+
+-- nothing was answered
+abbrev pub nothing_answered : {S : Type 0} → AnsweringState S
+nothing_answered = record { session = new_session; in_work = None; totals = []; marks = []; out = [] }
+
+-- its session, and what was written
+abbrev pub served : {S : Type 0} → AnsweringState S → Served
+served state = record { session = state.session; out = state.out }
+
+-- ---- a unit
+
+-- a unit ends the connection by itself alone, if it does: it is a Close, none or out of its place, or beyond the last
+abbrev pub EndsByUnit : Option End → Type 0
+EndsByUnit None = Unit {0}
+EndsByUnit (Some Closed) = Unit {0}
+EndsByUnit (Some (Malformed at)) = Unit {0}
+EndsByUnit (Some Limited) = Unit {0}
+EndsByUnit other = ⊥
+
+-- a step that answered a request went, or memory was wanting
+abbrev pub stepped_by : Result (Unit {0}) NoMemory → Stepped
+stepped_by (Ok done) = Went
+stepped_by (Err memory) = Memory
+
+-- the sums of a connection's classes are made, or not yet
+abbrev pub AreMade : Route → (old new : List Total) → Type 0
+AreMade route old new = (new ≡ old) ⊎ (new ≡ totals_for route old)
+
+module _ {S : Type 0} where
+  -- nothing was written, and no mark listed
+  pub record IsUnwritten (old new : AnsweringState S) : Type 0 where
+    pub out : new.out ≡ old.out
+    pub marks : new.marks ≡ old.marks
+
+  -- the same, and no package is begun
+  pub record IsUnbegun (route : Route) (old new : AnsweringState S) : Type 0 where
+    pub unwritten : IsUnwritten old new
+    pub in_work : new.in_work ≡ None
+    pub totals : AreMade route old.totals new.totals
+
+-- the mark of a request is listed, and the connection ends so, if it does; without memory what was written is taken back
+abbrev pub IsListed : {S : Type 0} → Option Mark → Option End → (written : ℕ) → (old new : AnsweringState S)
+    → Result (Option End) NoMemory → Type 0
+IsListed mark end written old new (Ok ended) =
+    (ended ≡ end) × (new ≡ record old { marks = old.marks ++ option_to_list mark })
+IsListed mark end written old new (Err memory) = new ≡ record old { out = take written old.out }
+
+module _ {S : Type 0} (route : Route) where
+  -- what is kept behind a unit: it was answered at once, and has ended the connection so, if it did; or the package of its work is
+  -- begun
+  abbrev pub IsKeptBehind : (old new : AnsweringState S) → Option End → Begun → Type 0
+  IsKeptBehind old new ended (begun.Write mark end) =
+      (ended ≡ end) × (new.marks ≡ old.marks ++ option_to_list mark) × (new.in_work ≡ None)
+      × (new.totals ≡ totals_for route old.totals)
+  IsKeptBehind old new ended (begun.Work job) =
+      (ended ≡ None) × (new.marks ≡ old.marks) × (new.in_work ≡ Some (new_package route job))
+      × (new.totals ≡ totals_for route old.totals)
+  IsKeptBehind old new ended begun.Memory = ⊥
+
+  -- a unit at an offset was begun, and what is kept behind it
+  pub record IsUnitBegun (at : ℕ) (unit : List ℕ) (old new : AnsweringState S) (ended : Option End) : Type 0 where
+    pub answer : Begun
+    pub begun : IsBegun route at unit (served old) (served new) answer
+    pub kept : IsKeptBehind old new ended answer
+
+  -- the package of a work is begun
+  abbrev pub with_package : Work → AnsweringState S → AnsweringState S
+  with_package job old = record old { in_work = Some (new_package route job) }
+
+  -- ---- a request in work
+
+  -- the request that waited is answered by what came of its legs, under the mark of their cause
+  pub record IsAnsweredBy (view : PackageView S) (old new : AnsweringState S) : Type 0 where
+    pub waiting : Waiting
+    pub waited : old.session.waiting ≡ Some waiting
+    pub of_work : waiting.work ≡ view.work
+    pub ended : IsEnded (served old) (served new) waiting (outcome_in route view)
+    pub marks : new.marks ≡ old.marks ++ (cause_in route view).mark ∷ []
+
+  -- where memory could be had
+  abbrev pub IsAnsweredIf : Stepped → PackageView S → (old new : AnsweringState S) → Type 0
+  IsAnsweredIf Went view old new = IsAnsweredBy view old new
+  IsAnsweredIf Memory view old new = IsUnwritten old new
+  IsAnsweredIf other view old new = ⊥
+
+  -- a package that is over: what its legs counted is added to the sums, and its request is answered
+  pub record EndsWork (view : PackageView S) (old new : AnsweringState S) (answer : Stepped) : Type 0 where
+    pub over : IsOver view
+    pub in_work : new.in_work ≡ None
+    pub totals : new.totals ≡ totals_after old.totals (all_accounts view)
+    pub answered : IsAnsweredIf answer view old new
+
+  -- what a step answers, and what is kept, where the turn of the package in work answered this
+  abbrev pub WorksOn : Turned → PackageView S → (old new : AnsweringState S) → Stepped → Type 0
+  WorksOn turned.Went next old new answer = (answer ≡ Went) × (new ≡ record old { in_work = Some next })
+  WorksOn turned.NotYet next old new answer = (answer ≡ NotYet) × (new ≡ record old { in_work = Some next })
+  WorksOn turned.Done next old new answer = EndsWork next old new answer
+  WorksOn turned.Memory next old new answer = (answer ≡ Memory) × (new ≡ record old { in_work = Some next })
+
+module _ {W S : Type 0} (w : world.Ghosts W) (t : sitting.Ghosts S W) (route : Route) where
+  -- a package of the route is begun; without memory nothing is
+  abbrev pub IsWorkBegun : Work → (old new : AnsweringState S) → Result (Option End) NoMemory → Type 0
+  IsWorkBegun job old new (Ok ended) =
+      (ended ≡ None) × (new ≡ with_package route job old)
+      × ((most : ℕ) → IsPackageOf w t route most (new_package route job))
+  IsWorkBegun job old new (Err memory) = new ≡ old
+
+  -- behind a unit that was begun a package in work is one of the route, and of the work that the request waits for
+  pub record StandsBehind (at : ℕ) (unit : List ℕ) (old new : AnsweringState S) (ended : Option End) : Type 0 where
+    pub begun : IsUnitBegun route at unit old new ended
+    pub of : (most : ℕ) → IfSome new.in_work (IsPackageOf w t route most)
+    pub one_work : IsOneWork new.session.waiting new.in_work
+
+  -- without memory nothing was written
+  abbrev pub IsBegunSo : (at : ℕ) → (unit : List ℕ) → (old new : AnsweringState S) → Result (Option End) NoMemory → Type 0
+  IsBegunSo at unit old new (Ok ended) = StandsBehind at unit old new ended
+  IsBegunSo at unit old new (Err memory) = IsUnbegun route old new
+
+-- what stands outside of a connection: its door and its backend
+pub record Outside (S : Type 0) : Type 0 where
+  pub door : DoorView S
+  pub backend : BackendView
+
+-- the package in work had its turn, and all that was called is what its legs called
+pub record TurnsWork {W S : Type 0} (w : world.Ghosts W) (t : sitting.Ghosts S W) (exact : Bool) (route : Route) (now : ℕ)
+    (view : PackageView S) (old new : AnsweringState S) (answer : Stepped) (before behind : Outside S) : Type 0 where
+  pub next : PackageView S
+  pub turned : Turned
+  pub law : IsPackageTurn w t exact route now view next turned before.door behind.door before.backend behind.backend
+  pub of : IsPackageOf w t route behind.door.counts.most next
+  pub works : WorksOn route turned next old new answer
+
+-- what the legs of a package in work counted is added to the sums
+abbrev pub totals_of_all : {S : Type 0} → Option (PackageView S) → List Total → List Total
+totals_of_all None totals = totals
+totals_of_all (Some view) totals = totals_after totals (all_accounts view)
+
+-- the legs in work
+abbrev pub legs_in : {S : Type 0} → Option (PackageView S) → List (LegView S)
+legs_in None = []
+legs_in (Some view) = view.first ++ view.later
+
+-- a connection that is given up: what the legs in work counted is added to the sums
+abbrev pub given_up : {S : Type 0} → AnsweringState S → AnsweringState S
+given_up state = record state { in_work = None; totals = totals_of_all state.in_work state.totals }
+
+-- ---- the answer
+
+-- a request was answered under a cause as the targets mean it, and the sets have the hits that they mean
+pub record IsAnsweredUnder {W : Type 0} (w : world.Ghosts W) (route : Route) (request : Request) (cause : Cause)
+    (old new : Served) : Type 0 where
+  pub written : new.out ≡ old.out ++ spell_reply (answered w route (client_of old.session) request cause).reply
+  pub client : client_of new.session ≡ (answered w route (client_of old.session) request cause).client
+  pub accepted : new.session.accepted ≡ (old.session.accepted || accepts (Some request))
+  pub units : new.session.units ≡ old.session.units + 1
+  pub waits_not : new.session.waiting ≡ None
+  pub sets : AllByRecursion (HasMeantHits w route) new.session.sets

@@ -1,0 +1,268 @@
+-- A connection that ends by the end of its input, or by octets that are no unit.
+use Rattle.std.proofs.Common.{◌≡◌, ℕ, ◌<◌, ◌⊎◌, Bool, true, false, List, [], ◌∷◌, ◌++◌, length, Option, Some, None, refl, sym, ap, ◌∙◌, subst, append_assoc, append-nil, length-append, arith, inl, inr}
+use Rattle.std.specs.Prelude.{option_to_list, if◌then◌else◌, IsTrue}
+use Rattle.std.specs.Char.{is_ascii_alphabetic}
+use Rattle.std.specs.List.{AllByRecursion}
+use Rattle.std.proofs.lemmas.Grind.{flat_map-append}
+use Rattle.z_types.specs.declared.marks.End.{End}
+use Rattle.z_types.specs.declared.marks.End.TheVariants.{Finished, Malformed, Cut}
+use Rattle.z_types.specs.declared.marks.Mark.{Mark}
+use Rattle.z_types.specs.declared.replies.Reply.{Reply}
+use Rattle.z_types.specs.declared.world.World as world
+use Rattle.z_types.specs.Bounds.{within64}
+use Rattle.route_config.specs.declared.route.Route.{Route}
+use Rattle.unit_forms.specs.Replies.{spell_reply}
+use Rattle.z_ber.specs.Frames.{IsFrame}
+use Rattle.gateway_rules.specs.Answers as kind
+use Rattle.gateway_rules.specs.Answers.{Answers, Kind, kind_of, IsReceived, IsOpen, IsBad, IsCourseOf, RestLeadsTo}
+use Rattle.gateway_rules.specs.Course as course
+use Rattle.gateway_rules.specs.Course.{Received, octets_of, ends}
+use Rattle.gateway_rules.specs.OneAnswer.{AreMarksPlain}
+use Rattle.gateway_rules.specs.Runs.{marks_of, written_as}
+use Rattle.gateway_rules.specs.Replies.{bad_unit_reply}
+use Rattle.gateway_rules.specs.Session as session
+use Rattle.gateway_rules.specs.Session.{run, stopped}
+use Rattle.gateway_rules.specs.State.{new_client, at_the_start}
+use Rattle.gateway_rules.proofs.OneEnding.{extent-filled}
+use Rattle.gateway_rules.proofs.Runs.{rest-ends}
+use Rattle.front_direct.specs.States.{ConnectionState, StandsBehind, StandsOrEnded, HasEnded, BeginsWithUnits, MayCome}
+use Rattle.front_direct.specs.Steps.{KeepsState}
+use Rattle.front_direct.proofs.StateLemmas.{kind-more, kind-fed}
+
+-- ---- a connection without units
+
+-- the answers to octets of a kind that has no units
+kind-ended : {W : Type 0} (w : world.Ghosts W) (route : Route) (bytes written : List ℕ) (of_kind : Kind)
+    (last : Option Reply) (end : End) → kind_of bytes ≡ of_kind → IsCourseOf of_kind route bytes (ends last end)
+    → written ≡ written_as (option_to_list last) → Answers w route bytes [] written end
+kind-ended w route bytes written of_kind last end same is out = record {
+  answered = record {
+    whole = ends last end;
+    is_whole = subst (λ (k : Kind). IsCourseOf k route bytes (ends last end)) (sym same) is;
+    causes = [];
+    of_marks = refl;
+    allowed = tt;
+    written = out;
+  };
+  fits = record { allowed = tt; served = tt; none_left = refl };
+  ended = refl;
+}
+
+-- a state that stands behind no units has no marks, and nothing was written
+pub record IsFirst (fed written : List ℕ) (state : ConnectionState) : Type 0 where
+  pub fed-is : fed ≡ state.left
+  pub marks : state.marks ≡ []
+  pub out : written ++ state.out ≡ []
+
+first-state : {W : Type 0} (w : world.Ghosts W) (route : Route) (fed written : List ℕ) (state : ConnectionState)
+    (sb : StandsBehind w route fed written state) → sb.units ≡ [] → IsFirst fed written state
+first-state w route fed written state sb e =
+    let got : stopped [] sb.causes new_client (session.standing at_the_start) ≡ sb.got =
+    ap (λ u. run w route new_client (course.course route at_the_start u) sb.causes) (sym e) ∙ sb.has_run.runs in
+    let causes : sb.causes ≡ [] = ap (λ r. r.left) got ∙ sb.has_run.none_left in
+    record {
+      fed-is = sb.spelled ∙ ap (λ u. octets_of u ++ state.left) e;
+      marks = sym sb.of_marks ∙ ap marks_of causes;
+      out = sb.replies ∙ ap (λ r. written_as r.replies) (sym got);
+    }
+
+-- ---- the rest
+
+-- the answers where the rest of the octets ends the session
+rest-answers : {W : Type 0} (w : world.Ghosts W) (route : Route) (fed written more : List ℕ) (old new : ConnectionState)
+    (last : Option Reply) (end : End) (sb : StandsBehind w route fed written old) → kind_of (fed ++ more) ≡ kind.unit
+    → RestLeadsTo (length (octets_of sb.units)) (old.left ++ more) (ends last end) → new.marks ≡ old.marks
+    → written ++ new.out ≡ written_as (sb.got.replies ++ option_to_list last)
+    → Answers w route (fed ++ more) new.marks (written ++ new.out) end
+rest-answers w route fed written more old new last end sb of_units leads marks out =
+    let octets : octets_of sb.units ++ (old.left ++ more) ≡ fed ++ more =
+    sym (append_assoc (octets_of sb.units) old.left more) ∙ ap (λ o. o ++ more) (sym sb.spelled) in
+    let of_kind = subst (λ (o : List ℕ). kind_of o ≡ kind.unit) (sym octets) of_units in
+    let replies : List Reply = sb.got.replies ++ option_to_list last in
+    let all = rest-ends w route sb.units sb.causes sb.got _ (old.left ++ more) last end sb.has_run sb.standing leads of_kind in
+    let by_octets = subst (λ (o : List ℕ). Answers w route o (marks_of sb.causes) (written_as replies) end) octets all in
+    let by_marks = subst (λ (m : List Mark). Answers w route (fed ++ more) m (written_as replies) end) (sb.of_marks ∙ sym marks) by_octets in
+    subst (λ (o : List ℕ). Answers w route (fed ++ more) new.marks o end) (sym out) by_marks
+
+-- what was written is unchanged, or goes on with a last reply
+no-reply : (written old new : List ℕ) (replies : List Reply) → written ++ old ≡ written_as replies → new ≡ old
+    → written ++ new ≡ written_as (replies ++ [])
+no-reply written old new replies e f = ap (λ o. written ++ o) f ∙ e ∙ ap written_as (sym (append-nil replies))
+
+last-reply : (written old new : List ℕ) (replies : List Reply) (reply : Reply) → written ++ old ≡ written_as replies
+    → new ≡ old ++ spell_reply reply → written ++ new ≡ written_as (replies ++ reply ∷ [])
+last-reply written old new replies reply e f =
+    ap (λ o. written ++ o) f ∙ sym (append_assoc written old (spell_reply reply)) ∙ ap (λ o. o ++ spell_reply reply) e
+    ∙ ap (λ o. written_as replies ++ o) (sym (append-nil (spell_reply reply)))
+    ∙ sym (flat_map-append spell_reply replies (reply ∷ []))
+
+-- ---- units or none
+
+-- a frame has octets
+pub frame-octets : (frame : List ℕ) → IsFrame frame → 0 < length frame
+frame-octets frame f = extent-filled 63 frame f.0.0 f.0.1 f.0.2
+
+-- a connection has units, and begins with one, or none
+by-units : (P : Type 0) (units : List Received) (fed : List ℕ) → BeginsWithUnits units fed
+    → (kind_of fed ≡ kind.unit → P) → (units ≡ [] → P) → P
+by-units P [] fed begins f g = g refl
+by-units P (unit ∷ units) fed begins f g = f begins
+
+-- at the offset 0 there are none
+none-at_0 : (units : List Received) → AllByRecursion IsReceived units → within64 (length (octets_of units)) ≡ 0 → units ≡ []
+none-at_0 [] all e = refl
+none-at_0 (unit ∷ units) all e =
+    absurd (omega (arith, e, length-append unit.octets (octets_of units), frame-octets unit.octets all.0.0))
+
+-- ---- the end of the input
+
+-- how octets end that were not taken
+abbrev pub EndsSo : ℕ → List ℕ → End → Type 0
+EndsSo at [] end = end ≡ Finished
+EndsSo at (octet ∷ octets) end =
+    IsOpen (octet ∷ octets) × (end ≡ Cut (length (octet ∷ octets))) × (at ≡ 0 → kind_of (octet ∷ octets) ≡ kind.unit)
+
+-- nothing comes behind the end of the input
+nothing-comes : (has_ended : Bool) (more : List ℕ) → has_ended ≡ true → MayCome has_ended more → more ≡ []
+nothing-comes true more e h = h
+nothing-comes false more e h = absurd cc
+
+-- the connection is unchanged but for its end
+pub record Ends (old new : ConnectionState) (end : End) : Type 0 where
+  pub goes : old.end ≡ None
+  pub ended : new.end ≡ Some end
+  pub input : new.has_ended ≡ true
+  pub marks : new.marks ≡ old.marks
+  pub out : new.out ≡ old.out
+
+-- the answers where nothing is left
+finished-answers : {W : Type 0} (w : world.Ghosts W) (route : Route) (fed written : List ℕ) (old new : ConnectionState)
+    (sb : StandsBehind w route fed written old) → old.left ≡ [] → new.marks ≡ old.marks → new.out ≡ old.out
+    → Answers w route (fed ++ []) new.marks (written ++ new.out) Finished
+finished-answers w route fed written old new sb left marks out =
+    by-units (Answers w route (fed ++ []) new.marks (written ++ new.out) Finished) sb.units fed sb.kind
+    (λ begins. rest-answers w route fed written [] old new None Finished sb (kind-more fed [] begins)
+    (subst (λ (l : List ℕ). RestLeadsTo (length (octets_of sb.units)) (l ++ []) (ends None Finished)) (sym left) refl) marks
+    (no-reply written old.out new.out sb.got.replies sb.replies out))
+    (λ none.
+    let first = first-state w route fed written old sb none in
+    subst (λ (m : List Mark). Answers w route (fed ++ []) m (written ++ new.out) Finished) (sym first.marks ∙ sym marks)
+    (kind-ended w route (fed ++ []) (written ++ new.out) kind.empty None Finished
+    (ap kind_of (append-nil fed ∙ first.fed-is ∙ left)) refl (ap (λ o. written ++ o) out ∙ first.out)))
+
+-- the answers where the input ends inside a unit
+cut-answers : {W : Type 0} (w : world.Ghosts W) (route : Route) (fed written : List ℕ) (old new : ConnectionState) (octet : ℕ)
+    (octets : List ℕ) (sb : StandsBehind w route fed written old) → old.left ≡ octet ∷ octets → IsOpen (octet ∷ octets)
+    → (old.at ≡ 0 → kind_of (octet ∷ octets) ≡ kind.unit) → new.marks ≡ old.marks → new.out ≡ old.out
+    → Answers w route (fed ++ []) new.marks (written ++ new.out) (Cut (length (octet ∷ octets)))
+cut-answers w route fed written old new octet octets sb left is_open first marks out =
+    let end : End = Cut (length (octet ∷ octets)) in
+    let of_units = kind-fed sb.units fed old.left old.at sb.spelled sb.offset sb.kind (λ z. ap kind_of left ∙ first z) in
+    rest-answers w route fed written [] old new None end sb (kind-more fed [] of_units)
+    (subst (λ (l : List ℕ). RestLeadsTo (length (octets_of sb.units)) l (ends None end)) (sym (append-nil old.left ∙ left))
+    (inl (is_open, refl))) marks (no-reply written old.out new.out sb.got.replies sb.replies out)
+
+-- either
+ends-answers : {W : Type 0} (w : world.Ghosts W) (route : Route) (fed written : List ℕ) (old new : ConnectionState) (end : End)
+    (left : List ℕ) (sb : StandsBehind w route fed written old) → old.left ≡ left → EndsSo old.at left end
+    → new.marks ≡ old.marks → new.out ≡ old.out → Answers w route (fed ++ []) new.marks (written ++ new.out) end
+ends-answers w route fed written old new end [] sb e so marks out =
+    subst (λ (x : End). Answers w route (fed ++ []) new.marks (written ++ new.out) x) (sym so)
+    (finished-answers w route fed written old new sb e marks out)
+ends-answers w route fed written old new end (octet ∷ octets) sb e so marks out =
+    subst (λ (x : End). Answers w route (fed ++ []) new.marks (written ++ new.out) x) (sym so.1)
+    (cut-answers w route fed written old new octet octets sb e so.0 so.2 marks out)
+
+-- a connection whose input has ended is answered whole
+pub end-keeps : {W : Type 0} (w : world.Ghosts W) (route : Route) (old new : ConnectionState) (end : End)
+    → Ends old new end → EndsSo old.at old.left end → KeepsState w route old new
+end-keeps w route old new end t so = λ fed written h.
+    let sb : StandsBehind w route fed written old = subst (λ (e : Option End). StandsOrEnded e w route fed written old) t.goes h in
+    let ended : HasEnded w route fed written new end = record {
+      answers = λ more may.
+          subst (λ (m : List ℕ). Answers w route (fed ++ m) new.marks (written ++ new.out) end)
+          (sym (nothing-comes new.has_ended more t.input may))
+          (ends-answers w route fed written old new end old.left sb refl so t.marks t.out);
+      plainly = subst AreMarksPlain (sym t.marks) sb.plainly;
+    } in
+    subst (λ (e : Option End). StandsOrEnded e w route fed written new) (sym t.ended) ended
+
+-- ---- octets that are no unit
+
+-- a letter at the start, or octets of which no continuation begins with a unit
+abbrev pub BadSo : ℕ → List ℕ → ℕ → Type 0
+BadSo at [] state = ⊥
+BadSo at (octet ∷ octets) state =
+    ((at ≡ 0) × (state ≡ 0) × IsTrue (is_ascii_alphabetic octet))
+    ⊎ (IsBad (octet ∷ octets) × (state ≡ at) × (at ≡ 0 → kind_of (octet ∷ octets) ≡ kind.unit))
+
+-- the connection is unchanged but for a Close, and its end
+pub record Refuses (old new : ConnectionState) (at : ℕ) : Type 0 where
+  pub goes : old.end ≡ None
+  pub ended : new.end ≡ Some (Malformed at)
+  pub marks : new.marks ≡ old.marks
+  pub out : new.out ≡ old.out ++ spell_reply bad_unit_reply
+
+-- octets stay bad whatever follows them
+bad-more : (rest more : List ℕ) → IsBad rest → IsBad (rest ++ more)
+bad-more rest more bad o = bad (more ++ o.0, (o.1.0, o.1.1, o.1.2, sym (append_assoc rest more o.0) ∙ o.1.3))
+
+-- a letter is no unit
+letter-kind : (octet : ℕ) (octets : List ℕ) → IsTrue (is_ascii_alphabetic octet) → kind_of (octet ∷ octets) ≡ kind.letter
+letter-kind octet octets h = ap (λ b. if b then kind.letter else kind.unit) h
+
+-- the answers where a letter stands first
+letter-answers : {W : Type 0} (w : world.Ghosts W) (route : Route) (fed written more : List ℕ) (old new : ConnectionState)
+    (sb : StandsBehind w route fed written old) → old.at ≡ 0 → kind_of (old.left ++ more) ≡ kind.letter
+    → new.marks ≡ old.marks → new.out ≡ old.out ++ spell_reply bad_unit_reply
+    → Answers w route (fed ++ more) new.marks (written ++ new.out) (Malformed 0)
+letter-answers w route fed written more old new sb zero is_letter marks out =
+    let none = none-at_0 sb.units sb.has_run.each (sym sb.offset ∙ zero) in
+    let first = first-state w route fed written old sb none in
+    let reply : List ℕ = spell_reply bad_unit_reply in
+    let all : written ++ new.out ≡ written_as (bad_unit_reply ∷ []) =
+    ap (λ o. written ++ o) out ∙ sym (append_assoc written old.out reply) ∙ ap (λ o. o ++ reply) first.out
+    ∙ sym (append-nil reply) in
+    subst (λ (m : List Mark). Answers w route (fed ++ more) m (written ++ new.out) (Malformed 0)) (sym first.marks ∙ sym marks)
+    (kind-ended w route (fed ++ more) (written ++ new.out) kind.letter (Some bad_unit_reply) (Malformed 0)
+    (ap (λ f. kind_of (f ++ more)) first.fed-is ∙ is_letter) refl all)
+
+-- the answers where no unit can come
+bad-answers : {W : Type 0} (w : world.Ghosts W) (route : Route) (fed written more : List ℕ) (old new : ConnectionState) (octet : ℕ)
+    (octets : List ℕ) (sb : StandsBehind w route fed written old) → old.left ≡ octet ∷ octets → IsBad (octet ∷ octets)
+    → (old.at ≡ 0 → kind_of (octet ∷ octets) ≡ kind.unit) → new.marks ≡ old.marks
+    → new.out ≡ old.out ++ spell_reply bad_unit_reply
+    → Answers w route (fed ++ more) new.marks (written ++ new.out) (Malformed old.at)
+bad-answers w route fed written more old new octet octets sb left bad first marks out =
+    let of_units = kind-fed sb.units fed old.left old.at sb.spelled sb.offset sb.kind (λ z. ap kind_of left ∙ first z) in
+    let end : End = Malformed (within64 (length (octets_of sb.units))) in
+    subst (λ (a : ℕ). Answers w route (fed ++ more) new.marks (written ++ new.out) (Malformed a)) (sym sb.offset)
+    (rest-answers w route fed written more old new (Some bad_unit_reply) end sb (kind-more fed more of_units)
+    (subst (λ (l : List ℕ). RestLeadsTo (length (octets_of sb.units)) (l ++ more) (ends (Some bad_unit_reply) end)) (sym left)
+    (inr (bad-more (octet ∷ octets) more bad, refl))) marks
+    (last-reply written old.out new.out sb.got.replies bad_unit_reply sb.replies out))
+
+-- either
+refused-answers : {W : Type 0} (w : world.Ghosts W) (route : Route) (fed written more : List ℕ) (old new : ConnectionState) (at : ℕ)
+    (left : List ℕ) (sb : StandsBehind w route fed written old) → old.left ≡ left → BadSo old.at left at
+    → new.marks ≡ old.marks → new.out ≡ old.out ++ spell_reply bad_unit_reply
+    → Answers w route (fed ++ more) new.marks (written ++ new.out) (Malformed at)
+refused-answers w route fed written more old new at [] sb e so marks out = absurd so
+refused-answers w route fed written more old new at (octet ∷ octets) sb e (inl so) marks out =
+    subst (λ (a : ℕ). Answers w route (fed ++ more) new.marks (written ++ new.out) (Malformed a)) (sym so.1)
+    (letter-answers w route fed written more old new sb so.0
+    (ap (λ l. kind_of (l ++ more)) e ∙ letter-kind octet (octets ++ more) so.2) marks out)
+refused-answers w route fed written more old new at (octet ∷ octets) sb e (inr so) marks out =
+    subst (λ (a : ℕ). Answers w route (fed ++ more) new.marks (written ++ new.out) (Malformed a)) (sym so.1)
+    (bad-answers w route fed written more old new octet octets sb e so.0 so.2 marks out)
+
+-- a connection that is refused is answered whole, whatever may still come
+pub refuse-keeps : {W : Type 0} (w : world.Ghosts W) (route : Route) (old new : ConnectionState) (at : ℕ)
+    → Refuses old new at → BadSo old.at old.left at → KeepsState w route old new
+refuse-keeps w route old new at t so = λ fed written h.
+    let sb : StandsBehind w route fed written old = subst (λ (e : Option End). StandsOrEnded e w route fed written old) t.goes h in
+    let ended : HasEnded w route fed written new (Malformed at) = record {
+      answers = λ more may. refused-answers w route fed written more old new at old.left sb refl so t.marks t.out;
+      plainly = subst AreMarksPlain (sym t.marks) sb.plainly;
+    } in
+    subst (λ (e : Option End). StandsOrEnded e w route fed written new) (sym t.ended) ended
