@@ -1,0 +1,127 @@
+use Rattle.std.proofs.Common.{◌∙◌, ℕ, ◌-◌, List, [], ◌∷◌, ◌++◌, Option, ap, arith, refl, subst, sym}
+use Rattle.std.specs.Prelude.{option_map}
+use Rattle.gw_outside.specs.declared.accepts.Accepted.TheVariants.{Connection}
+use Rattle.gw_outside.specs.Accepts.{AcceptFits}
+use Rattle.front_conn.specs.declared.serving.Served.{Served}
+use Rattle.serve.specs.Working.{WorkerView}
+use Rattle.serve.proofs.WorkingLemmas.{ended-same, failed-same, worked-more, worked-none, worked-same}
+use Rattle.serve.proofs.working.serve_all.Goals as goal
+
+pub loop-round-init : goal.loop-round-init
+loop-round-init g c = record {
+  worked = worked-none g.W.World g.A.In.Source g.A.Out.Sink c.args.route.now (record {
+    served = c.args.served.now.items;
+    left = g.A.Accept.left c.args.accept.now;
+    closed = g.A.Accept.closed c.args.accept.now;
+    out = g.A.Accept.out c.args.accept.now;
+  });
+  faults = omega arith;
+  most = refl;
+}
+
+pub returns-then-is_err-clause-worked : goal.returns-then-is_err-clause-worked
+returns-then-is_err-clause-worked g c =
+    let old : WorkerView g.row.A-In.Denot g.row.A-Out.Denot = record {
+      served = c.args.served.now.items;
+      left = g.A.Accept.left c.args.accept.now;
+      closed = g.A.Accept.closed c.args.accept.now;
+      out = g.A.Accept.out c.args.accept.now;
+    } in
+    let mid : WorkerView g.row.A-In.Denot g.row.A-Out.Denot = record {
+      served = c.loop-round.served.items;
+      left = g.A.Accept.left c.loop-round.accept;
+      closed = g.A.Accept.closed c.loop-round.accept;
+      out = g.A.Accept.out c.loop-round.accept;
+    } in
+    worked-same g.W.World g.A.In.Source g.A.Out.Sink c.args.route.now old mid (record mid { served = c.reserve.new.self.items })
+    c.loop-round.invariant.worked c.reserve.ensures.items refl refl refl
+
+pub returns-in-Ended-clause-worked : goal.returns-in-Ended-clause-worked
+returns-in-Ended-clause-worked g c =
+    let old : WorkerView g.row.A-In.Denot g.row.A-Out.Denot = record {
+      served = c.args.served.now.items;
+      left = g.A.Accept.left c.args.accept.now;
+      closed = g.A.Accept.closed c.args.accept.now;
+      out = g.A.Accept.out c.args.accept.now;
+    } in
+    let mid : WorkerView g.row.A-In.Denot g.row.A-Out.Denot = record {
+      served = c.loop-round.served.items;
+      left = g.A.Accept.left c.loop-round.accept;
+      closed = g.A.Accept.closed c.loop-round.accept;
+      out = g.A.Accept.out c.loop-round.accept;
+    } in
+    let new : WorkerView g.row.A-In.Denot g.row.A-Out.Denot = record {
+      served = c.reserve.new.self.items;
+      left = g.A.Accept.left c.accept.new.self;
+      closed = g.A.Accept.closed c.accept.new.self;
+      out = g.A.Accept.out c.accept.new.self;
+    } in
+    worked-same g.W.World g.A.In.Source g.A.Out.Sink c.args.route.now old mid new c.loop-round.invariant.worked
+    c.reserve.ensures.items
+    (ended-same g.row.A-In.Denot g.row.A-Out.Denot (g.A.Accept.left c.loop-round.accept) (g.A.Accept.left c.accept.new.self)
+    c.in-Ended.ensures.fits) c.in-Ended.ensures.closed c.in-Ended.ensures.out
+
+pub returns-in-Failed-clause-worked : goal.returns-in-Failed-clause-worked
+returns-in-Failed-clause-worked g c =
+    let old : WorkerView g.row.A-In.Denot g.row.A-Out.Denot = record {
+      served = c.args.served.now.items;
+      left = g.A.Accept.left c.args.accept.now;
+      closed = g.A.Accept.closed c.args.accept.now;
+      out = g.A.Accept.out c.args.accept.now;
+    } in
+    let mid : WorkerView g.row.A-In.Denot g.row.A-Out.Denot = record {
+      served = c.loop-round.served.items;
+      left = g.A.Accept.left c.loop-round.accept;
+      closed = g.A.Accept.closed c.loop-round.accept;
+      out = g.A.Accept.out c.loop-round.accept;
+    } in
+    let new : WorkerView g.row.A-In.Denot g.row.A-Out.Denot = record {
+      served = c.reserve.new.self.items;
+      left = g.A.Accept.left c.accept.new.self;
+      closed = g.A.Accept.closed c.accept.new.self;
+      out = g.A.Accept.out c.accept.new.self;
+    } in
+    worked-same g.W.World g.A.In.Source g.A.Out.Sink c.args.route.now old mid new c.loop-round.invariant.worked
+    c.reserve.ensures.items
+    (failed-same g.row.A-In.Denot g.row.A-Out.Denot (g.A.Accept.left c.loop-round.accept) (g.A.Accept.left c.accept.new.self)
+    c.in-Failed.ensures.fits) c.in-Failed.ensures.closed c.in-Failed.ensures.out
+
+pub returns-in-Failed-clause-failed : goal.returns-in-Failed-clause-failed
+returns-in-Failed-clause-failed g c e = omega (arith, c.loop-round.invariant.faults, c.in-Failed.ensures.failed refl)
+
+pub loop-round-preserved : goal.loop-round-preserved
+loop-round-preserved g c =
+    let old : WorkerView g.row.A-In.Denot g.row.A-Out.Denot = record {
+      served = c.args.served.now.items;
+      left = g.A.Accept.left c.args.accept.now;
+      closed = g.A.Accept.closed c.args.accept.now;
+      out = g.A.Accept.out c.args.accept.now;
+    } in
+    let mid : WorkerView g.row.A-In.Denot g.row.A-Out.Denot = record {
+      served = c.loop-round.served.items;
+      left = g.A.Accept.left c.loop-round.accept;
+      closed = g.A.Accept.closed c.loop-round.accept;
+      out = g.A.Accept.out c.loop-round.accept;
+    } in
+    let new : WorkerView g.row.A-In.Denot g.row.A-Out.Denot = record {
+      served = c.push_reserved.new.self.items;
+      left = g.A.Accept.left c.close.new.self;
+      closed = g.A.Accept.closed c.close.new.self;
+      out = g.A.Accept.out c.close.new.self;
+    } in
+    let came : Served = c.serve_connection-came.result in
+    let closed = c.close.ensures.closed
+    ∙ ap (λ told. option_map (λ earlier. earlier ++ (c.serve_connection-came.new.source, c.serve_connection-came.new.sink) ∷ []) told)
+    c.in-Connection.ensures.closed in
+    let out = c.close.ensures.out ∙ ap (λ told. option_map (λ count. count - 1) told) c.in-Connection.ensures.out in
+    let fits = subst
+    (λ (m : Option ℕ). AcceptFits (g.A.Accept.left c.loop-round.accept) m (Connection c.in-Connection.source c.in-Connection.sink))
+    (sym c.close.ensures.left) c.in-Connection.ensures.fits in record {
+      worked = worked-more g.W.World g.A.In.Source g.A.Out.Sink c.args.route.now old mid new c.in-Connection.source
+          c.in-Connection.sink (c.serve_connection-came.new.source, c.serve_connection-came.new.sink) came
+          c.loop-round.invariant.worked
+          (c.push_reserved.ensures.items ∙ ap (λ (xs : List Served). xs ++ came ∷ []) c.reserve.ensures.items)
+          closed fits c.in-Connection.ensures.connection out c.serve_connection-came.ensures.served;
+      faults = omega (arith, c.loop-round.invariant.faults, c.in-Connection.ensures.faults, c.close.ensures.faults);
+      most = c.serve_connection-came.ensures.most ∙ c.loop-round.invariant.most;
+    }

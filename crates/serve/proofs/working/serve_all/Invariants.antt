@@ -1,0 +1,22 @@
+use Rattle.std.proofs.Common.{◌≡◌, ◌≤◌}
+use Rattle.serve.specs.Working.{HasWorked}
+use Rattle.serve.proofs.working.serve_all.Given as goal
+
+abbrev pub invariant-loop-round : goal.invariant-loop-round
+invariant-loop-round g l = record {
+  worked : HasWorked g.W.World g.A.In.Source g.A.Out.Sink l.route
+      (record {
+        served = l.fn.served.items;
+        left = g.A.Accept.left l.fn.accept;
+        closed = g.A.Accept.closed l.fn.accept;
+        out = g.A.Accept.out l.fn.accept;
+      })
+      (record {
+        served = l.served.items;
+        left = g.A.Accept.left l.accept;
+        closed = g.A.Accept.closed l.accept;
+        out = g.A.Accept.out l.accept;
+      });
+  faults : g.A.Accept.faults l.fn.accept ≤ g.A.Accept.faults l.accept;
+  most : (g.D.Door.counts l.door).most ≡ (g.D.Door.counts l.fn.door).most;
+}

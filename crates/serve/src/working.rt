@@ -1,0 +1,129 @@
+//! A worker's loop.
+
+ghost use Rattle.std.specs.Prelude.{◌≡◌, ◌≤◌};
+ghost use Rattle.z_types.specs.Counts.{Rose};
+ghost use Rattle.serve.specs.Working.{HasWorked, IsNoneLeft};
+
+use front_conn::{Served, serve_connection};
+use gw_outside::{Accept, Accepted, Backend, Clock};
+use pool_sets::Door;
+use route_config::Route;
+use std::alloc::Global;
+use std::mem;
+use z_types::{List, World};
+
+/// How a worker's loop ended.
+#[derive(Clone, Copy, PartialEq, Eq, Debug)]
+pub enum Worked {
+    /// No connection is left.
+    Ended,
+    /// An accept failed.
+    Failed,
+    /// No memory could be had to list what comes of one more connection.
+    Memory,
+}
+
+/// A worker: its sessions with targets, where its connections come from, its clock, and what came of
+/// the connections that it served.
+#[derive(Drop)]
+pub struct Worker<B, A, C> {
+    /// Sessions with targets.
+    pub backend: B,
+    /// Where connections come from.
+    pub accept: A,
+    /// The moments by which sessions with targets age.
+    pub clock: C,
+    /// What came of each connection, in their order.
+    pub served: List<Served>,
+}
+
+/// Accepts a connection, serves it, hands it back and lists what came of it, again and again until no
+/// connection is left (`Ended`) or an accept fails (`Failed`). Room in the list is made before each
+/// accept (`Memory` where there is none), so that each connection that is taken is handed back and
+/// listed. A connection that ends without memory does not end its worker.
+///
+/// It waits where a call of the acceptor, a connection, the backend or the door does.
+pub fn work<W: World, B: Backend<W>, D: Door<W, B::Session>, A: Accept, C: Clock>(
+    alloc: Global,
+    route: &Route,
+    door: &mut D,
+    worker: &mut Worker<B, A, C>,
+) -> Worked
+    ensures worked { HasWorked W.World A.In.Source A.Out.Sink route.now
+        (record {
+          served = worker.old.served;
+          left = A.left worker.old.accept;
+          closed = A.closed worker.old.accept;
+          out = A.out worker.old.accept;
+        })
+        (record {
+          served = worker.new.served;
+          left = A.left worker.new.accept;
+          closed = A.closed worker.new.accept;
+          out = A.out worker.new.accept;
+        }) }
+    ensures ended { result ≡ Worked.Ended → IsNoneLeft (A.left worker.new.accept) }
+    ensures failed { result ≡ Worked.Failed
+        → Rose (A.faults worker.old.accept) (A.faults worker.new.accept) }
+    ensures faults { A.faults worker.old.accept ≤ A.faults worker.new.accept }
+    ensures most { (D.counts door.new).most ≡ (D.counts door.old).most }
+{
+    let mut served = mem::replace(&mut worker.served, List::new(alloc)).into_vec();
+    let worked = serve_all(
+        alloc,
+        route,
+        door,
+        &mut worker.backend,
+        &mut worker.accept,
+        &mut worker.clock,
+        &mut served,
+    );
+    worker.served = List::from_vec(served);
+    worked
+}
+
+/// Serves connections until none is left, and lists what came of each.
+fn serve_all<W: World, B: Backend<W>, D: Door<W, B::Session>, A: Accept, C: Clock>(
+    alloc: Global,
+    route: &Route,
+    door: &mut D,
+    backend: &mut B,
+    accept: &mut A,
+    clock: &mut C,
+    served: &mut Vec<Served>,
+) -> Worked
+    ensures worked { HasWorked W.World A.In.Source A.Out.Sink route.now
+        (record {
+          served = served.old.items;
+          left = A.left accept.old;
+          closed = A.closed accept.old;
+          out = A.out accept.old;
+        })
+        (record {
+          served = served.new.items;
+          left = A.left accept.new;
+          closed = A.closed accept.new;
+          out = A.out accept.new;
+        }) }
+    ensures ended { result ≡ Worked.Ended → IsNoneLeft (A.left accept.new) }
+    ensures failed { result ≡ Worked.Failed → Rose (A.faults accept.old) (A.faults accept.new) }
+    ensures faults { A.faults accept.old ≤ A.faults accept.new }
+    ensures most { (D.counts door.new).most ≡ (D.counts door.old).most }
+{
+    for _round in 0..u64::MAX {
+        if served.reserve(1).is_err() {
+            return Worked::Memory;
+        }
+        match accept.accept() {
+            Accepted::Connection(mut source, mut sink) => {
+                let (from, to) = (&mut source, &mut sink);
+                let came = serve_connection(alloc, route, door, from, to, backend, clock);
+                accept.close(source, sink);
+                served.push_reserved(came);
+            }
+            Accepted::Ended => return Worked::Ended,
+            Accepted::Failed => return Worked::Failed,
+        }
+    }
+    Worked::Memory
+}

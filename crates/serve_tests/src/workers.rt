@@ -1,0 +1,149 @@
+//! A worker with connections of several ends, whose listener fails or not.
+
+ghost use Rattle.std.specs.Prelude.{IfOk};
+ghost use Rattle.gw_outside.specs.Accepts.{IsUntouched};
+
+use crate::connections::{are_plain, one_number, route_of, text_of};
+use crate::octets::{BAD_REPLY, CLOSE, INIT, INIT_REPLY, SEARCH, SEARCH_REPLY};
+use front_conn::Served;
+use gw_memory::{FakeBackend, FakeSession, MemoryAccept, MemoryClock, MemorySink, MemorySource};
+use gw_outside::{Sink, Source};
+use pool_core::Pool;
+use route_config::Route;
+use serve::{Worked, Worker, work};
+use std::alloc::Global;
+use std::test::Fail;
+use test_target::TestWorld;
+use z_types::{End, List, Memory};
+
+/// A connection: what its client sends, the number of the write that fails, what is written, how many
+/// requests are answered, and how it ends.
+#[derive(Clone, Copy)]
+struct Client<'a> {
+    sent: &'a [&'a [u8]],
+    failing_write: u64,
+    written: &'a [&'a [u8]],
+    marks: usize,
+    end: End,
+}
+
+/// The clients of a worker.
+const CLIENTS: [Client; 4] = [
+    Client {
+        sent: &[INIT, SEARCH],
+        failing_write: 0,
+        written: &[INIT_REPLY, SEARCH_REPLY],
+        marks: 2,
+        end: End::Finished,
+    },
+    Client {
+        sent: &[INIT, SEARCH],
+        failing_write: 2,
+        written: &[INIT_REPLY],
+        marks: 2,
+        end: End::WriteFault,
+    },
+    Client {
+        sent: &[b"\xb6\xff"],
+        failing_write: 0,
+        written: &[BAD_REPLY],
+        marks: 0,
+        end: End::Malformed(0),
+    },
+    Client {
+        sent: &[INIT, SEARCH, CLOSE],
+        failing_write: 0,
+        written: &[INIT_REPLY, SEARCH_REPLY, CLOSE],
+        marks: 3,
+        end: End::Closed,
+    },
+];
+
+type Connections = List<(MemorySource, MemorySink)>;
+
+type Memories = Worker<FakeBackend<TestWorld>, MemoryAccept<MemorySource, MemorySink>, MemoryClock>;
+
+/// A connection of a client, of which nothing was read or written.
+fn connection(alloc: Global, client: &Client) -> Result<(MemorySource, MemorySink), Memory>
+    ensures untouched { IfOk result (λ new. IsUntouched
+        ⟦<MemorySource as Source>⟧ ⟦<MemorySink as Sink>⟧ new.0 new.1) }
+{
+    let source = MemorySource::new(text_of(alloc, client.sent)?, List::new(alloc));
+    let failing = one_number(alloc, client.failing_write)?;
+    Ok((source, MemorySink::new(alloc, failing)))
+}
+
+/// A worker for the clients, whose accept of this number fails.
+fn worker(alloc: Global, failing_accept: u64) -> Result<Memories, Memory> {
+    let mut connections: Connections = List::new(alloc);
+    for client in &CLIENTS {
+        connections.push(connection(alloc, client)?)?;
+    }
+    let failing = one_number(alloc, failing_accept)?;
+    Ok(Worker {
+        backend: FakeBackend::new(TestWorld, List::new(alloc)),
+        accept: MemoryAccept::new(alloc, connections, failing)?,
+        clock: MemoryClock::new(List::new(alloc)),
+        served: List::new(alloc),
+    })
+}
+
+/// Whether a client was served as is wanted.
+fn is_so(
+    alloc: Global,
+    client: &Client,
+    sink: &MemorySink,
+    served: &Served,
+) -> Result<bool, Memory> {
+    let written = text_of(alloc, client.written)?;
+    Ok(
+        sink.received() == written.as_slice()
+            && are_plain(&served.marks, client.marks)
+            && served.end == client.end,
+    )
+}
+
+/// Whether the first clients, so many of them, were served as is wanted, and no other.
+fn are_so(alloc: Global, worker: &Memories, count: usize) -> Result<bool, Memory> {
+    let (closed, served) = (worker.accept.closed(), worker.served.as_slice());
+    let mut all = closed.len() == count && served.len() == count;
+    for ((client, connection), came) in CLIENTS.iter().zip(closed).zip(served) {
+        all = all && is_so(alloc, client, &connection.1, came)?;
+    }
+    Ok(all)
+}
+
+/// Whether a worker whose accept of this number fails ends so, when so many clients were served, and
+/// goes on to the last of them.
+fn works_so(
+    alloc: Global,
+    route: &Route,
+    failing_accept: u64,
+    worked: Worked,
+    count: usize,
+) -> Result<bool, Memory> {
+    let mut pool: Pool<TestWorld, FakeSession> = Pool::new(alloc, route)?;
+    let mut worker = worker(alloc, failing_accept)?;
+    let first = work(alloc, route, &mut pool, &mut worker) == worked
+        && are_so(alloc, &worker, count)?;
+    let second = work(alloc, route, &mut pool, &mut worker) == Worked::Ended;
+    Ok(first && second && are_so(alloc, &worker, CLIENTS.len())?)
+}
+
+#[test]
+fn a_worker_serves_each_connection_and_ends_with_its_listener(rt: HostRuntime) -> Result<(), Fail> {
+    let alloc = rt.alloc();
+    let route = route_of(alloc, 100)?;
+    for (failing_accept, worked, count) in [
+        (0, Worked::Ended, 4),
+        (1, Worked::Failed, 0),
+        (3, Worked::Failed, 2),
+        (5, Worked::Failed, 4),
+    ] {
+        assert!(rt;
+            works_so(alloc, &route, failing_accept, worked, count)?,
+            "{failing_accept}"
+        );
+    }
+    Ok(())
+}
