@@ -1,0 +1,12 @@
+pub mod GrowthLemmas
+mod TurnLemmas
+mod PackageLemmas
+pub mod TotalLemmas
+mod CauseLemmas
+mod ConnLemmas
+mod KeptLemmas
+mod PhaseLemmas
+mod LedgerLemmas
+mod PaidLemmas
+mod FewLemmas
+mod CostLemmas
