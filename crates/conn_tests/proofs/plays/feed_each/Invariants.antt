@@ -1,0 +1,7 @@
+use Rattle.conn_tests.specs.Played.{ArePlayed}
+use Rattle.conn_tests.proofs.plays.feed_each.Given as goal
+
+-- both stay connections of the route
+abbrev pub invariant-loop-octet : goal.invariant-loop-octet
+invariant-loop-octet g l =
+    ArePlayed g.W.World g.S.Sitting l.route (g.D.Door.counts l.door).most l.play.client l.play.other
