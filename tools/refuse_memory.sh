@@ -7,10 +7,10 @@ room=$(mktemp -d) || exit 1
 trap 'rm -rf "$room"' EXIT
 jobs=$(nproc)
 
-# Plays the stored run with the allocation of this number failing.
+# Plays the first example with the allocation of this number failing.
 try() {
-    rt try --fail-alloc "$1" --data c0.toml=data/c0.toml --data first.script=data/first.script -- \
-        replay c0.toml first.script >"$room/$1.out" 2>"$room/$1.log"
+    rt try --fail-alloc "$1" --data first.toml="$here/examples/first.toml" --data first.script="$here/examples/first.script" -- \
+        replay first.toml first.script >"$room/$1.out" 2>"$room/$1.log"
     echo $? >"$room/$1.status"
 }
 
@@ -19,7 +19,7 @@ judge() {
     local status
     status=$(cat "$room/$1.status")
     if [ "$status" = 7 ] && [ ! -s "$room/$1.out" ]; then return 0; fi
-    if [ "$status" = 0 ] && cmp -s "$room/$1.out" stdout; then return 1; fi
+    if [ "$status" = 0 ] && cmp -s "$room/$1.out" "$here/examples/first.page"; then return 1; fi
     echo "allocation $1: status $status, $(wc -c <"$room/$1.out") octets printed" >&2
     cat "$room/$1.log" >&2
     return 2

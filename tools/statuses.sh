@@ -8,8 +8,8 @@ room=$(mktemp -d) || exit 1
 trap 'rm -rf "$room"' EXIT
 cd "$room" || exit 1
 
-cp "$here/crates/gateway_program/data/c0.toml" c
-cp "$here/crates/gateway_program/data/first.script" s
+cp "$here/examples/first.toml" c
+cp "$here/examples/first.script" s
 cp c $'c\xff'
 cp s $'s\xfe'
 printf 'x' >x
@@ -20,12 +20,13 @@ head -c 16777217 /dev/zero | tr '\0' '#' >long_script
 yes 'run 1' | head -n 1000000 >most
 (cat most; echo 'end 1') >many
 mkdir folder
-page=$(cat "$here/crates/gateway_program/stdout"; echo .)
+page=$(cat "$here/examples/first.page"; echo .)
 page=${page%.}
 usage=$'usage: check CONFIG | replay CONFIG SCRIPT | load N | serve CONFIG PORT WORKERS\n'
 help=$'Zaklumen, a gateway for Z39.50 and SRU.\n\n'
 help+=$'check CONFIG          reads a configuration, and prints how many databases and classes it has\n'
-help+=$'replay CONFIG SCRIPT  plays the octets that a script feeds to clients, and prints what they are answered\n'
+help+=$'replay CONFIG SCRIPT  plays what a script says of clients, time and targets, and prints what clients are answered\n'
+help+=$'load N                plays N clients of four requests each, and prints how many octets, searches and links that took\n'
 help+=$'--help                prints this\n--version             prints the version\n'
 tried=0
 wrong=0
@@ -59,7 +60,7 @@ fails() {
 }
 
 ends 'a replay' 0 "$page" replay c s
-ends 'a million events' 0 $'client 1\nbytes -\nmarks -\nend Finished\nclients 1 requests 0\n' replay c most
+ends 'a million events' 0 $'client 1\nbytes -\nmarks -\nend Finished\nclass alpha dials 0 searches 0 gones 0 faults 0\nclients 1 requests 0\n' replay c most
 ends 'names that are not UTF-8' 0 "$page" replay $'c\xff' $'s\xfe'
 ends 'help' 0 "$help" --help
 ends 'version' 0 $'zaklumen 0.1.0\n' --version
@@ -70,6 +71,11 @@ ends 'help and more' 2 "$usage" --help c
 ends 'an unknown word' 2 "$usage" play c s
 ends 'a word that is not UTF-8' 2 "$usage" $'repl\xff' c s
 ends 'a check' 0 $'ok databases 1 classes 1\n' check c
+ends 'a load' 0 $'load clients 12 requests 48 plain 48 bytes 1500 searches 5 dials 1\n' load 12
+ends 'a load of as many as may be' 0 $'load clients 10000 requests 40000 plain 40000 bytes 1250000 searches 5 dials 1\n' load 10000
+ends 'a load of nobody' 0 $'load clients 0 requests 0 plain 0 bytes 0 searches 0 dials 0\n' load 0
+ends 'a load with a leading zero' 2 "$usage" load 010
+ends 'a load of too many' 2 "$usage" load 10001
 ends 'a refused configuration' 3 $'config 1 toml\n' replay x s
 ends 'a check of a refused configuration' 3 $'config 1 toml\n' check x
 ends 'a configuration over its limit' 3 $'config 7 bytes 262145\n' replay long_config s
@@ -90,6 +96,7 @@ else
 fi
 judge 'a file that may not be read' $? 5 $'read fault x\n'
 fails 'a page and a full disk' 6 /dev/full replay c s
+fails 'a load and a full disk' 6 /dev/full load 1
 fails 'help and a full disk' 6 /dev/full --help
 fails 'a page and a closed output' 6 closed replay c s
 fails 'a refusal and a full disk' 4 /dev/full replay c bad

@@ -10,6 +10,7 @@ use std::rt::Env;
 use std::test::Fail;
 use tcp_edge::{SystemFiles, WriterSink};
 use test_target::TestWorld;
+use test_wire::TestWire;
 use z_types::{List, Memory, Text};
 
 /// The words of a line.
@@ -32,7 +33,14 @@ fn ends_at_the_system(
     let words = texts(alloc, line)?;
     let mut files = SystemFiles::new(runtime);
     let mut out = MemorySink::new(alloc, List::new(alloc));
-    let status = command(alloc, words.as_slice(), &mut files, &mut out, &TestWorld);
+    let mut wire = TestWire::new(alloc);
+    let status = command::<TestWorld, _, _, _>(
+        alloc,
+        words.as_slice(),
+        &mut files,
+        &mut out,
+        &mut wire,
+    );
     Ok(status == wanted && out.received() == printed)
 }
 
@@ -72,7 +80,8 @@ fn status_at_a_full_output(runtime: &HostRuntime, line: &[&str]) -> Result<Statu
     let mut files = SystemFiles::new(runtime);
     let mut out = WriterSink::new(full);
     let alloc = runtime.alloc();
-    Ok(command(alloc, words.as_slice(), &mut files, &mut out, &TestWorld))
+    let mut wire = TestWire::new(alloc);
+    Ok(command::<TestWorld, _, _, _>(alloc, words.as_slice(), &mut files, &mut out, &mut wire))
 }
 
 #[test]

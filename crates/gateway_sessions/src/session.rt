@@ -5,6 +5,7 @@ use gw_memory::{MemoryFiles, MemorySink};
 use std::alloc::Global;
 use std::{fs, io, rt};
 use test_target::TestWorld;
+use test_wire::TestWire;
 use z_types::{List, Memory, Text};
 
 /// Whether the replay of the session in this folder prints its page.
@@ -37,7 +38,8 @@ fn prints(alloc: Global, route: Text, script: Text, page: &[u8]) -> Result<bool,
         word(alloc, b"script")?,
     ];
     let mut out = MemorySink::new(alloc, List::new(alloc));
-    let status = top(alloc, &words, &mut files, &mut out, &TestWorld);
+    let mut wire = TestWire::new(alloc);
+    let status = top::<TestWorld, _, _, _>(alloc, &words, &mut files, &mut out, &mut wire);
     Ok(status == Status::Ok && out.received() == page)
 }
 

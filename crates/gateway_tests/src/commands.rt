@@ -7,6 +7,7 @@ use route_config::SMALLEST_TEXT;
 use std::alloc::Global;
 use std::test::Fail;
 use test_target::TestWorld;
+use test_wire::TestWire;
 use z_types::{List, Memory, Text};
 
 /// A command: its words, the files `c` and `s`, the numbers of the read and of the write that fail, 0
@@ -30,6 +31,7 @@ const INIT_PAGE: &[u8] = b"client 1\n\
     b529830205e0840301c102850310000086031000008c01ff9f6e026d709f6f07676174657761799f700131\n\
     marks Plain\n\
     end Finished\n\
+    class alpha dials 0 searches 0 gones 0 faults 0\n\
     clients 1 requests 1\n";
 
 /// A route with two databases.
@@ -115,7 +117,8 @@ fn ends_over(
     files: &mut MemoryFiles,
 ) -> Result<bool, Memory> {
     let mut out = MemorySink::taking(alloc, 1, numbers(alloc, case.failing_write)?);
-    let status = command(alloc, words, files, &mut out, &TestWorld);
+    let mut wire = TestWire::new(alloc);
+    let status = command::<TestWorld, _, _, _>(alloc, words, files, &mut out, &mut wire);
     Ok(status == case.status && out.received() == case.printed)
 }
 
@@ -129,15 +132,19 @@ fn is_so(alloc: Global, case: &Case) -> Result<bool, Memory> {
 /// What the program tells of itself.
 const HELP: &[u8] = b"Zaklumen, a gateway for Z39.50 and SRU.\n\n\
 check CONFIG          reads a configuration, and prints how many databases and classes it has\n\
-replay CONFIG SCRIPT  plays the octets that a script feeds to clients, and prints what they are answered\n\
+replay CONFIG SCRIPT  plays what a script says of clients, time and targets, and prints what clients are answered\n\
+load N                plays N clients of four requests each, and prints how many octets, searches and links that took\n\
 --help                prints this\n\
 --version             prints the version\n";
 
 const USAGE: &[u8] =
     b"usage: check CONFIG | replay CONFIG SCRIPT | load N | serve CONFIG PORT WORKERS\n";
 
+/// What a load without clients prints.
+const NO_CLIENTS: &[u8] = b"load clients 0 requests 0 plain 0 bytes 0 searches 0 dials 0\n";
+
 /// Words, how they end, and what they print.
-const WORDS: [(&[&str], Status, &[u8]); 14] = [
+const WORDS: [(&[&str], Status, &[u8]); 23] = [
     (&["--help"], Status::Ok, HELP),
     (&["--version"], Status::Ok, b"zaklumen 0.1.0\n"),
     (&["--version", "--version"], Status::Words, USAGE),
@@ -150,7 +157,20 @@ const WORDS: [(&[&str], Status, &[u8]); 14] = [
     (&["check"], Status::Words, USAGE),
     (&["check", "c", "s"], Status::Words, USAGE),
     (&["Check", "c"], Status::Words, USAGE),
-    (&["load", "12"], Status::Words, USAGE),
+    (&["load", "0"], Status::Ok, NO_CLIENTS),
+    (
+        &["load", "12"],
+        Status::Ok,
+        b"load clients 12 requests 48 plain 48 bytes 1500 searches 5 dials 1\n",
+    ),
+    (&["load"], Status::Words, USAGE),
+    (&["load", "1", "1"], Status::Words, USAGE),
+    (&["Load", "1"], Status::Words, USAGE),
+    (&["load", ""], Status::Words, USAGE),
+    (&["load", "00"], Status::Words, USAGE),
+    (&["load", "010"], Status::Words, USAGE),
+    (&["load", "10001"], Status::Words, USAGE),
+    (&["load", "4294967297"], Status::Words, USAGE),
     (&["serve", "c", "9999", "1"], Status::Words, USAGE),
 ];
 
@@ -173,8 +193,19 @@ fn words_are_a_command_or_are_told_the_usage(rt: HostRuntime) -> Result<(), Fail
     Ok(())
 }
 
+#[test]
+fn a_thousand_clients_share_five_sets_over_one_link(rt: HostRuntime) -> Result<(), Fail> {
+    let thousand = Case {
+        words: &["load", "1000"],
+        printed: b"load clients 1000 requests 4000 plain 4000 bytes 125000 searches 5 dials 1\n",
+        ..SOUND
+    };
+    assert!(rt; is_so(rt.alloc(), &thousand)?);
+    Ok(())
+}
+
 /// Files that are taken or refused, each told by its first fault.
-const FILES: [Case; 14] = [
+const FILES: [Case; 15] = [
     SOUND,
     Case {
         words: &["check", "c"],
@@ -234,6 +265,13 @@ const FILES: [Case; 14] = [
         script: b"#\nfeed 2 b4\nfeed 2 b4\nend 2\nfeed 2 b4",
         status: Status::Script,
         printed: b"script line 5\n",
+        ..SOUND
+    },
+    // a script may name the targets of its route alone
+    Case {
+        script: b"cut alpha\ncut beta",
+        status: Status::Script,
+        printed: b"script line 2\n",
         ..SOUND
     },
     Case {
@@ -301,6 +339,12 @@ fn a_front_is_printed_up_to_the_write_that_fails(rt: HostRuntime) -> Result<(), 
         ..SOUND
     };
     assert!(rt; are_fronts(rt.alloc(), &refused, Status::Script)?);
+    let loaded = Case {
+        words: &["load", "0"],
+        printed: NO_CLIENTS,
+        ..SOUND
+    };
+    assert!(rt; are_fronts(rt.alloc(), &loaded, Status::WriteFault)?);
     Ok(())
 }
 
@@ -333,11 +377,15 @@ fn ends_at_lengths(
     is_so(alloc, &case)
 }
 
+/// The page of a script without events, by the smallest route.
+const NOBODY_PAGE: &[u8] =
+    b"class alpha dials 0 searches 0 gones 0 faults 0\nclients 0 requests 0\n";
+
 /// The lengths of a configuration and of a script, how their replay ends, and what it prints.
 const LENGTHS: [((usize, usize), Status, &[u8]); 3] = [
     ((262_145, 0), Status::Config, b"config 7 bytes 262145\n"),
     ((0, 16_777_217), Status::Script, b"script line 0\n"),
-    ((262_144, 16_777_216), Status::Ok, b"clients 0 requests 0\n"),
+    ((262_144, 16_777_216), Status::Ok, NOBODY_PAGE),
 ];
 
 #[test]

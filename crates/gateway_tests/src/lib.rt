@@ -1,4 +1,4 @@
-//! What the commands print, what targets answer, how connections begin and what pages say, each case
+//! What the commands print, what targets answer, the laws of connections and what pages say, each case
 //! worked out by hand. All of it is tests, over public calls alone.
 #![tactic(auto)]
 

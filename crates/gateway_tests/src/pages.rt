@@ -1,6 +1,6 @@
 //! Pages of reports, by `docs/formats/replay.md`.
 
-use replay::{ClientReport, Report, print};
+use replay::{ClassReport, ClientReport, Report, print};
 use std::alloc::Global;
 use std::test::Fail;
 use z_types::{End, List, Mark, Memory, Text};
@@ -22,18 +22,41 @@ fn client_report(
     })
 }
 
-/// A report of these clients.
-fn report(alloc: Global, clients: &[Client]) -> Result<Report, Memory> {
-    let mut reports = List::new(alloc);
-    for client in clients {
-        reports.push(client_report(alloc, *client)?)?;
-    }
-    Ok(Report { clients: reports })
+/// A class's name, and how many links were made, searches sent, sets gone and calls failed.
+type Class<'a> = (&'a [u8], [u64; 4]);
+
+/// The report of a class.
+fn class_report(
+    alloc: Global,
+    (name, [dials, searches, gones, faults]): Class,
+) -> Result<ClassReport, Memory> {
+    Ok(ClassReport {
+        name: Text::copy_of(alloc, name)?,
+        dials,
+        searches,
+        gones,
+        faults,
+    })
 }
 
-/// Whether this is printed of these clients.
-fn prints(alloc: Global, clients: &[Client], page: &[u8]) -> Result<bool, Memory> {
-    let report = report(alloc, clients)?;
+/// A report of these clients and classes.
+fn report(alloc: Global, (clients, classes): (&[Client], &[Class])) -> Result<Report, Memory> {
+    let mut report = Report {
+        clients: List::new(alloc),
+        classes: List::new(alloc),
+    };
+    for client in clients {
+        report.clients.push(client_report(alloc, *client)?)?;
+    }
+    for class in classes {
+        report.classes.push(class_report(alloc, *class)?)?;
+    }
+    Ok(report)
+}
+
+/// Whether this is printed of these clients and classes.
+fn prints(alloc: Global, told: (&[Client], &[Class]), page: &[u8]) -> Result<bool, Memory> {
+    let report = report(alloc, told)?;
     is_printed(alloc, &report, page)
 }
 
@@ -60,24 +83,38 @@ client 30\nbytes ff\nmarks Plain\nend Malformed 0\n\
 client 10000\nbytes -\nmarks -\nend Closed\n\
 clients 3 requests 6\n";
 
-/// Clients, and the page of them: no client, one without octets and marks, and three.
-const PAGES: [(&[Client<'static>], &[u8]); 3] = [
-    (&[], b"clients 0 requests 0\n"),
-    (&[(1, &[], &[], End::Finished)], SILENT),
+/// The page of two classes: one of which nothing was counted, and one with the greatest numbers.
+const CLASSES: &[u8] = b"class a b dials 0 searches 0 gones 0 faults 0\n\
+class beta dials 1 searches 20 gones 300 faults 18446744073709551615\n\
+clients 0 requests 0\n";
+
+/// Clients and classes, and the page of them: none, a client without octets and marks, three clients, and
+/// two classes.
+const PAGES: [(&[Client<'static>], &[Class<'static>], &[u8]); 4] = [
+    (&[], &[], b"clients 0 requests 0\n"),
+    (&[(1, &[], &[], End::Finished)], &[], SILENT),
     (
         &[
             (2, &[0, 0xab], MARKS, End::Cut(12)),
             (30, &[0xff], &[Mark::Plain], End::Malformed(0)),
             (10000, &[], &[], End::Closed),
         ],
+        &[],
         SEVERAL,
+    ),
+    (
+        &[],
+        &[(b"a b", [0; 4]), (b"beta", [1, 20, 300, u64::MAX])],
+        CLASSES,
     ),
 ];
 
 #[test]
-fn a_page_has_four_lines_for_each_client_and_one_of_sums(rt: HostRuntime) -> Result<(), Fail> {
-    for (clients, page) in PAGES {
-        assert!(rt; prints(rt.alloc(), clients, page)?, "{page:?}");
+fn a_page_has_the_lines_of_each_client_and_class_and_one_of_sums(
+    rt: HostRuntime,
+) -> Result<(), Fail> {
+    for (clients, classes, page) in PAGES {
+        assert!(rt; prints(rt.alloc(), (clients, classes), page)?, "{page:?}");
     }
     Ok(())
 }

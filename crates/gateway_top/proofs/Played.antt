@@ -1,10 +1,10 @@
--- A route played by the files as they were left is one played by them as they were at first.
+-- A route played by the files as they were left is one played by them as they were at first; and a script that was read is the one that the files tell.
 use Rattle.std.proofs.Common.{◌≡◌, ◌≤◌, ℕ, List, Option, Some, None, IfSome, subst, inr, arith}
 use Rattle.z_types.specs.Counts.{Rose}
 use Rattle.z_types.specs.declared.world.World as world
 use Rattle.route_config.specs.declared.route.Route.{Route}
 use Rattle.gateway_top.specs.Configs.{IsConfigurationOf, first_real}
-use Rattle.gateway_top.specs.Outcome.{ScriptPlayed, RoutePlayed, ReplayDone, IsMemoryOr}
+use Rattle.gateway_top.specs.Outcome.{ScriptPlayed, ScriptDone, RoutePlayed, ReplayDone, IsMemoryOr}
 use Rattle.gateway_top.specs.Outside.{FileReads, SinkWrites}
 use Rattle.gateway_top.specs.declared.status.Status.{Status}
 use Rattle.gateway_top.specs.declared.status.Status.TheVariants as status
@@ -68,3 +68,28 @@ taken-played w config script route c d f g after failed writes status.WriteFault
     (route, taken, route-earlier w (first_real route) route script c d f g after failed writes status.WriteFault (e script) le h)
 taken-played w config script route c d f g after failed writes status.RealTarget e le taken h =
     (route, taken, route-earlier w (first_real route) route script c d f g after failed writes status.RealTarget (e script) le h)
+
+-- a script of octets was played, which are those that are told where they are
+played-told : {W : Type 0} (w : world.Ghosts W) (route : Route) (told : Option (List ℕ)) (text : List ℕ) (writes : SinkWrites) (ended : Status)
+    → IfSome told (λ bytes. text ≡ bytes) → ScriptPlayed w route (Some text) writes ended → ScriptPlayed w route told writes ended
+played-told w route (Some bytes) text writes ended e h = subst (λ (b : List ℕ). ScriptPlayed w route (Some b) writes ended) e h
+played-told w route None text writes status.Ok e h = (h.0, tt, h.2)
+played-told w route None text writes status.WriteFault e h = (h.0, tt, h.2)
+played-told w route None text writes status.Script e h = (h.0, tt, h.2)
+played-told w route None text writes status.Memory e h = h
+played-told w route None text writes status.Words e h = h
+played-told w route None text writes status.Config e h = h
+played-told w route None text writes status.ReadFault e h = h
+played-told w route None text writes status.RealTarget e h = h
+
+-- so the script of a name was played, as the files tell it
+pub script-told : {W : Type 0} (w : world.Ghosts W) (route : Route) (name text : List ℕ) (files : FileReads) (writes : SinkWrites) (ended : Status)
+    → IfSome (files.contents name) (λ bytes. text ≡ bytes) → ScriptPlayed w route (Some text) writes ended → ScriptDone w route name files writes ended
+script-told w route name text files writes status.ReadFault e h = absurd h
+script-told w route name text files writes status.Ok e h = played-told w route (files.contents name) text writes status.Ok e h
+script-told w route name text files writes status.WriteFault e h = played-told w route (files.contents name) text writes status.WriteFault e h
+script-told w route name text files writes status.Script e h = played-told w route (files.contents name) text writes status.Script e h
+script-told w route name text files writes status.Memory e h = h
+script-told w route name text files writes status.Words e h = absurd h
+script-told w route name text files writes status.Config e h = absurd h
+script-told w route name text files writes status.RealTarget e h = absurd h

@@ -1,19 +1,24 @@
--- The main theorem: what is printed of a replay, and of a configuration that is checked.
+-- The main theorem: what is printed of a replay, of a load, and of a configuration that is checked.
 --
 -- A replay of the configuration and the script of two files printed the page of one report, and nothing else.
--- In that report each client that the script names, once and in ascending order, and no other, was written the
--- answers to the octets that it was fed, in whatever order the script feeds, runs and ends its clients: those
--- of a route with private sessions with the targets and no pool, under the marks that the report lists: one for
--- each request that is answered, and each of them Plain. No other client, no session with a target and no clock is
--- in that answer. Where every mark is Plain, octets have one answer (`one_answer` of `gateway_rules`), and how a
--- connection ends follows from its octets and the route alone (`one_end`). So two replays, by targets that mean the
--- same, that feed a client the same octets write it the same, under the same marks, and end its connection the same.
+-- The script feeds clients, runs them whole or step by step, lets time pass, deletes result sets at targets, and cuts
+-- and slows links, in any order. On a fair route, whose targets' answers are known whichever member of a group is asked,
+-- each client that it names, once and in ascending order, and no other, was written the answers to the octets that it
+-- was fed: those of a route with private sessions with the targets and no pool, under the marks that the report lists,
+-- one for each request that is answered. No other client, no session with a target, no pool and no clock is in that
+-- answer. A mark other than Plain says that a target or the pool failed this request.
+-- Where every mark is Plain, octets have one answer (`one_answer` of `gateway_rules`), and how a connection ends follows
+-- from its octets and the route alone (`one_end`). So two replays that feed a client the same octets, with all its
+-- marks Plain, write it the same and end its connection the same.
 use Rattle.std.specs.Prelude.{◌≡◌, ℕ, List, [], ◌∷◌, Some, codes}
 use Rattle.z_types.specs.declared.world.World as world
 use Rattle.route_config.specs.declared.route.Route.{Route}
 use Rattle.script.specs.declared.event.Event.{Event}
+use Rattle.script.specs.Events.{most_clients}
+use Rattle.script.specs.Lines.{number_in}
 use Rattle.gateway_top.specs.Configs.{IsConfigurationOf}
 use Rattle.gateway_top.specs.Lines.{Received, check_line}
+use Rattle.gateway_top.specs.Load.{HasLoaded}
 use Rattle.gateway_top.specs.Outcome.{HasPrinted, IsPlayable}
 use Rattle.gateway_top.specs.Outside.{FileReads, SinkWrites}
 use Rattle.gateway_top.specs.declared.status.Status.{Status}
@@ -42,6 +47,16 @@ IsReplayHeadline w words reads writes ended =
     → ended ≡ Ok → words ≡ codes "replay" ∷ config ∷ script ∷ []
     → reads.contents config ≡ Some config_text → reads.contents script ≡ Some script_text
     → IsReplay w config_text script_text writes
+
+-- `load` at Ok: so many clients were played, and one line of a report of them was printed, as that of a
+-- replay is one by its events
+abbrev pub IsLoadHeadline : {W : Type 0} → world.Ghosts W → List (List ℕ) → SinkWrites → Status
+    → Type 0
+IsLoadHeadline w words writes ended =
+    (number : List ℕ) (clients : ℕ)
+    → ended ≡ Ok → words ≡ codes "load" ∷ number ∷ []
+    → number_in 0 most_clients number ≡ Some clients
+    → HasLoaded w clients writes
 
 -- `check` at Ok: the file that it names was checked, where it is told
 abbrev pub IsCheckHeadline : List (List ℕ) → FileReads → SinkWrites → Status → Type 0

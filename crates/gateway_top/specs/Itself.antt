@@ -13,7 +13,8 @@ abbrev pub help_text : List ℕ
 help_text =
     line_of (codes "Zaklumen, a gateway for Z39.50 and SRU.") ++ line_of []
     ++ line_of (codes "check CONFIG          reads a configuration, and prints how many databases and classes it has")
-    ++ line_of (codes "replay CONFIG SCRIPT  plays the octets that a script feeds to clients, and prints what they are answered")
+    ++ line_of (codes "replay CONFIG SCRIPT  plays what a script says of clients, time and targets, and prints what clients are answered")
+    ++ line_of (codes "load N                plays N clients of four requests each, and prints how many octets, searches and links that took")
     ++ line_of (codes "--help                prints this")
     ++ line_of (codes "--version             prints the version")
 

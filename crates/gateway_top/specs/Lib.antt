@@ -4,6 +4,7 @@ pub mod Command
 pub mod Lines
 pub mod Configs
 pub mod ConfigRead
+pub mod Load
 pub mod Outcome
 pub mod Headline
 pub mod Itself

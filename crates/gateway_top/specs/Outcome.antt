@@ -10,9 +10,10 @@ use Rattle.script.specs.Script.{script_of}
 use Rattle.replay.specs.declared.reports.Report.{Report}
 use Rattle.replay.specs.Report.{IsReportOf}
 use Rattle.replay.specs.Page.{page}
-use Rattle.gateway_top.specs.Command.{check_of, replay_of}
+use Rattle.gateway_top.specs.Command.{check_of, replay_of, load_of}
 use Rattle.gateway_top.specs.Configs.{IsTaken, IsRefusedConfig, first_real}
 use Rattle.gateway_top.specs.Lines.{Received, ReceivedNothing, FailedWithin, Says, usage_line, check_line, real_target_line, script_line, fault_line}
+use Rattle.gateway_top.specs.Load.{LoadDone}
 use Rattle.gateway_top.specs.Outside.{FileReads, SinkWrites}
 use Rattle.gateway_top.specs.declared.status.Status.{Status}
 use Rattle.gateway_top.specs.declared.status.Status.TheVariants as status
@@ -130,17 +131,18 @@ CheckDone config reads writes other = ⊥
 
 -- Words exactly where the words are no command
 abbrev pub CommandDone : {W : Type 0} → world.Ghosts W → Option (List ℕ) → Option (List ℕ × List ℕ)
-    → FileReads → SinkWrites → Status → Type 0
-CommandDone w (Some config) replayed reads writes ended = CheckDone config reads writes ended
-CommandDone w None (Some (config, script)) reads writes ended =
+    → Option ℕ → FileReads → SinkWrites → Status → Type 0
+CommandDone w (Some config) replayed loaded reads writes ended = CheckDone config reads writes ended
+CommandDone w None (Some (config, script)) loaded reads writes ended =
     ReplayDone w config script reads writes ended
-CommandDone w None None reads writes ended = (ended ≡ status.Words) × Says writes usage_line
+CommandDone w None None (Some clients) reads writes ended = LoadDone w clients writes ended
+CommandDone w None None None reads writes ended = (ended ≡ status.Words) × Says writes usage_line
 
 -- what these words did
 abbrev pub IsDone : {W : Type 0} → world.Ghosts W → List (List ℕ) → FileReads → SinkWrites → Status
     → Type 0
 IsDone w words reads writes ended =
-    CommandDone w (check_of words) (replay_of words) reads writes ended
+    CommandDone w (check_of words) (replay_of words) (load_of words) reads writes ended
 
 -- a script is refused at a line, which is printed, or no memory could be had
 abbrev pub IsRefusal : ℕ → SinkWrites → Status → Type 0

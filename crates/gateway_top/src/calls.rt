@@ -2,47 +2,54 @@
 
 ghost use Rattle.gateway_top.specs.Outcome.{IsDone, ReplayDone, CheckDone, RoutePlayed, IsMemoryOr, IsTargetRefusal, IsTextPrinted};
 ghost use Rattle.gateway_top.specs.Outside.{file_reads, sink_writes};
-ghost use Rattle.gateway_top.specs.Headline.{IsReplayHeadline, IsCheckHeadline};
+ghost use Rattle.gateway_top.specs.Headline.{IsReplayHeadline, IsCheckHeadline, IsLoadHeadline};
 ghost use Rattle.gateway_top.specs.Configs.{first_real};
 ghost use Rattle.gateway_top.specs.Lines.{check_line};
 
 use crate::config::{ConfigRead, first_real, read_config, refuse_config};
+use crate::load::load;
 use crate::play::{play_script, unread};
 use crate::say::{USAGE, check_line, real_target_line, say};
 use crate::status::Status;
-use crate::words::{check_of, replay_of};
-use gw_outside::{Files, Sink, Targets, write_all};
+use crate::words::{check_of, load_of, replay_of};
+use gw_outside::{Events, Files, Sink, Wire, write_all};
 use route_config::Route;
 use std::alloc::Global;
-use z_types::Text;
+use z_types::{Text, World};
 
 /// Does what the words after the program's name say, and answers how it ended. It prints only when
 /// its work is done. The words are refused first, then the configuration, then a target that is no test
 /// target, then the script.
-pub fn top<T: Targets, F: Files, K: Sink>(
+pub fn top<W: World, N: Wire<W> + Events, F: Files, K: Sink>(
     alloc: Global,
     words: &[Text],
     files: &mut F,
     out: &mut K,
-    targets: &T,
+    wire: &mut N,
 ) -> Status
     // At Ok the page of one report is printed, of the answers that a route with private sessions gives.
-    ensures headline { IsReplayHeadline T.World words.now
+    ensures headline { IsReplayHeadline W.World words.now
         (file_reads F.Files files.old files.new) (sink_writes K.Sink out.old out.new) result }
 
     // At Ok of `check` the sizes of the configuration's route are printed.
     ensures checked { IsCheckHeadline words.now
         (file_reads F.Files files.old files.new) (sink_writes K.Sink out.old out.new) result }
 
+    // At Ok of `load` the line of one report is printed, of the events of so many clients.
+    ensures loaded { IsLoadHeadline W.World words.now (sink_writes K.Sink out.old out.new) result }
+
     // Each status comes exactly as its definition says, with what is printed.
-    ensures done { IsDone T.World words.now
+    ensures done { IsDone W.World words.now
         (file_reads F.Files files.old files.new) (sink_writes K.Sink out.old out.new) result }
 {
     if let Some(config) = check_of(words) {
         return check(alloc, config, files, out);
     }
-    match replay_of(words) {
-        Some((config, script)) => replay(alloc, config, script, files, out, targets),
+    if let Some((config, script)) = replay_of(words) {
+        return replay(alloc, config, script, files, out, wire);
+    }
+    match load_of(words) {
+        Some(clients) => load(alloc, clients, out, wire),
         None => {
             say(out, USAGE);
             Status::Words
@@ -80,41 +87,41 @@ fn print_check<K: Sink>(alloc: Global, route: &Route, out: &mut K) -> Status
 }
 
 /// Replays the script of one file by the configuration of another.
-fn replay<T: Targets, F: Files, K: Sink>(
+fn replay<W: World, N: Wire<W> + Events, F: Files, K: Sink>(
     alloc: Global,
     config: &Text,
     script: &Text,
     files: &mut F,
     out: &mut K,
-    targets: &T,
+    wire: &mut N,
 ) -> Status
-    ensures { ReplayDone T.World config.now script.now
+    ensures { ReplayDone W.World config.now script.now
         (file_reads F.Files files.old files.new) (sink_writes K.Sink out.old out.new) result }
 {
     match read_config(alloc, files, config) {
-        ConfigRead::Taken(route) => play_route(alloc, &route, script, files, out, targets),
+        ConfigRead::Taken(route) => play_route(alloc, &route, script, files, out, wire),
         ConfigRead::Refused(fault) => refuse_config(alloc, out, &fault),
         ConfigRead::Failed => unread(alloc, out, config),
         ConfigRead::Memory => Status::Memory,
     }
 }
 
-/// Plays the script of a file by a route, whose targets have to be test targets.
-fn play_route<T: Targets, F: Files, K: Sink>(
+/// Plays the script of a file by a route, all of whose targets have to be test targets.
+fn play_route<W: World, N: Wire<W> + Events, F: Files, K: Sink>(
     alloc: Global,
     route: &Route,
     script: &Text,
     files: &mut F,
     out: &mut K,
-    targets: &T,
+    wire: &mut N,
 ) -> Status
     ensures { IsMemoryOr result (sink_writes K.Sink out.old out.new)
-        (RoutePlayed T.World (first_real route.now) route.now script.now
+        (RoutePlayed W.World (first_real route.now) route.now script.now
         (file_reads F.Files files.old files.new) (sink_writes K.Sink out.old out.new) result) }
 {
     match first_real(route) {
         Some(name) => refuse_target(alloc, out, name),
-        None => play_script(alloc, route, targets, files, script, out),
+        None => play_script(alloc, route, wire, files, script, out),
     }
 }
 

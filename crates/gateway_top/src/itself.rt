@@ -7,14 +7,15 @@ ghost use Rattle.std.specs.Option.{option_copied};
 
 use crate::calls::top;
 use crate::status::Status;
-use gw_outside::{Files, Sink, Targets, write_all};
+use gw_outside::{Events, Files, Sink, Wire, write_all};
 use std::alloc::Global;
-use z_types::Text;
+use z_types::{Text, World};
 
 /// What `--help` prints.
 const HELP: &[u8] = b"Zaklumen, a gateway for Z39.50 and SRU.\n\n\
 check CONFIG          reads a configuration, and prints how many databases and classes it has\n\
-replay CONFIG SCRIPT  plays the octets that a script feeds to clients, and prints what they are answered\n\
+replay CONFIG SCRIPT  plays what a script says of clients, time and targets, and prints what clients are answered\n\
+load N                plays N clients of four requests each, and prints how many octets, searches and links that took\n\
 --help                prints this\n\
 --version             prints the version\n";
 
@@ -22,19 +23,19 @@ replay CONFIG SCRIPT  plays the octets that a script feeds to clients, and print
 const VERSION: &[u8] = b"zaklumen 0.1.0\n";
 
 /// One command: what the program tells of itself, and else what `top` does.
-pub fn command<T: Targets, F: Files, K: Sink>(
+pub fn command<W: World, N: Wire<W> + Events, F: Files, K: Sink>(
     alloc: Global,
     words: &[Text],
     files: &mut F,
     out: &mut K,
-    targets: &T,
+    wire: &mut N,
 ) -> Status
-    ensures { IsProgramDone T.World words.now
+    ensures { IsProgramDone W.World words.now
         (file_reads F.Files files.old files.new) (sink_writes K.Sink out.old out.new) result }
 {
     match own_text(words) {
         Some(text) => tell(out, text),
-        None => top(alloc, words, files, out, targets),
+        None => top(alloc, words, files, out, wire),
     }
 }
 

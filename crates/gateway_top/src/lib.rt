@@ -4,6 +4,8 @@
 mod calls;
 mod config;
 mod itself;
+mod load;
+mod numbers;
 mod play;
 mod say;
 mod status;

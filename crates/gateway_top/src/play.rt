@@ -1,37 +1,36 @@
 //! A script, read and played.
 
-ghost use Rattle.std.specs.Prelude.{◌≤◌, length, Some};
-ghost use Rattle.std.specs.List.{AllByRecursion};
-ghost use Rattle.script.specs.Events.{HasClient};
+ghost use Rattle.std.specs.Prelude.{◌≤◌, ℕ, length, Some};
+ghost use Rattle.script.specs.Events.{AreEvents};
 ghost use Rattle.gateway_top.specs.Outcome.{IsRefusal, IsUnreadTold, Played, ScriptPlayed, ScriptDone};
 ghost use Rattle.gateway_top.specs.Outside.{file_reads, sink_writes};
 
 use crate::say::{fault_line, say, script_line};
 use crate::status::Status;
-use gw_outside::{FileGot, Files, Sink, Targets, write_all};
+use gw_outside::{Events, FileGot, Files, Sink, Wire, write_all};
 use replay::{print, run};
 use route_config::{Route, target_names};
 use script::{Event, ScriptFault, read_script};
 use std::alloc::Global;
-use z_types::{List, Text};
+use z_types::{List, Text, World};
 
 /// The most octets of a script.
 const SCRIPT_LIMIT: usize = 16_777_216;
 
 /// Plays the script of a name.
-pub(crate) fn play_script<T: Targets, F: Files, K: Sink>(
+pub(crate) fn play_script<W: World, N: Wire<W> + Events, F: Files, K: Sink>(
     alloc: Global,
     route: &Route,
-    targets: &T,
+    wire: &mut N,
     files: &mut F,
     name: &Text,
     out: &mut K,
 ) -> Status
-    ensures { ScriptDone T.World route.now name.now
+    ensures { ScriptDone W.World route.now name.now
         (file_reads F.Files files.old files.new) (sink_writes K.Sink out.old out.new) result }
 {
     match files.read_all(alloc, name, SCRIPT_LIMIT) {
-        FileGot::Whole(text) => play_text(alloc, route, targets, text.as_slice(), out),
+        FileGot::Whole(text) => play_text(alloc, route, wire, text.as_slice(), out),
         FileGot::Longer => refuse(alloc, out, 0),
         FileGot::Failed => unread(alloc, out, name),
         FileGot::Memory => Status::Memory,
@@ -52,22 +51,22 @@ pub(crate) fn unread<K: Sink>(alloc: Global, out: &mut K, name: &Text) -> Status
 }
 
 /// Plays a script of these octets.
-fn play_text<T: Targets, K: Sink>(
+fn play_text<W: World, N: Wire<W> + Events, K: Sink>(
     alloc: Global,
     route: &Route,
-    targets: &T,
+    wire: &mut N,
     text: &[u8],
     out: &mut K,
 ) -> Status
     requires { length text.now ≤ 16777216 }
-    ensures { ScriptPlayed T.World route.now (Some text.now)
+    ensures { ScriptPlayed W.World route.now (Some text.now)
         (sink_writes K.Sink out.old out.new) result }
 {
     let Ok(names) = target_names(alloc, route) else {
         return Status::Memory;
     };
     match read_script(alloc, text, &names) {
-        Ok(events) => play(alloc, route, targets, &events, out),
+        Ok(events) => play(alloc, route, wire, &events, out),
         Err(ScriptFault::Line(number)) => refuse(alloc, out, number),
         Err(ScriptFault::TooMany(number)) => refuse(alloc, out, number),
         Err(ScriptFault::Memory) => Status::Memory,
@@ -88,17 +87,17 @@ fn refuse<K: Sink>(alloc: Global, out: &mut K, number: u64) -> Status
 }
 
 /// Plays events, and prints the page of their report.
-fn play<T: Targets, K: Sink>(
+fn play<W: World, N: Wire<W> + Events, K: Sink>(
     alloc: Global,
     route: &Route,
-    targets: &T,
+    wire: &mut N,
     events: &List<Event>,
     out: &mut K,
 ) -> Status
-    requires { AllByRecursion HasClient events.now }
-    ensures { Played T.World route.now events.now (sink_writes K.Sink out.old out.new) result }
+    requires { (targets : ℕ) × AreEvents targets events.now }
+    ensures { Played W.World route.now events.now (sink_writes K.Sink out.old out.new) result }
 {
-    let Ok(report) = run(alloc, route, targets, events) else {
+    let Ok(report) = run(alloc, route, events, wire) else {
         return Status::Memory;
     };
     let Ok(text) = print(alloc, &report) else {

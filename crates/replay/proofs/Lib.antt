@@ -1,4 +1,8 @@
-pub mod InputLemmas
-pub mod RunSteps
-pub mod Stepping
-pub mod Reported
+pub mod EventLemmas
+pub mod StepLemmas
+pub mod ClientLemmas
+pub mod PlayLemmas
+pub mod TraceLemmas
+pub mod ClosingLemmas
+pub mod CostLemmas
+pub mod ReportLemmas

@@ -1,3 +1,6 @@
 pub mod Page
 pub mod Report
+pub mod Clients
+pub mod Classes
+pub mod Trace
 pub mod steps

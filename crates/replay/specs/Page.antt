@@ -7,6 +7,7 @@ use Rattle.z_types.specs.declared.marks.Mark.{Mark}
 use Rattle.z_types.specs.declared.marks.Mark.TheVariants.{Plain, Link, Silent, Gone, Full}
 use Rattle.z_types.specs.declared.marks.End.{End}
 use Rattle.z_types.specs.declared.marks.End.TheVariants as end
+use Rattle.replay.specs.declared.reports.ClassReport.{ClassReport}
 use Rattle.replay.specs.declared.reports.ClientReport.{ClientReport}
 use Rattle.replay.specs.declared.reports.Report.{Report}
 
@@ -51,6 +52,18 @@ client_lines client =
     ++ line (codes "marks ") (marks_text client.marks)
     ++ line (codes "end ") (end_text client.end)
 
+-- what was counted of a class, and the end of its line
+unfoldable pub counts_text : ClassReport → List ℕ
+counts_text class =
+    codes " dials " ++ decimal class.dials
+    ++ codes " searches " ++ decimal class.searches
+    ++ codes " gones " ++ decimal class.gones
+    ++ line (codes " faults ") (decimal class.faults)
+
+-- the line of a class
+unfoldable pub class_line : ClassReport → List ℕ
+class_line class = codes "class " ++ class.name ++ counts_text class
+
 -- how many marks there are
 abbrev pub requests : List ClientReport → ℕ
 requests clients = sum_by (λ client. length client.marks) clients
@@ -61,6 +74,8 @@ sums_line clients =
     codes "clients " ++ decimal (length clients)
     ++ line (codes " requests ") (decimal (requests clients))
 
--- the clients in order, and the sums
+-- the clients in order, the classes in order, and the sums
 abbrev pub page : Report → List ℕ
-page report = flat_map client_lines report.clients ++ sums_line report.clients
+page report =
+    flat_map client_lines report.clients ++ flat_map class_line report.classes
+    ++ sums_line report.clients

@@ -1,89 +1,153 @@
-//! One client's connection, fed and stepped to its end (ANSI/NISO Z39.50-2003, 4.2).
+//! One client of a replay: its connection, and what was written to it.
 
-ghost use Rattle.std.specs.Prelude.{◌≡◌, [], true, IfOk, OnOk, IsSome};
-ghost use Rattle.front_direct.specs.States.{IsStateOf};
-ghost use Rattle.front_direct.specs.Steps.{KeepsState};
-ghost use Rattle.replay.specs.steps.Connections.{IsFedWhole};
-ghost use Rattle.replay.specs.Report.{IsClientReport};
+ghost use Rattle.std.specs.Prelude.{◌≡◌, IfOk, IsSome, OnOk, false};
+ghost use Rattle.front_conn.specs.steps.States.{IsConnOf};
+ghost use Rattle.replay.specs.Trace.{HasRun, IsClientStep, IsReportedAs, outside_of, with_no_more, with_octets};
+ghost use Rattle.replay.specs.Clients.{is_idle, new_client};
+ghost use Rattle.replay.specs.steps.Clients.{left};
 
 use crate::ClientReport;
-use front_direct::{
-    Conn, Stepped, ends_answered, stands_at_start, stands_when_ended, stands_when_fed,
-};
-use gw_outside::Targets;
+use front_conn::{Conn, Stepped, Total, stays_of_route};
+use gw_outside::Backend;
+use pool_sets::Door;
 use route_config::Route;
 use std::alloc::Global;
-use z_types::Memory;
+use std::marker::Model;
+use z_types::{List, Memory, Sitting, Text, World};
 
-/// What a client of this number is answered to these octets.
-pub fn answer<T: Targets>(
-    alloc: Global,
-    route: &Route,
-    targets: &T,
-    number: u32,
-    bytes: &[u8],
-) -> Result<ClientReport, Memory>
-    ensures { IfOk result (IsClientReport T.World route.now number bytes.now) }
-{
-    let mut connection = fed_whole::<T>(alloc, bytes)?;
-    run(alloc, route, targets, &mut connection)?;
-    Ok(report_of::<T>(route, number, bytes, connection))
+/// A client that a script names.
+#[derive(Drop)]
+pub(crate) struct Client<W: World, S: Sitting<W>> {
+    conn: Conn<W, S>,
+    written: Text,
 }
 
-/// A connection that was fed these octets, and whose input has ended.
-fn fed_whole<T: Targets>(alloc: Global, bytes: &[u8]) -> Result<Conn, Memory>
-    ensures { IfOk result (λ connection. IsFedWhole T.World bytes.now connection) }
-{
-    stands_at_start::<T>();
-    stands_when_fed::<T>();
-    stands_when_ended::<T>();
-    let mut connection = Conn::new(alloc);
-    connection.feed(bytes)?;
-    connection.end_input();
-    Ok(connection)
+impl<W: World, S: Sitting<W>> Model for Client<W, S> {
+    ghost use Rattle.std.specs.Coded.{codes};
+    ghost use Rattle.z_types.specs.Tree.{tree_code};
+    ghost use Rattle.replay.specs.Clients.{ClientState};
+
+    ghost Value = { ClientState S };
+
+    ghost coded = { Prim.hlevel (codes, tree_code) };
+
+    ghost view = { λ c. record { conn = c.conn; written = c.written } };
 }
 
-/// Steps a connection whose input has ended until it has ended.
-fn run<T: Targets>(
-    alloc: Global,
-    route: &Route,
-    targets: &T,
-    connection: &mut Conn,
-) -> Result<(), Memory>
-    requires { connection.old.has_ended ≡ true }
-    ensures whole { OnOk result (connection.new.has_ended ≡ true) }
-    ensures ended { OnOk result (IsSome connection.new.end) }
-    ensures keeps { OnOk result (KeepsState T.World route.now connection.old connection.new) }
-{
-    while connection.end().is_none() {
-        match connection.step(alloc, route, targets) {
-            Stepped::Went => {}
-            Stepped::Idle | Stepped::NotYet => unreachable!(),
-            Stepped::Memory => return Err(Memory),
+impl<W: World, S: Sitting<W>> Client<W, S> {
+    /// A client to which nothing has happened.
+    pub(crate) fn new(alloc: Global) -> Client<W, S>
+        ensures { result ≡ new_client }
+    {
+        Client {
+            conn: Conn::new(alloc),
+            written: Text::new(alloc),
         }
     }
-    Ok(())
+
+    /// Octets come from the client, whose input has not ended.
+    pub(crate) fn feed(&mut self, octets: &[u8]) -> Result<(), Memory>
+        requires { self.old.conn.has_ended ≡ false }
+        ensures { OnOk result (self.new ≡ with_octets octets.now self.old) }
+    {
+        self.conn.feed(octets)
+    }
+
+    /// The client's input has ended.
+    pub(crate) fn end_input(&mut self)
+        ensures { self.new ≡ with_no_more self.old }
+    {
+        self.conn.end_input();
+    }
+
+    /// One step of the client's connection at a moment, behind which what it wrote is the client's:
+    /// whether it was idle.
+    pub(crate) fn step<B: Backend<W, Session = S>, D: Door<W, S>>(
+        &mut self,
+        alloc: Global,
+        route: &Route,
+        backend: &mut B,
+        door: &mut D,
+        now: u64,
+    ) -> Result<bool, Memory>
+        requires { IsConnOf W.World S.Sitting route.now (D.counts door.old).most self.old.conn }
+        ensures most { (D.counts door.new).most ≡ (D.counts door.old).most }
+        ensures of { OnOk result
+            (IsConnOf W.World S.Sitting route.now (D.counts door.new).most self.new.conn) }
+        ensures steps { IfOk result (λ idle.
+            IsClientStep W.World S.Sitting B.exact route.now now idle self.old self.new
+            (outside_of D.Door B.Watched door.old backend.old)
+            (outside_of D.Door B.Watched door.new backend.new)) }
+    {
+        stays_of_route::<W, S>();
+        let stepped = self.conn.step(alloc, route, backend, door, now);
+        if let Stepped::Memory = stepped {
+            return Err(Memory);
+        }
+        self.written.append(self.conn.out())?;
+        self.conn.clear_out();
+        Ok(is_idle(stepped))
+    }
+
+    /// Steps at one moment until one finds the connection idle; a step that finds that a target has not
+    /// replied yet is followed by another. Each reply is awaited for so many looks at most, so the count
+    /// of steps never comes to its end.
+    pub(crate) fn run<B: Backend<W, Session = S>, D: Door<W, S>>(
+        &mut self,
+        alloc: Global,
+        route: &Route,
+        backend: &mut B,
+        door: &mut D,
+        now: u64,
+    ) -> Result<(), Memory>
+        requires { IsConnOf W.World S.Sitting route.now (D.counts door.old).most self.old.conn }
+        ensures most { (D.counts door.new).most ≡ (D.counts door.old).most }
+        ensures runs { OnOk result (HasRun W.World S.Sitting B.exact route.now now self.old self.new
+            (outside_of D.Door B.Watched door.old backend.old)
+            (outside_of D.Door B.Watched door.new backend.new)) }
+    {
+        for _ in 0..u64::MAX {
+            if self.step(alloc, route, backend, door, now)? {
+                return Ok(());
+            }
+        }
+        Err(Memory)
+    }
+
+    /// Gives up the sessions that are out for the client.
+    pub(crate) fn give_up<D: Door<W, S>>(&mut self, door: &mut D)
+        ensures { self.new ≡ left self.old }
+    {
+        self.conn.give_up(door);
+    }
+
+    /// What the legs of the client's requests counted, where none is in work.
+    pub(crate) fn totals(&self) -> &List<Total>
+        ensures { result.now ≡ self.now.conn.totals }
+    {
+        self.conn.totals()
+    }
+
+    /// The report of a client of this number, whose connection has ended.
+    pub(crate) fn into_report(self, number: u32) -> ClientReport
+        requires { IsSome self.conn.end }
+        ensures { IsReportedAs number self result }
+    {
+        let Some(end) = self.conn.end() else {
+            unreachable!()
+        };
+        ClientReport {
+            number,
+            bytes: self.written,
+            marks: self.conn.into_marks(),
+            end,
+        }
+    }
 }
 
-/// The report of a client of this number, whose connection has ended.
-fn report_of<T: Targets>(route: &Route, number: u32, bytes: &[u8], connection: Conn) -> ClientReport
-    requires whole { connection.has_ended ≡ true }
-    requires ended { IsSome connection.end }
-    requires state { IsStateOf T.World route.now bytes.now [] connection }
-    ensures { IsClientReport T.World route.now number bytes.now result }
+/// Whether a step found nothing to do.
+fn is_idle(stepped: Stepped) -> bool
+    ensures { result ≡ is_idle stepped }
 {
-    ends_answered::<T>();
-    let _ = route;
-    let _ = bytes;
-    let end = connection.end();
-    let (bytes, marks) = connection.into_parts();
-    match end {
-        Some(end) => ClientReport {
-            number,
-            bytes,
-            marks,
-            end,
-        },
-        None => unreachable!(),
-    }
+    matches!(stepped, Stepped::Idle)
 }

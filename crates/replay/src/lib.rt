@@ -1,14 +1,19 @@
-//! Replays: the octets that a script feeds to each client are answered, and a report of it is
-//! printed.
+//! Replays (this project's own): the events of a script are played over one backend and one pool, and
+//! a report of it is printed.
 #![tactic(auto)]
 
+mod classes;
 mod client;
-mod inputs;
+mod clients;
+mod closing;
+mod laws;
+mod lent;
 mod page;
+mod playing;
+mod reporting;
 mod reports;
 mod runs;
 
-pub use client::answer;
 pub use page::print;
-pub use reports::{ClientReport, Report};
-pub use runs::run;
+pub use reports::{ClassReport, ClientReport, Report};
+pub use runs::{run, run_over};

@@ -3,18 +3,19 @@
 ghost use Rattle.std.specs.Prelude.{◌≡◌, ◌∷◌, ◌++◌, IfOk, OnOk, codes};
 ghost use Rattle.std.specs.List.{flat_map};
 ghost use Rattle.std.specs.Fmt.{decimal};
-ghost use Rattle.replay.specs.Page.{page, client_lines, sums_line, requests, mark_text, marks_text, octets_text, end_text, line};
+ghost use Rattle.replay.specs.Page.{page, class_line, counts_text, client_lines, sums_line, requests, mark_text, marks_text, octets_text, end_text, line};
 
-use crate::{ClientReport, Report};
+use crate::{ClassReport, ClientReport, Report};
 use std::alloc::Global;
 use z_types::{End, List, Mark, Memory, Text};
 
-/// What is printed of a report: four lines for each client, and a line of sums.
+/// What is printed of a report: four lines for each client, a line for each class, and a line of sums.
 pub fn print(alloc: Global, report: &Report) -> Result<Text, Memory>
     ensures { IfOk result (λ text. text ≡ page report.now) }
 {
     let mut out = Text::new(alloc);
     put_clients(alloc, &mut out, &report.clients)?;
+    put_classes(alloc, &mut out, &report.classes)?;
     put_sums(alloc, &mut out, &report.clients)?;
     Ok(out)
 }
@@ -74,6 +75,46 @@ fn put_end_line(alloc: Global, out: &mut Text, end: End) -> Result<(), Memory>
     out.append(b"end ")?;
     put_end(alloc, out, end)?;
     out.append(b"\n")
+}
+
+/// The line of each class.
+fn put_classes(alloc: Global, out: &mut Text, classes: &List<ClassReport>) -> Result<(), Memory>
+    ensures { OnOk result (out.new ≡ out.old ++ flat_map class_line classes.now) }
+{
+    for class in classes.as_slice() {
+        put_class(alloc, out, class)?;
+    }
+    Ok(())
+}
+
+/// The line of one class.
+#[tactic(auto, unfolding(crate::specs::Page::class_line))]
+fn put_class(alloc: Global, out: &mut Text, class: &ClassReport) -> Result<(), Memory>
+    ensures { OnOk result (out.new ≡ out.old ++ class_line class.now) }
+{
+    out.append(b"class ")?;
+    out.append(class.name.as_slice())?;
+    put_counts(alloc, out, class)
+}
+
+/// What was counted of a class, and the end of its line.
+#[tactic(auto, unfolding(crate::specs::Page::counts_text))]
+fn put_counts(alloc: Global, out: &mut Text, class: &ClassReport) -> Result<(), Memory>
+    ensures { OnOk result (out.new ≡ out.old ++ counts_text class.now) }
+{
+    put_count(alloc, out, b" dials ", class.dials)?;
+    put_count(alloc, out, b" searches ", class.searches)?;
+    put_count(alloc, out, b" gones ", class.gones)?;
+    put_count(alloc, out, b" faults ", class.faults)?;
+    out.append(b"\n")
+}
+
+/// A word, and a number in decimal.
+fn put_count(alloc: Global, out: &mut Text, word: &[u8], number: u64) -> Result<(), Memory>
+    ensures { OnOk result (out.new ≡ out.old ++ word.now ++ decimal number) }
+{
+    out.append(word)?;
+    put_number(alloc, out, u128::from(number))
 }
 
 /// A number in decimal.

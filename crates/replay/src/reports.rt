@@ -15,9 +15,26 @@ pub struct ClientReport {
     pub end: End,
 }
 
-/// What all clients were answered.
+/// What the requests of all clients cost in a class. A number past its type's end stays at that end.
+#[derive(Drop)]
+pub struct ClassReport {
+    /// The class's name.
+    pub name: Text,
+    /// How many links were made.
+    pub dials: u64,
+    /// How many searches were sent.
+    pub searches: u64,
+    /// How often a target said that a result set is gone.
+    pub gones: u64,
+    /// How many calls failed.
+    pub faults: u64,
+}
+
+/// What all clients were answered, and what it cost.
 #[derive(Drop)]
 pub struct Report {
     /// The clients that the script names, in ascending order.
     pub clients: List<ClientReport>,
+    /// The classes of the route, in its order.
+    pub classes: List<ClassReport>,
 }

@@ -1,56 +1,91 @@
 //! A whole replay.
 
-ghost use Rattle.std.specs.Prelude.{◌<◌, ◌+◌, IfOk, OnOk};
-ghost use Rattle.std.specs.List.{AllByRecursion};
-ghost use Rattle.script.specs.Events.{HasClient, most_clients};
+ghost use Rattle.std.specs.Prelude.{ℕ, IfOk};
+ghost use Rattle.script.specs.Events.{AreEvents};
 ghost use Rattle.replay.specs.Report.{IsReportOf};
-ghost use Rattle.replay.specs.steps.Reports.{IsAnsweredBehind};
+ghost use Rattle.replay.specs.Trace.{IsRunOf, outside_of};
+ghost use Rattle.replay.specs.steps.Clients.{AreNobody};
 
-use crate::inputs::inputs_of;
-use crate::{ClientReport, Report, answer};
-use gw_outside::Targets;
+use crate::Report;
+use crate::client::Client;
+use crate::clients::{give_up_all, no_clients};
+use crate::closing::close_all;
+use crate::laws::connection_laws;
+use crate::lent::LentWire;
+use crate::playing::play;
+use crate::reporting::report;
+use gw_outside::{Backend, Events, Wire};
+use pool_index::IndexedPool;
+use pool_sets::Door;
 use route_config::Route;
-use script::Event;
+use script::{Event, MOST_CLIENTS};
 use std::alloc::Global;
-use z_types::{List, Memory, Text};
+use z_client::ZBackend;
+use z_types::{List, Memory, World};
 
-/// Plays the events of a script: each client that they name is answered what it was fed, and is ended
-/// and run behind the last event, in ascending order.
-pub fn run<T: Targets>(
+/// Plays the events of a script over the links of a wire, with a new pool.
+pub fn run<W: World, N: Wire<W> + Events>(
     alloc: Global,
     route: &Route,
-    targets: &T,
     events: &List<Event>,
+    wire: &mut N,
 ) -> Result<Report, Memory>
-    requires { AllByRecursion HasClient events.now }
-    ensures { IfOk result (IsReportOf T.World route.now events.now) }
+    requires { (targets : ℕ) × AreEvents targets events.now }
+    ensures { IfOk result (IsReportOf W.World route.now events.now) }
 {
-    let inputs = inputs_of(alloc, events.as_slice())?;
-    let mut clients = List::new(alloc);
-    for place in 0..inputs.len() {
-        answer_behind(alloc, route, targets, place, &inputs[place], &mut clients)?;
-    }
-    Ok(Report { clients })
+    let mut backend = ZBackend::new(alloc, LentWire::new(wire));
+    let mut door: IndexedPool<W, _> = IndexedPool::new(alloc, route)?;
+    run_over::<W, _, _>(alloc, route, events, &mut backend, &mut door)
 }
 
-/// Lists what the client of a place is answered to its input, where it has one, behind the others.
-fn answer_behind<T: Targets>(
+/// Plays the events of a script over one backend and one pool for all clients. The clock begins at 0.
+/// Behind the last event the input of each client that they name ends, and it is run, in ascending
+/// order. Without memory every session that is out is given up.
+pub fn run_over<W: World, B: Backend<W> + Events, D: Door<W, B::Session>>(
     alloc: Global,
     route: &Route,
-    targets: &T,
-    place: usize,
-    input: &Option<Text>,
-    clients: &mut List<ClientReport>,
-) -> Result<(), Memory>
-    requires { place < most_clients }
-    ensures { OnOk result (IsAnsweredBehind T.World route.now
-        (place + 1) input.now clients.old clients.new) }
+    events: &List<Event>,
+    backend: &mut B,
+    door: &mut D,
+) -> Result<Report, Memory>
+    requires { (targets : ℕ) × AreEvents targets events.now }
+    // Each client was answered to the octets that it was fed.
+    ensures report { IfOk result (IsReportOf W.World route.now events.now) }
+
+    // The events were played, one behind another, and the report is of what came of it.
+    ensures run { IfOk result (IsRunOf W.World B.Session.Sitting B.exact route.now events.now
+        (outside_of D.Door B.Watched door.old backend.old)
+        (outside_of D.Door B.Watched door.new backend.new)) }
 {
-    match input {
-        Some(octets) => {
-            let number = place as u32 + 1;
-            clients.push(answer(alloc, route, targets, number, octets.as_slice())?)
+    let mut clients = no_clients(alloc, MOST_CLIENTS as usize)?;
+    let slots = clients.as_mut_slice();
+    match play_all(alloc, route, events.as_slice(), backend, door, slots) {
+        Ok(report) => Ok(report),
+        Err(memory) => {
+            give_up_all(clients.as_mut_slice(), door);
+            Err(memory)
         }
-        None => Ok(()),
     }
+}
+
+/// Plays events, closes each client, and reports them.
+fn play_all<W: World, B: Backend<W> + Events, D: Door<W, B::Session>>(
+    alloc: Global,
+    route: &Route,
+    events: &[Event],
+    backend: &mut B,
+    door: &mut D,
+    clients: &mut [Option<Client<W, B::Session>>],
+) -> Result<Report, Memory>
+    requires events { (targets : ℕ) × AreEvents targets events.now }
+    requires nobody { AreNobody clients.old }
+    ensures report { IfOk result (IsReportOf W.World route.now events.now) }
+    ensures run { IfOk result (IsRunOf W.World B.Session.Sitting B.exact route.now events.now
+        (outside_of D.Door B.Watched door.old backend.old)
+        (outside_of D.Door B.Watched door.new backend.new)) }
+{
+    connection_laws::<W, B::Session>();
+    let now = play(alloc, route, events, backend, door, clients)?;
+    close_all(alloc, route, backend, door, now, clients)?;
+    report(alloc, route, clients)
 }

@@ -1,3 +1,4 @@
 pub mod LineLemmas
-pub mod ClientLemmas
+pub mod NumberLemmas
 pub mod FlagLemmas
+pub mod OrderLemmas

@@ -7,7 +7,7 @@ use Rattle.script.specs.declared.faults.ScriptFault.{ScriptFault}
 use Rattle.script.specs.declared.faults.ScriptFault.TheVariants.{Line, TooMany, Memory}
 use Rattle.script.specs.declared.line.Said.{Said}
 use Rattle.script.specs.declared.line.Said.TheVariants.{Nothing, Says, Unknown}
-use Rattle.script.specs.Events.{may_follow}
+use Rattle.script.specs.Events.{may_follow, most_events}
 use Rattle.script.specs.Lines.{said_by}
 
 -- the parts of a text between its LFs
@@ -19,11 +19,11 @@ abbrev pub lines_behind : Option (List ℕ) → List (List ℕ)
 lines_behind None = []
 lines_behind (Some text) = lines text
 
--- an event of a line behind the events before it: it may follow them, and a script has at most 1000000
+-- an event of a line behind the events before it: it may follow them, and they are not too many
 abbrev pub put_event : ℕ → List Event → Event → Result (List Event) ScriptFault
 put_event number events event =
     if may_follow events event
-    then (if nat_lt (length events) 1000000 then Ok (events ++ event ∷ []) else Err (TooMany number))
+    then (if nat_lt (length events) most_events then Ok (events ++ event ∷ []) else Err (TooMany number))
     else Err (Line number)
 
 -- the events up to a line and with it
@@ -40,15 +40,16 @@ go_on (Err fault) others = Err fault
 
 -- the events before lines and those of the lines, the first of which has this number; or the first
 -- line that is refused
-abbrev pub events_of : ℕ → List Event → List (List ℕ) → Result (List Event) ScriptFault
-events_of number events [] = Ok events
-events_of number events (line ∷ others) =
-    go_on (put_said number events (said_by line)) (λ before. events_of (number + 1) before others)
+abbrev pub events_of : (targets : List (List ℕ)) → ℕ → List Event → List (List ℕ)
+    → Result (List Event) ScriptFault
+events_of targets number events [] = Ok events
+events_of targets number events (line ∷ others) =
+    go_on (put_said number events (said_by targets line))
+    (λ before. events_of targets (number + 1) before others)
 
--- the events of a script for targets of these names, or the first line that is refused; no line
--- names a target so far
+-- the events of a script for targets of these names, or the first line that is refused
 unfoldable pub script_of : List (List ℕ) → List ℕ → Result (List Event) ScriptFault
-script_of targets text = events_of 1 [] (lines text)
+script_of targets text = events_of targets 1 [] (lines text)
 
 -- what was read is this, or no memory could be had
 abbrev pub IsAnswer : Result (List Event) ScriptFault → Result (List Event) ScriptFault → Type 0

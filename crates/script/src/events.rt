@@ -1,13 +1,12 @@
 //! The events that were read so far.
 
-ghost use Rattle.std.specs.Prelude.{◌≡◌, ◌≤◌, ◌<◌, [], ◌∷◌, ◌++◌, length, IfOk, OnOk, OnErr};
-ghost use Rattle.std.specs.List.{AllByRecursion};
-ghost use Rattle.script.specs.Events.{HasClient, most_clients, has_ended, may_follow};
-ghost use Rattle.script.specs.Lines.{SaysClient};
+ghost use Rattle.std.specs.Prelude.{◌≡◌, ◌≤◌, ◌<◌, ℕ, [], ◌∷◌, ◌++◌, length, IfOk, OnOk, OnErr};
+ghost use Rattle.script.specs.Events.{IsEvent, AreEvents, most_clients, has_ended, may_follow};
+ghost use Rattle.script.specs.Lines.{SaysEvent};
 ghost use Rattle.script.specs.Flags.{AreEnded, AreClear};
 ghost use Rattle.script.specs.Script.{put_event, put_said, IsPut};
 
-use crate::clients::MOST_CLIENTS;
+use crate::fields::MOST_CLIENTS;
 use crate::line::Said;
 use crate::{Event, ScriptFault};
 use std::alloc::Global;
@@ -45,10 +44,10 @@ impl Events {
 
     /// Puts what the line of a number says behind the others, or refuses it and changes nothing.
     pub(crate) fn put_said(&mut self, said: Said, number: u64) -> Result<(), ScriptFault>
-        requires { SaysClient said }
+        requires { (targets : ℕ) × SaysEvent targets said }
         ensures put { IsPut (put_said number self.old.list said) self.new.list result }
-        ensures clients { AllByRecursion HasClient self.old.list
-            → AllByRecursion HasClient self.new.list }
+        ensures events { OnOk result ((targets : ℕ) → SaysEvent targets said
+            → AreEvents targets self.old.list → AreEvents targets self.new.list) }
     {
         match said {
             Said::Nothing => Ok(()),
@@ -59,10 +58,10 @@ impl Events {
 
     /// Puts the event of the line of a number behind the others, or refuses it and changes nothing.
     fn put(&mut self, event: Event, number: u64) -> Result<(), ScriptFault>
-        requires { HasClient event }
+        requires { (targets : ℕ) × IsEvent targets event }
         ensures put { IsPut (put_event number self.old.list event) self.new.list result }
-        ensures clients { AllByRecursion HasClient self.old.list
-            → AllByRecursion HasClient self.new.list }
+        ensures events { OnOk result ((targets : ℕ) → IsEvent targets event
+            → AreEvents targets self.old.list → AreEvents targets self.new.list) }
     {
         if !self.may_follow(&event) {
             return Err(ScriptFault::Line(number));
@@ -76,10 +75,14 @@ impl Events {
 
     /// Whether an event may follow.
     fn may_follow(&self, event: &Event) -> bool
-        requires { HasClient event.now }
+        requires { (targets : ℕ) × IsEvent targets event.now }
         ensures { result ≡ may_follow self.now.list event.now }
     {
-        !(event.is_of_input() && self.has_ended(event.client()))
+        match event {
+            Event::Feed(client, _) => !self.has_ended(*client),
+            Event::End(client) => !self.has_ended(*client),
+            _ => true,
+        }
     }
 
     /// Whether the input of a client has ended.
@@ -92,15 +95,14 @@ impl Events {
 
     /// Puts an event behind the others; without memory nothing is changed.
     fn push(&mut self, event: Event) -> Result<(), Memory>
-        requires { HasClient event }
+        requires { (targets : ℕ) × IsEvent targets event }
         ensures ok { OnOk result (self.new.list ≡ self.old.list ++ event ∷ []) }
         ensures err { OnErr result (self.new.list ≡ self.old.list) }
     {
-        let place = event.client() as usize;
-        let ends = event.is_end();
+        let ended = event.ended_by();
         self.list.push(event)?;
-        if ends {
-            self.ended[place] = true;
+        if let Some(client) = ended {
+            self.ended[client as usize] = true;
         }
         Ok(())
     }

@@ -1,16 +1,16 @@
-//! Replay scripts (this project's own): lines of text as the events of clients.
+//! Replay scripts (this project's own): lines of text as the events of clients, of links and of time.
 #![tactic(auto)]
 
-mod clients;
 mod event;
 mod events;
 mod faults;
+mod fields;
 mod line;
 mod read;
 
-pub use clients::MOST_CLIENTS;
 pub use event::Event;
 pub use faults::ScriptFault;
+pub use fields::MOST_CLIENTS;
 pub use read::read_script;
 
 #[cfg(test)]

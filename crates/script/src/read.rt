@@ -1,8 +1,7 @@
 //! A whole script.
 
-ghost use Rattle.std.specs.Prelude.{IfOk};
-ghost use Rattle.std.specs.List.{AllByRecursion};
-ghost use Rattle.script.specs.Events.{HasClient};
+ghost use Rattle.std.specs.Prelude.{IfOk, length};
+ghost use Rattle.script.specs.Events.{AreEvents};
 ghost use Rattle.script.specs.Script.{IsScript};
 
 use crate::events::Events;
@@ -17,17 +16,17 @@ use z_types::{List, Text};
 pub fn read_script(
     alloc: Global,
     text: &[u8],
-    _targets: &List<Text>,
+    targets: &List<Text>,
 ) -> Result<List<Event>, ScriptFault>
-    ensures script { IsScript _targets.now text.now result }
-    ensures clients { IfOk result (AllByRecursion HasClient) }
+    ensures script { IsScript targets.now text.now result }
+    ensures events { IfOk result (AreEvents (length targets.now)) }
 {
     let mut events = Events::new(alloc)?;
     let mut rest = Some(text);
     let mut number = 1u64;
     while let Some(text) = rest {
         let (line, others) = first_line(text);
-        events.put_said(said_by(alloc, line)?, number)?;
+        events.put_said(said_by(alloc, targets, line)?, number)?;
         number += 1;
         rest = others;
     }

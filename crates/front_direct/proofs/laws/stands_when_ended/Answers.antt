@@ -1,5 +1,0 @@
-use Rattle.front_direct.proofs.FeedLemmas.{stands-when-ended}
-use Rattle.front_direct.proofs.laws.stands_when_ended.Goals as goal
-
-pub returns : goal.returns
-returns g c = stands-when-ended g.W.World

@@ -1,5 +1,0 @@
-pub mod States
-pub mod Steps
-pub mod Feeding
-pub mod Ahead
-pub mod Answering

@@ -1,0 +1,71 @@
+-- The command `load` (this project's own): what is printed of a load, and when each status comes
+use Rattle.std.specs.Prelude.{ℕ, Bool, true, false, List, ◌++◌, length, codes, sum_by, count_by}
+use Rattle.std.specs.Fmt.{decimal}
+use Rattle.z_types.specs.declared.marks.Mark.{Mark}
+use Rattle.z_types.specs.declared.marks.Mark.TheVariants.{Plain}
+use Rattle.z_types.specs.declared.world.World as world
+use Rattle.route_config.specs.Smallest.{smallest_route}
+use Rattle.sample_maker.specs.Load.{load_events}
+use Rattle.replay.specs.declared.reports.ClassReport.{ClassReport}
+use Rattle.replay.specs.declared.reports.ClientReport.{ClientReport}
+use Rattle.replay.specs.declared.reports.Report.{Report}
+use Rattle.replay.specs.Page.{requests}
+use Rattle.replay.specs.Report.{IsReportOf}
+use Rattle.gateway_top.specs.Lines.{Received, ReceivedNothing, FailedWithin, line_of}
+use Rattle.gateway_top.specs.Outside.{SinkWrites}
+use Rattle.gateway_top.specs.declared.status.Status.{Status}
+use Rattle.gateway_top.specs.declared.status.Status.TheVariants as status
+
+-- the mark of an answer that no target and no pool failed
+abbrev pub is_plain : Mark → Bool
+is_plain Plain = true
+is_plain other = false
+
+-- how many marks are Plain
+abbrev pub plain_requests : List ClientReport → ℕ
+plain_requests clients = sum_by (λ client. count_by is_plain client.marks) clients
+
+-- how many octets were written to clients
+abbrev pub octets_written : List ClientReport → ℕ
+octets_written clients = sum_by (λ client. length client.bytes) clients
+
+-- how many searches were sent to targets
+abbrev pub searches_sent : List ClassReport → ℕ
+searches_sent classes = sum_by (λ class. class.searches) classes
+
+-- how many links with targets were made
+abbrev pub links_made : List ClassReport → ℕ
+links_made classes = sum_by (λ class. class.dials) classes
+
+-- the line of a load of so many clients
+unfoldable pub load_line : (clients : ℕ) → Report → List ℕ
+load_line clients report =
+    line_of (
+    codes "load clients " ++ decimal clients
+    ++ codes " requests " ++ decimal (requests report.clients)
+    ++ codes " plain " ++ decimal (plain_requests report.clients)
+    ++ codes " bytes " ++ decimal (octets_written report.clients)
+    ++ codes " searches " ++ decimal (searches_sent report.classes)
+    ++ codes " dials " ++ decimal (links_made report.classes)
+    )
+
+-- the load of so many clients was played by the route of the smallest configuration, and the line of
+-- one report of it was printed, and nothing else
+pub record HasLoaded {W : Type 0} (w : world.Ghosts W) (clients : ℕ) (writes : SinkWrites) : Type 0 where
+  pub report : Report
+  pub right : IsReportOf w smallest_route (load_events clients) report
+  pub printed : Received writes (load_line clients report)
+
+-- the same, of which a front of the line was printed, and nothing else, since a write failed
+pub record HasLoadedPart {W : Type 0} (w : world.Ghosts W) (clients : ℕ) (writes : SinkWrites) : Type 0 where
+  pub report : Report
+  pub right : IsReportOf w smallest_route (load_events clients) report
+  pub printed : FailedWithin writes (load_line clients report)
+
+-- the load of so many clients was played: its line is printed, or a front of it where the sink failed,
+-- or nothing for want of memory
+abbrev pub LoadDone : {W : Type 0} → world.Ghosts W → (clients : ℕ) → SinkWrites → Status → Type 0
+LoadDone w clients writes status.Ok = HasLoaded w clients writes
+LoadDone w clients writes status.WriteFault = HasLoadedPart w clients writes
+LoadDone w clients writes status.Memory = ReceivedNothing writes
+LoadDone w clients writes other = ⊥

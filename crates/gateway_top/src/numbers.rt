@@ -1,0 +1,63 @@
+//! Numbers among the words of a command.
+
+ghost use Rattle.std.specs.Prelude.{◌≡◌, ◌≤◌, IfSome};
+ghost use Rattle.script.specs.Events.{most_amount};
+ghost use Rattle.script.specs.Lines.{are_digits, is_decimal, number_after, number_in, within};
+
+/// The number that a word writes in decimal, without leading zeros, where it lies from one to another.
+pub(crate) fn number_in(low: u32, high: u32, word: &[u8]) -> Option<u32>
+    requires { high ≤ most_amount }
+    ensures number { result ≡ number_in low high word.now }
+    ensures within { IfSome result (λ number. (low ≤ number) × (number ≤ high)) }
+{
+    if is_decimal(word) {
+        number_written(low, high, word)
+    } else {
+        None
+    }
+}
+
+/// Whether these are decimal digits, of which a leading zero stands alone.
+fn is_decimal(digits: &[u8]) -> bool
+    ensures { result ≡ is_decimal digits.now }
+{
+    match digits {
+        [] => false,
+        [b'0', rest @ ..] => rest.is_empty(),
+        _ => are_digits(digits),
+    }
+}
+
+/// Whether each octet is a decimal digit.
+#[tactic(auto, unfolding(script::specs::Lines::are_digits))]
+fn are_digits(octets: &[u8]) -> bool
+    ensures { result ≡ are_digits octets.now }
+{
+    octets.iter().all(|octet| octet.is_ascii_digit())
+}
+
+/// The number that digits write, as far as it lies from one to another.
+fn number_written(low: u32, high: u32, digits: &[u8]) -> Option<u32>
+    requires { high ≤ most_amount }
+    ensures { result ≡ within low high (number_after 0 digits.now) }
+{
+    let mut number = 0u32;
+    for digit in digits {
+        if number > high {
+            return None;
+        }
+        number = number * 10 + u32::from(digit.saturating_sub(b'0'));
+    }
+    within(low, high, number)
+}
+
+/// A number, where it lies from one to another.
+fn within(low: u32, high: u32, number: u32) -> Option<u32>
+    ensures { result ≡ within low high number }
+{
+    if low <= number && number <= high {
+        Some(number)
+    } else {
+        None
+    }
+}

@@ -1,0 +1,9 @@
+use Rattle.std.proofs.Common.{List, Option, subst, sym}
+use Rattle.replay.specs.Clients.{ClientState}
+use Rattle.replay.specs.steps.Clients.{AreNobody}
+use Rattle.replay.proofs.runs.run_over.Goals as goal
+
+pub play_all-requires-clause-nobody : goal.play_all-requires-clause-nobody
+play_all-requires-clause-nobody g c =
+    subst (λ (cs : List (Option (ClientState g.row.B-Session.Denot))). AreNobody cs) (sym c.as_mut_slice-slots.ensures.value)
+    (record { all = c.in_ok-clients.ensures.count; none = c.in_ok-clients.ensures.none })

@@ -1,0 +1,14 @@
+-- For contracts alone: the laws of connections, together (this project's own)
+use Rattle.z_types.specs.declared.sitting.Sitting as sitting
+use Rattle.z_types.specs.declared.world.World as world
+use Rattle.front_conn.specs.steps.Feeding.{EndsAnswered, StandsAtStart, StandsWhenEnded, StandsWhenFed, StandsWhenWritten, StaysOfRoute}
+
+-- where a connection stands at its start, when it is fed, when its input has ended and when its output was written; that it stays of
+-- its route; and that one that has ended was answered
+pub record Laws {W S : Type 0} (w : world.Ghosts W) (t : sitting.Ghosts S W) : Type 0 where
+  pub start : StandsAtStart w t
+  pub fed : StandsWhenFed w t
+  pub ended : StandsWhenEnded w t
+  pub written : StandsWhenWritten w t
+  pub of : StaysOfRoute w t
+  pub answered : EndsAnswered w t
