@@ -16,10 +16,14 @@ use Rattle.script.specs.Events.{fed, has_ended, is_named, most_clients, named, n
 use Rattle.replay.specs.Trace.{ArePlayed, HasRun, IsPlayed, Playing, closing, closings, moment_behind, with_no_more}
 use Rattle.replay.specs.Clients.{ClientState, client_at, client_or_new}
 use Rattle.replay.specs.steps.Clients.{AreClientsOf, AreEnded, IsClientOf, IsClosedOf}
-use Rattle.replay.specs.steps.Laws.{Laws}
+use Rattle.replay.specs.steps.Costs.{AreCosted}
+use Rattle.replay.specs.steps.Laws.{CostLaws, Laws}
+use Rattle.conn_costs.specs.steps.Laws.{IsCosted}
+use Rattle.route_config.specs.Sound.{IsSound}
 use Rattle.replay.specs.steps.Closing.{AreAllClosed, ClosesAt, IsClosedNow}
 use Rattle.replay.proofs.ClientLemmas.{client_at-behind, client_at-other, client_at-set, set_same, set_twice}
 use Rattle.replay.proofs.StepLemmas.{no_more_fed, run_closes, run_fed, run_most}
+use Rattle.replay.proofs.SumLemmas.{closing_costed, costed_on, nothing_costed, place_costed}
 use Rattle.replay.proofs.TraceLemmas.{moment-closing, moment-more, played-more}
 
 -- ---- which are named
@@ -86,6 +90,7 @@ module _ {W S : Type 0} (w : world.Ghosts W) (t : sitting.Ghosts S W) (exact : B
   pub record AreClosedUpto (last : ℕ) (old new : Playing S) : Type 0 where
     pub all : length new.clients ≡ length old.clients
     pub most : new.outside.door.counts.most ≡ old.outside.door.counts.most
+    pub costed : AreCosted exact route old new
     pub others : (other : ℕ) → last ≤ other → client_at new.clients other ≡ client_at old.clients other
     pub ended : (other : ℕ) → other < last → HasEnded (client_at new.clients other)
     pub fed : (events : List Event) → AreClientsOf w t route old.outside.door.counts.most events old.clients
@@ -114,6 +119,7 @@ module _ {W S : Type 0} (w : world.Ghosts W) (t : sitting.Ghosts S W) (exact : B
   none_closed old = record {
     all = refl;
     most = refl;
+    costed = nothing_costed exact route old;
     others = λ other behind. refl;
     ended = λ other before. absurd (omega (arith, before));
     fed = λ events are other before. absurd (omega (arith, before));
@@ -189,13 +195,33 @@ module _ {W S : Type 0} (w : world.Ghosts W) (t : sitting.Ghosts S W) (exact : B
       (subst (λ (n : ℕ). IsPlayed w t exact route (End (suc place)) n mid open_) moment ends))
       (subst (λ (n : ℕ). IsPlayed w t exact route (Run (suc place)) n open_ new) moment' runs))
 
+  -- what that costs
+  closes_costed : Laws w t → CostLaws w t → IsSound route → (place : ℕ) (mid : Playing S) (here closed : Option (ClientState S)) (behind : Outside S)
+      → place < length mid.clients → here ≡ client_at mid.clients place
+      → IfSome here (λ client. IsConnOf w t route mid.outside.door.counts.most client.conn) → ClosesAt w t exact route now here closed mid.outside behind
+      → AreCosted exact route mid (record { clients = slice_set mid.clients place closed; outside = behind })
+  closes_costed laws costs sound place mid None closed behind within is of h =
+      let stays : slice_set mid.clients place closed ≡ mid.clients =
+      ap (λ (c : Option (ClientState S)). slice_set mid.clients place c) (h.0 ∙ is) ∙ set_same mid.clients place in
+      let same : record { clients = slice_set mid.clients place closed; outside = behind } ≡ mid =
+      ap (λ (cs : List (Option (ClientState S))). record { clients = cs; outside = behind }) stays
+      ∙ ap (λ (o : Outside S). record { clients = mid.clients; outside = o }) h.1 in
+      subst (λ (p : Playing S). AreCosted exact route mid p) (sym same) (nothing_costed exact route mid)
+  closes_costed laws costs sound place mid (Some client) closed behind within is of h =
+      place_costed w t exact route laws costs sound place mid.clients closed h.0 mid.outside behind within h.1
+      (subst (λ (c : ClientState S). IsCosted exact route c.conn h.0.conn mid.outside behind) (or_new_some (client_at mid.clients place) client (sym is))
+      (closing_costed w t exact route laws costs sound now client h.0 mid.outside behind of h.2.run))
+
   -- one place more
   pub next_closed : (place : ℕ) (old mid : Playing S) (here closed : Option (ClientState S)) (behind : Outside S) → place < length mid.clients
-      → here ≡ client_at mid.clients place → Laws w t → ClosesAt w t exact route now here closed mid.outside behind → AreClosedUpto place old mid
+      → here ≡ client_at mid.clients place → Laws w t → CostLaws w t → IsSound route → IfSome here (λ client. IsConnOf w t route mid.outside.door.counts.most client.conn)
+      → ClosesAt w t exact route now here closed mid.outside behind → AreClosedUpto place old mid
       → AreClosedUpto (place + 1) old (record { clients = slice_set mid.clients place closed; outside = behind })
-  next_closed place old mid here closed behind within is laws closes h = record {
+  next_closed place old mid here closed behind within is laws costs sound of closes h = record {
     all = length-set mid.clients place closed ∙ h.all;
     most = closes_most here closed mid.outside behind closes ∙ h.most;
+    costed = costed_on exact route old mid (record { clients = slice_set mid.clients place closed; outside = behind }) h.costed
+        (closes_costed laws costs sound place mid here closed behind within is of closes);
     others = λ other after.
         client_at-other mid.clients place other closed (λ (e : other ≡ place). absurd (omega (arith, after, e))) ∙ h.others other (omega (arith, after));
     ended = λ other before.
@@ -247,6 +273,7 @@ module _ {W S : Type 0} (w : world.Ghosts W) (t : sitting.Ghosts S W) (exact : B
   all_closed last old new end all h = record {
     most = h.most;
     ended = ended_all new.clients last (end ∙ sym h.all) h.ended;
+    costed = h.costed;
     fed = λ events are. record {
       all = h.all ∙ all;
       each = λ place within. h.fed events are place (omega (arith, within, h.all, end));

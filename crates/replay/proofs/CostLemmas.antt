@@ -16,7 +16,7 @@ names_if : (b : Bool) (changed classes : List ClassReport) → names_of changed 
 names_if true changed classes e = e
 names_if false changed classes e = refl
 
-names-costs_with : (classes : List ClassReport) (total : Total) → names_of (costs_with classes total) ≡ names_of classes
+pub names-costs_with : (classes : List ClassReport) (total : Total) → names_of (costs_with classes total) ≡ names_of classes
 names-costs_with classes total =
     names_if (nat_lt total.class (length classes))
     (set classes total.class (with_total total (get_or classes total.class nameless))) classes

@@ -3,6 +3,8 @@ pub mod StepLemmas
 pub mod ClientLemmas
 pub mod PlayLemmas
 pub mod TraceLemmas
+pub mod SumLemmas
 pub mod ClosingLemmas
 pub mod CostLemmas
 pub mod ReportLemmas
+pub mod SumReports

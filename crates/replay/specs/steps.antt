@@ -3,3 +3,4 @@ pub mod Clients
 pub mod Playing
 pub mod Closing
 pub mod Laws
+pub mod Costs

@@ -8,7 +8,7 @@ ghost use Rattle.replay.specs.steps.Clients.{AreClientsOf};
 ghost use Rattle.replay.specs.steps.Closing.{AreAllClosed, ClosesAt, IsClosedNow};
 
 use crate::client::Client;
-use crate::laws::connection_laws;
+use crate::laws::{connection_laws, cost_laws};
 use front_conn::stays_of_route;
 use gw_outside::Backend;
 use pool_sets::Door;
@@ -38,6 +38,8 @@ pub(crate) fn close_all<W: World, B: Backend<W>, D: Door<W, B::Session>>(
         })) }
 {
     connection_laws::<W, B::Session>();
+    cost_laws::<W, B::Session>();
+    let _ = route.parts();
     for place in 0..clients.len() {
         close(alloc, route, backend, door, now, &mut clients[place])?;
     }

@@ -1,7 +1,10 @@
 //! What a replay stands on.
 
-ghost use Rattle.replay.specs.steps.Laws.{Laws};
+ghost use Rattle.replay.specs.steps.Laws.{CostLaws, Laws};
 
+use conn_costs::{
+    costs_nothing, costs_on, marks_are_met, starts_costless, stays_costed, steps_cost, sums_at_rest,
+};
 use front_conn::{
     ends_answered, stands_at_start, stands_when_ended, stands_when_fed, stands_when_written,
     stays_of_route,
@@ -18,4 +21,17 @@ pub(crate) fn connection_laws<W: World, S: Sitting<W>>()
     stands_when_written::<W, S>();
     stays_of_route::<W, S>();
     ends_answered::<W, S>();
+}
+
+/// The laws of what connections cost, together. It does nothing; what it ensures are the laws.
+pub(crate) fn cost_laws<W: World, S: Sitting<W>>()
+    ensures { CostLaws W.World S.Sitting }
+{
+    steps_cost::<W, S>();
+    costs_on::<W, S>();
+    costs_nothing::<W, S>();
+    stays_costed::<W, S>();
+    starts_costless::<W, S>();
+    marks_are_met::<W, S>();
+    sums_at_rest::<W, S>();
 }

@@ -6,11 +6,12 @@ ghost use Rattle.script.specs.Events.{AreEvents, seconds_of};
 ghost use Rattle.replay.specs.Trace.{ArePlayed, IsBefallen, IsPlayed, PlaysAt, PlaysFor, backend_of, moment_behind, outside_of, test_number};
 ghost use Rattle.replay.specs.Clients.{client_or_new};
 ghost use Rattle.replay.specs.steps.Clients.{AreClientsOf};
+ghost use Rattle.replay.specs.steps.Costs.{AreCosted};
 ghost use Rattle.replay.specs.steps.Playing.{CanPlay, CanTake, IsOfClient};
 
 use crate::client::Client;
 use crate::clients::name_client;
-use crate::laws::connection_laws;
+use crate::laws::{connection_laws, cost_laws};
 use gw_outside::{Backend, Events};
 use pool_sets::Door;
 use route_config::Route;
@@ -34,6 +35,15 @@ pub(crate) fn play<W: World, B: Backend<W> + Events, D: Door<W, B::Session>>(
     ensures most { (D.counts door.new).most ≡ (D.counts door.old).most }
     ensures stand { OnOk result (AreClientsOf W.World B.Session.Sitting
         route.now (D.counts door.old).most events.now clients.new) }
+    ensures costed { OnOk result (AreCosted B.exact route.now
+        (record {
+          clients = clients.old;
+          outside = outside_of D.Door B.Watched door.old backend.old;
+        })
+        (record {
+          clients = clients.new;
+          outside = outside_of D.Door B.Watched door.new backend.new;
+        })) }
     ensures played { OnOk result (ArePlayed W.World B.Session.Sitting B.exact route.now events.now 0
         (record {
           clients = clients.old;
@@ -45,6 +55,8 @@ pub(crate) fn play<W: World, B: Backend<W> + Events, D: Door<W, B::Session>>(
         })) }
 {
     connection_laws::<W, B::Session>();
+    cost_laws::<W, B::Session>();
+    let _ = route.parts();
     let mut now = 0u64;
     for event in events {
         play_event(alloc, route, event, backend, door, now, clients)?;

@@ -2,6 +2,7 @@
 
 ghost use Rattle.std.specs.Prelude.{ℕ, IfOk};
 ghost use Rattle.script.specs.Events.{AreEvents};
+ghost use Rattle.replay.specs.Counts.{AreSums, HaveCauses};
 ghost use Rattle.replay.specs.Report.{IsReportOf};
 ghost use Rattle.replay.specs.Trace.{IsRunOf, outside_of};
 ghost use Rattle.replay.specs.steps.Clients.{AreNobody};
@@ -10,7 +11,7 @@ use crate::Report;
 use crate::client::Client;
 use crate::clients::{give_up_all, no_clients};
 use crate::closing::close_all;
-use crate::laws::connection_laws;
+use crate::laws::{connection_laws, cost_laws};
 use crate::lent::LentWire;
 use crate::playing::play;
 use crate::reporting::report;
@@ -52,6 +53,14 @@ pub fn run_over<W: World, B: Backend<W> + Events, D: Door<W, B::Session>>(
     // Each client was answered to the octets that it was fed.
     ensures report { IfOk result (IsReportOf W.World route.now events.now) }
 
+    // The sums are what the backend counted, and the marks have their counted cause.
+    ensures sums { IfOk result (λ report. AreSums B.exact report
+        (outside_of D.Door B.Watched door.old backend.old)
+        (outside_of D.Door B.Watched door.new backend.new)) }
+    ensures causes { IfOk result (λ report. HaveCauses route.now.pool report
+        (outside_of D.Door B.Watched door.old backend.old)
+        (outside_of D.Door B.Watched door.new backend.new)) }
+
     // The events were played, one behind another, and the report is of what came of it.
     ensures run { IfOk result (IsRunOf W.World B.Session.Sitting B.exact route.now events.now
         (outside_of D.Door B.Watched door.old backend.old)
@@ -80,11 +89,18 @@ fn play_all<W: World, B: Backend<W> + Events, D: Door<W, B::Session>>(
     requires events { (targets : ℕ) × AreEvents targets events.now }
     requires nobody { AreNobody clients.old }
     ensures report { IfOk result (IsReportOf W.World route.now events.now) }
+    ensures sums { IfOk result (λ report. AreSums B.exact report
+        (outside_of D.Door B.Watched door.old backend.old)
+        (outside_of D.Door B.Watched door.new backend.new)) }
+    ensures causes { IfOk result (λ report. HaveCauses route.now.pool report
+        (outside_of D.Door B.Watched door.old backend.old)
+        (outside_of D.Door B.Watched door.new backend.new)) }
     ensures run { IfOk result (IsRunOf W.World B.Session.Sitting B.exact route.now events.now
         (outside_of D.Door B.Watched door.old backend.old)
         (outside_of D.Door B.Watched door.new backend.new)) }
 {
     connection_laws::<W, B::Session>();
+    cost_laws::<W, B::Session>();
     let now = play(alloc, route, events, backend, door, clients)?;
     close_all(alloc, route, backend, door, now, clients)?;
     report(alloc, route, clients)

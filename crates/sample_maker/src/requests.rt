@@ -2,7 +2,7 @@
 //! PresentRequest and Close).
 
 ghost use Rattle.std.specs.Prelude.{◌≡◌, [], ◌∷◌, IfOk};
-ghost use Rattle.sample_maker.specs.Requests.{bib1_attributes, close_request, init_request, present_request, search_request, title, titles_with, xml};
+ghost use Rattle.sample_maker.specs.Requests.{close_request, init_request, present_request, search_request, title, titles_with};
 
 use std::alloc::Global;
 use z_types::{

@@ -7,6 +7,7 @@ use Rattle.front_conn.specs.steps.Answering.{Outside}
 use Rattle.script.specs.declared.event.Event.{Event}
 use Rattle.replay.specs.Trace.{ArePlayed, HasRun, Playing, closings, with_no_more}
 use Rattle.replay.specs.Clients.{ClientState}
+use Rattle.replay.specs.steps.Costs.{AreCosted}
 use Rattle.replay.specs.steps.Clients.{AreClientsOf, AreClosedOf, AreEnded}
 
 module _ {W S : Type 0} (w : world.Ghosts W) (t : sitting.Ghosts S W) (exact : Bool) (route : Route) (now : ℕ) where
@@ -25,6 +26,7 @@ module _ {W S : Type 0} (w : world.Ghosts W) (t : sitting.Ghosts S W) (exact : B
   pub record AreAllClosed (old new : Playing S) : Type 0 where
     pub most : new.outside.door.counts.most ≡ old.outside.door.counts.most
     pub ended : AreEnded new.clients
+    pub costed : AreCosted exact route old new
     pub fed : (events : List Event) → AreClientsOf w t route old.outside.door.counts.most events old.clients
         → AreClosedOf w t route old.outside.door.counts.most events new.clients
     pub played : (events : List Event) → AreClientsOf w t route old.outside.door.counts.most events old.clients

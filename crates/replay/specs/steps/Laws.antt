@@ -1,6 +1,7 @@
--- For contracts alone: the laws of connections, together (this project's own)
+-- For contracts alone: the laws of connections, together, and of what they cost (this project's own)
 use Rattle.z_types.specs.declared.sitting.Sitting as sitting
 use Rattle.z_types.specs.declared.world.World as world
+use Rattle.conn_costs.specs.steps.Laws.{CostsNothing, CostsOn, MarksAreMet, StartsCostless, StaysSoCosted, StepsCost, SumsAtRest}
 use Rattle.front_conn.specs.steps.Feeding.{EndsAnswered, StandsAtStart, StandsWhenEnded, StandsWhenFed, StandsWhenWritten, StaysOfRoute}
 
 -- where a connection stands at its start, when it is fed, when its input has ended and when its output was written; that it stays of
@@ -12,3 +13,14 @@ pub record Laws {W S : Type 0} (w : world.Ghosts W) (t : sitting.Ghosts S W) : T
   pub written : StandsWhenWritten w t
   pub of : StaysOfRoute w t
   pub answered : EndsAnswered w t
+
+-- what steps cost: each, some and then others, and none; what comes and what is written cost nothing; what a new connection has
+-- counted; what its marks came of; and what the sums are where no request is in work
+pub record CostLaws {W S : Type 0} (w : world.Ghosts W) (t : sitting.Ghosts S W) : Type 0 where
+  pub step : StepsCost w t
+  pub on : CostsOn S
+  pub nothing : CostsNothing S
+  pub stays : StaysSoCosted S
+  pub start : StartsCostless S
+  pub marks : MarksAreMet S
+  pub rest : SumsAtRest S

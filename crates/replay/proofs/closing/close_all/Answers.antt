@@ -33,7 +33,12 @@ loop-place-preserved g c =
     (record { clients = c.args.clients.now; outside = outside_of g.D.Door g.B.Watched c.args.door.now c.args.backend.now })
     (record { clients = c.loop-place.clients; outside = outside_of g.D.Door g.B.Watched c.loop-place.door c.loop-place.backend })
     here c.close.new.place (outside_of g.D.Door g.B.Watched c.close.new.door c.close.new.backend)
-    within is c.connection_laws.ensures c.in_ok-close.ensures c.loop-place.invariant
+    within is c.connection_laws.ensures c.cost_laws.ensures c.parts.ensures.sound
+    (of_route_at g.W.World g.B.Session.Sitting g.B.Watched.exact c.args.route.now c.args.now place c.requires.0
+    (record { clients = c.args.clients.now; outside = outside_of g.D.Door g.B.Watched c.args.door.now c.args.backend.now })
+    (record { clients = c.loop-place.clients; outside = outside_of g.D.Door g.B.Watched c.loop-place.door c.loop-place.backend })
+    here within is c.requires.1 c.loop-place.invariant)
+    c.in_ok-close.ensures c.loop-place.invariant
 
 pub returns : goal.returns
 returns g c =

@@ -7,11 +7,20 @@ use Rattle.replay.specs.Trace.{ArePlayed, IsPlayed, Playing, moment_behind, outs
 use Rattle.replay.specs.steps.Clients.{AreClientsOf}
 use Rattle.replay.proofs.ClientLemmas.{event_stands}
 use Rattle.replay.proofs.EventLemmas.{event_at, follows_at, seconds_few}
+use Rattle.replay.proofs.SumLemmas.{costed_on, nothing_costed, played_costed}
 use Rattle.replay.proofs.TraceLemmas.{moment-more, played-more}
 use Rattle.replay.proofs.playing.play.Goals as goal
 
 pub loop-event-init : goal.loop-event-init
-loop-event-init g c = record { moment = refl; early = omega arith; most = refl; stand = c.requires.none; played = refl }
+loop-event-init g c = record {
+  moment = refl;
+  early = omega arith;
+  most = refl;
+  stand = c.requires.none;
+  costed = nothing_costed g.B.Watched.exact c.args.route.now
+      (record { clients = c.args.clients.now; outside = outside_of g.D.Door g.B.Watched c.args.door.now c.args.backend.now });
+  played = refl;
+}
 
 pub play_event-requires : goal.play_event-requires
 play_event-requires g c =
@@ -58,6 +67,12 @@ loop-event-preserved g c =
       stand = subst (λ (es : List Event). AreClientsOf g.W.World g.B.Session.Sitting c.args.route.now most es c.play_event.new.clients) (sym more)
           (event_stands g.W.World g.B.Session.Sitting c.args.route.now most c.connection_laws.ensures g.B.Watched.exact c.loop-event.now event
           c.requires.events.0 (take place events) mid new is_event may c.loop-event.invariant.most played c.loop-event.invariant.stand);
+      costed = costed_on g.B.Watched.exact c.args.route.now
+          start mid new c.loop-event.invariant.costed
+          (played_costed g.W.World g.B.Session.Sitting g.B.Watched.exact c.args.route.now c.connection_laws.ensures c.cost_laws.ensures c.parts.ensures.sound
+          event c.loop-event.now c.requires.events.0 (take place events) mid new is_event
+          (subst (λ (m : ℕ). AreClientsOf g.W.World g.B.Session.Sitting c.args.route.now m (take place events) c.loop-event.clients)
+          (sym c.loop-event.invariant.most) c.loop-event.invariant.stand) played);
       played = subst (λ (es : List Event). ArePlayed g.W.World g.B.Session.Sitting g.B.Watched.exact c.args.route.now es 0 start new) (sym more)
           (played-more g.W.World g.B.Session.Sitting g.B.Watched.exact c.args.route.now (take place events) event 0 start mid new c.loop-event.invariant.played
           (subst (λ (n : ℕ). IsPlayed g.W.World g.B.Session.Sitting g.B.Watched.exact c.args.route.now event n mid new) behind played));
