@@ -7,11 +7,11 @@
 # Plays a number of clients, and prints what that cost.
 loads() {
     peak=$(/usr/bin/time -f %M "$program" load "$1" 2>&1 >/dev/null)
-    last=$(median load "$1")
+    last=$(median load "$1") || exit 1
     echo "$1 clients: $last s, peak $peak KB"
     told=$("$program" load "$1")
-    wanted="load clients $1 requests $((4 * $1)) plain $((4 * $1)) bytes $((125 * $1)) searches 5 dials 1"
-    [ "$told" = "$wanted" ] || { echo "$told"; failed=1; }
+    line="load clients $1 requests $((4 * $1)) plain $((4 * $1)) bytes $((125 * $1)) searches 5 dials 1"
+    [ "$told" = "$line" ] || { echo "$told"; failed=1; }
 }
 
 loads 1000

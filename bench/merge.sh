@@ -35,8 +35,8 @@ awk -v s="$many" 'BEGIN { exit s >= 1 }' || failed=1
 { echo "feed 1 $init$search"; yes "feed 1 $present" | head -n 100; } >"$room/script"
 route 1 16 >"$room/one"
 route 16 16 >"$room/sixteen"
-one=$(median replay "$room/one" "$room/script")
-sixteen=$(median replay "$room/sixteen" "$room/script")
+one=$(median replay "$room/one" "$room/script") || exit 1
+sixteen=$(median replay "$room/sixteen" "$room/script") || exit 1
 echo "100 Presents of 1000 records: $one s over one leg, $sixteen s over 16"
 awk -v a="$one" -v b="$sixteen" 'BEGIN { printf "16 legs take %.2f times as long\n", b / a; exit b > 1.5 * a }' || failed=1
 exit "${failed:-0}"

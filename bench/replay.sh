@@ -16,14 +16,15 @@ clients() {
         for ((client = 1; client <= $1; client++)); do echo "feed $client $piece"; done
     done >"$room/clients"
     peak=$(/usr/bin/time -f %M "$program" replay "$here/examples/first.toml" "$room/clients" 2>&1 >/dev/null)
-    last=$(median replay "$here/examples/first.toml" "$room/clients")
+    last=$(median replay "$here/examples/first.toml" "$room/clients") || exit 1
     echo "$1 clients: $last s, peak $peak KB"
 }
 
 # Plays a script, and prints how fast.
 plays() {
     size=$(stat -c %s "$room/$2")
-    awk -v n="$1" -v s="$size" -v t="$(median replay "$here/examples/first.toml" "$room/$2")" 'BEGIN {
+    last=$(median replay "$here/examples/first.toml" "$room/$2") || exit 1
+    awk -v n="$1" -v s="$size" -v t="$last" 'BEGIN {
         printf "%s, played: %d octets in %s s, %.0f MB/s\n", n, s, t, s / t / 1e6 }'
 }
 

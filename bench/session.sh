@@ -34,7 +34,7 @@ search_of() {
 
 for pairs in 5000 50000; do
     { echo "feed 1 $init"; yes "feed 1 $search$present" | head -n "$pairs"; } >"$room/turns"
-    last=$(median replay "$room/route" "$room/turns")
+    last=$(median replay "$room/route" "$room/turns") || exit 1
     awk -v n=$((2 * pairs)) -v t="$last" 'BEGIN { printf "%d Searches and Presents: %s s, %.0f a second\n", n, t, n / t }'
     [ "$pairs" = 5000 ] && first=$last
 done
@@ -58,6 +58,7 @@ operands=(); for name in "${all[@]}"; do operands+=("$(set_named "$name")"); don
 { echo "feed 1 $init"; for name in "${all[@]}"; do stored "$name" "$small"; done
   for _ in 1 2 3 4 5 6 7 8 9 10; do stored 3030 "$small"; echo "feed 1 $(search_of 3030 "$(joined "${operands[@]}")")"; done; } >"$room/many"
 for what in 'plain:10 Searches of 4,095 nodes' 'one:10 Searches of one set of 4,095 nodes' 'many:10 Searches of 32 sets of 127 nodes, and 42 to make them'; do
-    echo "${what#*:}: $(median replay "$room/route" "$room/${what%%:*}") s"
+    last=$(median replay "$room/route" "$room/${what%%:*}") || exit 1
+    echo "${what#*:}: $last s"
 done
 exit "${failed:-0}"
