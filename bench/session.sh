@@ -1,7 +1,9 @@
 #!/bin/bash
 # Times one client that sends Searches and Presents in turns: 10,000 of them, and ten times as many; a Search of 4,000
 # nodes over a stored set, and one that names 32 sets of 125 nodes each, beside one of as many nodes that names none.
-# Prints medians of 5 runs, and ends with status 1 where ten times as many take more than 12 times as long.
+# Then clients of 26 Searches and 26 Presents each, over links and a pool and beside that by asking the targets at once,
+# of one query, whose set is held, and of 26 in turn, of which none is held any more. Prints medians of 5 runs, and ends
+# with status 1 where ten times as many take more than 12 times as long, or the way over links more than 4 times.
 . "$(dirname "$0")/runs.sh"
 
 init=b413830205e0840301fffe85031000008603100000
@@ -61,4 +63,16 @@ for what in 'plain:10 Searches of 4,095 nodes' 'one:10 Searches of one set of 4,
     last=$(median replay "$room/route" "$room/${what%%:*}") || exit 1
     echo "${what#*:}: $last s"
 done
+
+# Clients whose queries are of so many letters, over links and asked directly, each of 53 requests.
+ways() (
+    bench=bench_conn words="both 1 3"
+    . "$here/bench/readers.sh"
+    links=$(median_each links "$1" 400) && direct=$(median_each direct "$1" 400) || exit 1
+    awk -v n="$1" -v a="$links" -v b="$direct" 'BEGIN {
+        printf "queries of %d letters: %.0f requests a second over links, %.0f asked directly, %.2f times as long\n", n, 53e9 / a, 53e9 / b, a / b
+        exit a > 4 * b }'
+)
+ways 1 || failed=1
+ways 26 || failed=1
 exit "${failed:-0}"

@@ -1,41 +1,37 @@
 #!/bin/bash
-# Lets each allocation of the first run fail in turn: the program has to end with status 7 and to print
-# nothing. Prints how many were tried. It builds the program for each, which takes some seconds.
+# Refuses each allocation of a replay in turn, with the proved program: each run has to end with status 7 and to print nothing, or
+# to print the page of the session as ever. Prints for each session how many allocations there are, and how many runs ended so.
 here=$(cd "$(dirname "$0")/.." && pwd) || exit 1
-cd "$here/crates/gateway_program" || exit 1
+program=$here/crates/gateway_program/out/gateway_program
+[ -x "$program" ] || { echo "no proved program stands: ./gateway prove" >&2; exit 1; }
 room=$(mktemp -d) || exit 1
 trap 'rm -rf "$room"' EXIT
-jobs=$(nproc)
+"${CC:-cc}" -shared -fPIC -O2 -o "$room/refuse.so" "$here/tools/refuse_memory.c" -ldl || exit 1
 
-# Plays the first example with the allocation of this number failing.
-try() {
-    rt try --fail-alloc "$1" --data first.toml="$here/examples/first.toml" --data first.script="$here/examples/first.script" -- \
-        replay first.toml first.script >"$room/$1.out" 2>"$room/$1.log"
-    echo $? >"$room/$1.status"
+# Runs the program on a session with the allocation of a number refused, and says how it ended: 7 and nothing printed, its page, or else.
+ended() {
+    local session=$1 number=$2 status
+    REFUSE=$number LD_PRELOAD=$room/refuse.so "$program" replay "$session/route.toml" "$session/script" >"$room/$number.out" 2>/dev/null
+    status=$?
+    if [ "$status" = 7 ] && [ ! -s "$room/$number.out" ]; then
+        echo refused
+    elif [ "$status" = 0 ] && cmp -s "$room/$number.out" "$session/page"; then
+        echo whole
+    else
+        echo "allocation $number: status $status, $(wc -c <"$room/$number.out") octets printed"
+    fi
+    rm -f "$room/$number.out"
 }
+export -f ended
+export room program
 
-# Judges that run: 0 where the failure was told, 1 where nothing failed any more, 2 where it is wrong.
-judge() {
-    local status
-    status=$(cat "$room/$1.status")
-    if [ "$status" = 7 ] && [ ! -s "$room/$1.out" ]; then return 0; fi
-    if [ "$status" = 0 ] && cmp -s "$room/$1.out" "$here/examples/first.page"; then return 1; fi
-    echo "allocation $1: status $status, $(wc -c <"$room/$1.out") octets printed" >&2
-    cat "$room/$1.log" >&2
-    return 2
-}
-
-for ((first = 1; ; first += jobs)); do
-    for ((number = first; number < first + jobs; number++)); do try "$number" & done
-    wait
-    for ((number = first; number < first + jobs; number++)); do
-        judge "$number"
-        case $? in
-            1)
-                echo "$((number - 1)) allocations refused in turn: each run ended with status 7 and printed nothing"
-                exit 0
-                ;;
-            2) exit 1 ;;
-        esac
-    done
+for name in one-client-in-one-feed records-up-to-the-last three-legs-merged all-records-of-a-small-set yc-ztest-scan \
+    a-link-cut-between-requests-is-made-again a-set-that-is-gone-is-searched-for-again curl-marc-simple \
+    gets-that-are-answered-and-refused-4; do
+    session=$here/crates/gateway_sessions/data/$name
+    COUNT=$room/count LD_PRELOAD=$room/refuse.so "$program" replay "$session/route.toml" "$session/script" >/dev/null || exit 1
+    seq "$(cat "$room/count")" | xargs -P "$(nproc)" -I{} bash -c 'ended "$0" "$1"' "$session" {} >"$room/told"
+    echo "$name: $(cat "$room/count") allocations, $(grep -c '^refused$' "$room/told") refused, $(grep -c '^whole$' "$room/told") not missed"
+    grep '^allocation' "$room/told" && exit 1
 done
+exit 0

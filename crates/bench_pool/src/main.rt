@@ -1,12 +1,16 @@
 //! Takes sessions of a pool and puts them back, many times, for `bench/pool.sh` to time. Its words are
 //! what is wanted, behind `indexed-` of the pool by indexes, how many sessions are idle, and how often
-//! one is taken; it prints how often a set was reused. Each session holds ten sets.
+//! one is taken; it prints how often a set was reused. Each session holds ten sets. Or plays calls that are
+//! drawn at both pools, and at one by indexes where all keys have one digest: its words are then `alike`, how
+//! many sessions a class may have, and how many calls there are; it prints how many are answered alike.
 #![tactic(auto)]
 
+mod alike;
 mod sessions;
 
 ghost use Rattle.z_types.specs.Members.{AreMembers};
 
+use alike::{Alike, play_alike};
 use anyhow::{Context, Result, bail};
 use pool_core::Pool;
 use pool_index::IndexedPool;
@@ -185,20 +189,49 @@ fn reuses_of(
     }
 }
 
-/// Does what the words after the program's name say.
-fn run<R: Env + Print + AllocGlobal>(rt: &R) -> Result<()> {
-    let mut words = env::args(rt)?.skip(1);
-    let (Some(name), Some(idle), Some(times)) = (words.next(), words.next(), words.next()) else {
-        bail!("usage: bench_pool [indexed-](any|first|last|other) SESSIONS TIMES");
-    };
-    let (kind, want) = named(name.as_str()).context("no such want")?;
-    let idle = idle.as_str().parse::<u32>()?;
-    let times = times.as_str().parse::<u32>()?;
+/// Takes sessions, and says how often a set was reused.
+fn take_sessions<R: Print + AllocGlobal>(rt: &R, name: &str, idle: u32, times: u32) -> Result<()> {
+    let (kind, want) = named(name).context("no such want")?;
     let Ok(reused) = reuses_of(rt.alloc(), kind, want, idle, times) else {
         bail!("no memory could be had");
     };
     rt.println(format_args!("{reused} of {times} reused"))?;
     Ok(())
+}
+
+/// Plays calls at all pools, and says how they were answered.
+fn compare<R: Print + AllocGlobal>(rt: &R, most: u32, calls: u32) -> Result<()> {
+    let Ok(
+        Alike {
+            alike,
+            reused,
+            idle,
+            dialled,
+            full,
+        },
+    ) = play_alike(rt.alloc(), most, calls)
+    else {
+        bail!("no memory could be had");
+    };
+    rt.println(format_args!(
+        "{alike} of {calls} alike: {reused} reused, {idle} idle, {dialled} dialled, {full} full"
+    ))?;
+    Ok(())
+}
+
+/// Does what the words after the program's name say.
+fn run<R: Env + Print + AllocGlobal>(rt: &R) -> Result<()> {
+    let mut words = env::args(rt)?.skip(1);
+    let (Some(name), Some(sessions), Some(times)) = (words.next(), words.next(), words.next())
+    else {
+        bail!("usage: bench_pool [indexed-](any|first|last|other)|alike SESSIONS TIMES");
+    };
+    let sessions = sessions.as_str().parse::<u32>()?;
+    let times = times.as_str().parse::<u32>()?;
+    if name.as_str() == "alike" {
+        return compare(rt, sessions, times);
+    }
+    take_sessions(rt, name.as_str(), sessions, times)
 }
 
 fn main(rt: HostRuntime) -> Result<()> {

@@ -1,6 +1,6 @@
 //! Sessions that rest, each with ten sets of one query, at targets of which nothing is told.
 
-ghost use Rattle.std.specs.Prelude.{◌≡◌, Some, IfOk, OnOk, [], ◌∷◌, refl, decimal};
+ghost use Rattle.std.specs.Prelude.{◌≡◌, ◌<◌, Some, IfOk, OnOk, [], ◌∷◌, refl, decimal};
 ghost use Rattle.z_types.specs.Pending.{resting};
 ghost use Rattle.z_types.specs.declared.address.Address.TheVariants.{Test};
 ghost use Rattle.bench_pool.specs.Still.{no_hits, no_record, no_scan, key_in};
@@ -81,8 +81,8 @@ pub fn key_of(alloc: Global, number: u32, slot: u32) -> Result<SetKey, Memory>
     key_under(alloc, slot, &query)
 }
 
-/// Makes room for a set of the session's query and records it, unless one stands for its key.
-fn add(alloc: Global, parts: &mut Parts<Still>) -> Result<(), Memory>
+/// Makes room for a set of the session's query and records it at a moment, unless one stands for its key.
+pub fn add(alloc: Global, parts: &mut Parts<Still>, now: u64) -> Result<(), Memory>
     requires kept { TableKept ⟦<Quiet as World>⟧ ⟦<Still as Sitting<Quiet>>⟧ parts.old }
     ensures kept { OnOk result (TableKept ⟦<Quiet as World>⟧
         ⟦<Still as Sitting<Quiet>>⟧ parts.new) }
@@ -92,7 +92,7 @@ fn add(alloc: Global, parts: &mut Parts<Still>) -> Result<(), Memory>
     if parts.table.holds(&key).is_some() {
         return Ok(());
     }
-    parts.table.record_(slot, key, 3, 0)
+    parts.table.record_(slot, key, 3, now)
 }
 
 /// Adds as many sets as a session holds.
@@ -102,21 +102,29 @@ fn fill(alloc: Global, parts: &mut Parts<Still>) -> Result<(), Memory>
         ⟦<Still as Sitting<Quiet>>⟧ parts.new) }
 {
     for _ in 0..SETS {
-        add(alloc, parts)?;
+        add(alloc, parts, 0)?;
     }
     Ok(())
+}
+
+/// A session of the number's query, which holds no set, and at most so many.
+pub fn new_session(alloc: Global, number: u32, most: u32) -> Result<Pooled<Quiet, Still>, Memory>
+    requires { 0 < most }
+    ensures { IfOk result (λ pooled. pooled.address ≡ Test 0) }
+{
+    let query = query_for(alloc, number)?;
+    Ok(Pooled::join(Parts {
+        session: Still { query },
+        table: SetTable::new(alloc, most)?,
+        address: Address::Test(0),
+    }))
 }
 
 /// A session with sets of the number's query.
 pub fn session_holding(alloc: Global, number: u32) -> Result<Pooled<Quiet, Still>, Memory>
     ensures { IfOk result (λ pooled. pooled.address ≡ Test 0) }
 {
-    let query = query_for(alloc, number)?;
-    let mut parts = Parts {
-        session: Still { query },
-        table: SetTable::new(alloc, SETS)?,
-        address: Address::Test(0),
-    };
+    let mut parts = new_session(alloc, number, SETS)?.apart();
     fill(alloc, &mut parts)?;
     Ok(Pooled::join(parts))
 }

@@ -1,5 +1,5 @@
 -- One step of a connection: what it counts, and what its marks come of
-use Rattle.std.proofs.Common.{◌≡◌, ◌∙◌, ◌⊎◌, ℕ, ◌+◌, ◌*◌, ◌<◌, ◌≤◌, Bool, true, false, inl, inr, List, [], ◌∷◌, ◌++◌, All, length, map, get_or, slice_get, Option, None, Some, refl, sym, ap, subst, arith}
+use Rattle.std.proofs.Common.{◌≡◌, ◌∙◌, ◌⊎◌, ℕ, ◌+◌, ◌*◌, ◌<◌, ◌≤◌, Bool, true, false, inl, inr, List, [], ◌∷◌, ◌++◌, All, length, map, get_or, slice_get, Option, None, Some, Result, refl, sym, ap, subst, arith}
 use Rattle.std.specs.Prelude.{IfSome, option_to_list}
 use Rattle.std.specs.List.{sum_by}
 use Rattle.std.specs.Option.{option_map_or}
@@ -43,9 +43,9 @@ use Rattle.package.specs.steps.Turns.{is_memory}
 use Rattle.front_conn.specs.declared.stepped.Stepped.{Stepped}
 use Rattle.front_conn.specs.declared.stepped.Stepped.TheVariants.{Idle, NotYet, Went, Memory}
 use Rattle.front_conn.specs.declared.totals.Total.{Total}
-use Rattle.front_conn.specs.steps.Answering.{AnsweringState, AreMade, EndsWork, IsAnsweredIf, IsKeptBehind, Outside, TurnsWork, WorksOn, legs_in}
+use Rattle.front_conn.specs.steps.Answering.{AnsweringState, AreMade, IsKeptBehind, IsKeptBehindHead, Outside, TurnsWork, WorksOn, legs_in}
 use Rattle.front_conn.specs.steps.States.{ConnectionState, IsConnOf}
-use Rattle.front_conn.specs.steps.Steps.{EndsByRest, GoesAhead, StepsFrom, TakesUnit, UnlessMemory, answering_of}
+use Rattle.front_conn.specs.steps.Steps.{EndsByRest, GoesAhead, StepsFrom, TakesHead, TakesUnit, UnlessMemory, answering_of}
 use Rattle.front_conn.specs.steps.Totals.{totals_after, totals_for}
 use Rattle.conn_costs.specs.steps.Conns.{AreTotalsOf, HasTotals, counted_on, in_total, marks_of, met_on, outside_counts, outside_meets}
 use Rattle.conn_costs.specs.steps.Growth.{RisesAsMuch, RisesEnough}
@@ -53,7 +53,14 @@ use Rattle.conn_costs.specs.steps.Laws.{CountsAsMuch, MeetsEnough}
 use Rattle.conn_costs.specs.steps.Numbers.{Caused, IsTold, Number, dials, faults, gones, in_account, in_counts, met_by, met_outside, searches, link, silent, gone, full, weight}
 use Rattle.conn_costs.proofs.CauseLemmas.{as_one, mark-met, plain-none, said-so}
 use Rattle.conn_costs.proofs.GrowthLemmas.{as-both, as-nothing, as-same, enough-both, enough-less, enough-nothing}
+use Rattle.conn_costs.proofs.OverLemmas.{IsLeft, IsLeftBy, IsPlainAtMost, head-plain, over-left}
 use Rattle.conn_costs.proofs.PackageLemmas.{package-turned}
+use Rattle.sru_request.specs.declared.faults.HeadFault.{HeadFault}
+use Rattle.sru_request.specs.declared.head.Get.{Get}
+use Rattle.front_sru.specs.Gets as sru
+use Rattle.front_sru.specs.declared.begun.Begun as sru_begun
+use Rattle.front_sru.specs.declared.begun.Begun.TheVariants as get
+use Rattle.front_http.specs.Heads.{IsHeadBegun}
 use Rattle.conn_costs.proofs.TotalLemmas.{after-sum, all-classes, made-sum}
 use Rattle.conn_costs.proofs.TurnLemmas.{turn-as-much, turn-enough}
 
@@ -133,6 +140,10 @@ some-plain kind m e = ap (λ (x : Option Mark). marks_of kind (option_to_list x)
 
 none-none : (kind : Caused) (m : Option Mark) → m ≡ None → marks_of kind (option_to_list m) ≡ 0
 none-none kind m e = ap (λ (x : Option Mark). marks_of kind (option_to_list x)) e
+
+at-most-plain : (kind : Caused) (m : Option Mark) → IsPlainAtMost m → marks_of kind (option_to_list m) ≡ 0
+at-most-plain kind m (inl none) = none-none kind m none
+at-most-plain kind m (inr some) = some-plain kind m some
 
 met-plain : (kind : Caused) (meeting : Meeting) (route : Route) (at_ : ℕ) (read : Option Request) (old new : Served) (m : Option Mark)
     (end : Option End) → IsMetBegun meeting route at_ read old new (begun.Write m end) → marks_of kind (option_to_list m) ≡ 0
@@ -230,17 +241,41 @@ module _ {S : Type 0} (route : Route) (old new : ConnectionState S) (rests : old
       ∙ sym (rest-meets k)
   new-meets k at_ unit before behind begun.Memory b h = absurd h
 
+  head-counts : (n : Number) (answer : sru_begun.Begun) → IsKeptBehindHead route (answering_of old) (answering_of new) new.end answer
+      → counted_on n new ≡ counted_on n old
+  head-counts n (get.Write m end) h = made-counts n None h.3 h.2 refl
+  head-counts n (get.Work job) h = made-counts n (Some (new_package route job)) h.3 h.2 (new-zero _ (unturned-counts S n) route job)
+  head-counts n get.Memory h = absurd h
+
+  head-meets : (k : Caused) (head : Result Get HeadFault) (before behind : sru.Served) (answer : sru_begun.Begun)
+      → IsHeadBegun route head before behind answer
+      → IsKeptBehindHead route (answering_of old) (answering_of new) new.end answer → met_on route.pool k new ≡ met_on route.pool k old
+  head-meets k head before behind (get.Write m end) b h =
+      met-is route k new (old.marks ++ option_to_list m) None h.1 h.2
+      ∙ ap (λ (x : ℕ). weight route.pool k * x + 0)
+      (sum_by-append (as_one k) old.marks (option_to_list m)
+      ∙ ap (λ (x : ℕ). marks_of k old.marks + x) (at-most-plain k m (head-plain route head before behind m end b)) ∙ omega arith)
+      ∙ sym (rest-meets k)
+  head-meets k head before behind (get.Work job) b h =
+      met-is route k new old.marks (Some (new_package route job)) h.1 h.2
+      ∙ ap (λ (x : ℕ). weight route.pool k * marks_of k old.marks + x) (new-zero _ (unturned-meets S k) route job)
+      ∙ sym (rest-meets k)
+  head-meets k head before behind get.Memory b h = absurd h
+
   lost-counts : (n : Number) → new.in_work ≡ None → AreMade route old.totals new.totals → counted_on n new ≡ counted_on n old
   lost-counts n f (inl same) = still-counts n same f
   lost-counts n f (inr made) = made-counts n None made f refl
 
-  went-counts : (n : Number) → TakesUnit route old new ⊎ EndsByRest old new → counted_on n new ≡ counted_on n old
+  went-counts : (n : Number) → TakesUnit route old new ⊎ TakesHead route old new ⊎ EndsByRest old new → counted_on n new ≡ counted_on n old
   went-counts n (inl h) = new-counts n h.begun.answer h.begun.kept
-  went-counts n (inr h) = still-counts n h.totals (h.in_work ∙ rests)
+  went-counts n (inr (inl h)) = head-counts n h.taken.answer h.taken.kept
+  went-counts n (inr (inr h)) = still-counts n h.totals (h.in_work ∙ rests)
 
-  went-meets : (k : Caused) → TakesUnit route old new ⊎ EndsByRest old new → met_on route.pool k new ≡ met_on route.pool k old
+  went-meets : (k : Caused) → TakesUnit route old new ⊎ TakesHead route old new ⊎ EndsByRest old new
+      → met_on route.pool k new ≡ met_on route.pool k old
   went-meets k (inl h) = new-meets k _ _ _ _ h.begun.answer h.begun.begun h.begun.kept
-  went-meets k (inr h) = still-meets k h.marks (h.in_work ∙ rests)
+  went-meets k (inr (inl h)) = head-meets k h.head _ _ h.taken.answer h.taken.begun h.taken.kept
+  went-meets k (inr (inr h)) = still-meets k h.marks (h.in_work ∙ rests)
 
   pub ahead-counts : (n : Number) (answer : Stepped) → GoesAhead route old new answer → counted_on n new ≡ counted_on n old
   ahead-counts n Idle h = ap (counted_on n) h.1
@@ -272,7 +307,7 @@ one-marked p q n l e few = omega (arith, e, few)
 module _ {W S : Type 0} (w : world.Ghosts W) (t : sitting.Ghosts S W) (exact : Bool) (route : Route) (now : ℕ)
     (old new : ConnectionState S) (answer : Stepped) (before behind : Outside S) (view : PackageView S)
     (works_on : old.in_work ≡ Some view) (of : IsPackageOf w t route before.door.counts.most view)
-    (h : TurnsWork w t exact route now view (answering_of old) (answering_of new) answer before behind) where
+    (h : TurnsWork w t exact route now view (answering_of old) (answering_of new) answer new.end before behind) where
   abbrev next_legs : List (LegView S)
   next_legs = h.next.first ++ h.next.later
 
@@ -314,25 +349,34 @@ module _ {W S : Type 0} (w : world.Ghosts W) (t : sitting.Ghosts S W) (exact : B
         (counted-is n new old.totals (Some h.next) (ap (λ (a : AnsweringState S). a.totals) same) (ap (λ (a : AnsweringState S). a.in_work) same))
         (all-counted has)
 
-    ends-same : IsSound route → length old.totals ≡ length route.classes → EndsWork route h.next (answering_of old) (answering_of new) answer
+    left-counts : (ended : Option End) → new.totals ≡ totals_after old.totals (all_accounts h.next)
+        → IsLeftBy route h.next (answering_of old) (answering_of new) ended
+        → counted_on n new ≡ sum_by (in_total n) (totals_after old.totals (all_accounts h.next)) + 0
+    left-counts ended totals (inl left) = counted-is n new (totals_after old.totals (all_accounts h.next)) None totals left.0
+    left-counts ended totals (inr left) =
+        counted-is n new (totals_after old.totals (all_accounts h.next)) (Some (new_package route left.0)) totals left.1
+        ∙ ap (λ (x : ℕ). sum_by (in_total n) (totals_after old.totals (all_accounts h.next)) + x)
+        (new-zero _ (unturned-counts S n) route left.0)
+
+    ends-same : IsSound route → length old.totals ≡ length route.classes → (ended : Option End)
+        → IsLeft route h.next (answering_of old) (answering_of new) ended
         → (others : ℕ) → within64 (others + counted_on n new) ≡ within64 (others + (sum_by (in_total n) old.totals + sum_by counts next_legs))
-    ends-same sound all ends others =
-        ap (λ (x : ℕ). within64 (others + x))
-        (counted-is n new (totals_after old.totals (all_accounts h.next)) None ends.totals ends.in_work ∙ omega arith)
+    ends-same sound all ended is others =
+        ap (λ (x : ℕ). within64 (others + x)) (left-counts ended is.totals is.left ∙ omega arith)
         ∙ after-sum n old.totals next_legs others
         (legs-inside w t route behind.door.counts.most next_legs (length old.totals) all sound
-        (All-append (λ (leg : LegView S). HasFitting leg.task (answered leg.phase)) h.next.first h.next.later ends.over.first ends.over.later)
+        (All-append (λ (leg : LegView S). HasFitting leg.task (answered leg.phase)) h.next.first h.next.later is.over.first is.over.later)
         legs-of)
 
     works-count : (turned_ : Turned) → h.turned ≡ turned_ → IsSound route → length old.totals ≡ length route.classes
-        → (answer ≡ Memory → ⊥) → WorksOn route turned_ h.next (answering_of old) (answering_of new) answer
+        → (answer ≡ Memory → ⊥) → WorksOn route turned_ h.next (answering_of old) (answering_of new) answer new.end
         → RisesAsMuch (counted_on n old) (counted_on n new) (outside_counts n before) (outside_counts n behind)
     works-count turned.Went e sound all has on = on-counts (ap is_memory e) on.1
     works-count turned.NotYet e sound all has on = on-counts (ap is_memory e) on.1
     works-count turned.Memory e sound all has on = absurd (has on.0)
     works-count turned.Done e sound all has on =
         as-same (counted_on n old) (sum_by (in_total n) old.totals + sum_by counts next_legs) (counted_on n new) (outside_counts n before)
-        (outside_counts n behind) (ends-same sound all on) (all-counted (ap is_memory e))
+        (outside_counts n behind) (ends-same sound all _ (over-left route h.next (answering_of old) (answering_of new) answer new.end on)) (all-counted (ap is_memory e))
 
   pub turn-counts : IsSound route → length old.totals ≡ length route.classes → CountsAsMuch exact old new answer before behind
   turn-counts sound all = not-memory answer _ (λ has n is. works-count n is h.turned refl sound all has h.works)
@@ -382,28 +426,34 @@ module _ {W S : Type 0} (w : world.Ghosts W) (t : sitting.Ghosts S W) (exact : B
         (filter_map-append answer_of h.next.first h.next.later)
         (mark-met w t route behind.door.counts.most k next_legs legs-of)
 
-    ends-met : (said : Stepped) → new.in_work ≡ None → IsAnsweredIf route said h.next (answering_of old) (answering_of new)
+    no-more : met_on route.pool k new ≡ listed + 0 → met_on route.pool k new ≤ listed + sum_by meets next_legs
+    no-more is = subst (λ (x : ℕ). x ≤ listed + sum_by meets next_legs) (sym is) (omega arith)
+
+    rests-met : new.in_work ≡ None → (new.marks ≡ old.marks) ⊎ (new.marks ≡ old.marks ++ (cause_in route h.next).mark ∷ [])
         → met_on route.pool k new ≤ listed + sum_by meets next_legs
-    ends-met Idle none ends = absurd ends
-    ends-met NotYet none ends = absurd ends
-    ends-met Went none ends =
+    rests-met none (inl same) = no-more (met-is route k new old.marks None same none)
+    rests-met none (inr more) =
         let m : Mark = (cause_in route h.next).mark in
-        let is = met-is route k new (old.marks ++ m ∷ []) None ends.marks none in
+        let is = met-is route k new (old.marks ++ m ∷ []) None more none in
         subst (λ (x : ℕ). x ≤ listed + sum_by meets next_legs) (sym is)
         (one-marked listed (weight route.pool k * as_one k m) (weight route.pool k * marks_of k (old.marks ++ m ∷ [])) (sum_by meets next_legs)
         (ap (λ (x : ℕ). weight route.pool k * x) (sum_by-append (as_one k) old.marks (m ∷ [])
         ∙ ap (λ (x : ℕ). marks_of k old.marks + x) (single-one k m))
         ∙ mul-add (weight route.pool k) (marks_of k old.marks) (as_one k m)) mark-few)
-    ends-met Memory none ends =
-        let is = met-is route k new old.marks None ends.marks none in
-        subst (λ (x : ℕ). x ≤ listed + sum_by meets next_legs) (sym is) (omega arith)
 
-    works-meet : (turned_ : Turned) → WorksOn route turned_ h.next (answering_of old) (answering_of new) answer
+    ends-met : (ended : Option End) → IsLeftBy route h.next (answering_of old) (answering_of new) ended
+        → met_on route.pool k new ≤ listed + sum_by meets next_legs
+    ends-met ended (inl left) = rests-met left.0 left.1
+    ends-met ended (inr left) =
+        no-more (met-is route k new old.marks (Some (new_package route left.0)) left.2 left.1
+        ∙ ap (λ (x : ℕ). listed + x) (new-zero _ (unturned-meets S k) route left.0))
+
+    works-meet : (turned_ : Turned) → WorksOn route turned_ h.next (answering_of old) (answering_of new) answer new.end
         → met_on route.pool k new ≤ listed + sum_by meets next_legs
     works-meet turned.Went on = on-meets on.1
     works-meet turned.NotYet on = on-meets on.1
     works-meet turned.Memory on = on-meets on.1
-    works-meet turned.Done on = ends-met answer on.in_work on.answered
+    works-meet turned.Done on = ends-met _ (over-left route h.next (answering_of old) (answering_of new) answer new.end on).left
 
   pub turn-meets : MeetsEnough route.pool old new before behind
   turn-meets k = to-met k (works-meet k h.turned h.works)

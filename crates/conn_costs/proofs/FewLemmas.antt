@@ -1,5 +1,5 @@
 -- At most as many addresses are due as a request has legs
-use Rattle.std.proofs.Common.{◌≡◌, ◌∙◌, ℕ, ◌+◌, ◌≤◌, Bool, true, false, not, cond, List, [], ◌∷◌, ◌++◌, length, map, Option, None, Some, Result, Ok, Err, sym, ap, subst, arith}
+use Rattle.std.proofs.Common.{◌≡◌, ◌∙◌, ℕ, ◌+◌, ◌≤◌, Bool, true, false, not, cond, inl, inr, List, [], ◌∷◌, ◌++◌, length, map, Option, None, Some, Result, Ok, Err, sym, ap, subst, arith}
 use Rattle.std.specs.List.{range_with_len}
 use Rattle.std.proofs.lemmas.List.{length-map}
 use Rattle.std.proofs.lemmas.List.Concat.{length-flat_map}
@@ -33,7 +33,8 @@ use Rattle.front_conn.specs.steps.States.{ConnectionState}
 use Rattle.front_conn.specs.steps.Steps.{StepsFrom, answering_of}
 use Rattle.conn_costs.specs.steps.Conns.{dues_on}
 use Rattle.conn_costs.specs.steps.Ledgers.{Dues, dues_in, dues_of}
-use Rattle.conn_costs.proofs.PaidLemmas.{ahead-dues, dues-none, one-unused, over-unused}
+use Rattle.conn_costs.proofs.OverLemmas.{IsLeftBy, over-left}
+use Rattle.conn_costs.proofs.PaidLemmas.{ahead-dues, dues-new, dues-none, one-unused, over-unused}
 
 -- ---- what a work asks
 
@@ -142,12 +143,18 @@ module _ {W S : Type 0} (w : world.Ghosts W) (t : sitting.Ghosts S W) (exact : B
   none-few : dues_on new ≡ record { searches = 0; unused = 0 } → (dues_on new).unused ≤ most_legs
   none-few e = let none = ap (λ (d : Dues). d.unused) e in omega (arith, none)
 
+  left-none : (next : PackageView S) (ended : Option End) → IsLeftBy route next (answering_of old) (answering_of new) ended
+      → dues_on new ≡ record { searches = 0; unused = 0 }
+  left-none next ended (inl left) = dues-none new left.0
+  left-none next ended (inr left) = dues-new new route left.0 left.1
+
   works-few : (turned_ : Turned) (most : ℕ) (next : PackageView S) → IsPackageOf w t route most next
-      → WorksOn route turned_ next (answering_of old) (answering_of new) answer → (dues_on new).unused ≤ most_legs
+      → WorksOn route turned_ next (answering_of old) (answering_of new) answer new.end → (dues_on new).unused ≤ most_legs
   works-few turned.Went most next of on = next-few most next of (ap (λ (a : AnsweringState S). a.in_work) on.1)
   works-few turned.NotYet most next of on = next-few most next of (ap (λ (a : AnsweringState S). a.in_work) on.1)
   works-few turned.Memory most next of on = next-few most next of (ap (λ (a : AnsweringState S). a.in_work) on.1)
-  works-few turned.Done most next of on = none-few (dues-none new on.in_work)
+  works-few turned.Done most next of on =
+      none-few (left-none next _ (over-left route next (answering_of old) (answering_of new) answer new.end on).left)
 
   pub step-few : (end : Option End) (in_work : Option (PackageView S)) → end ≡ None → old.in_work ≡ in_work
       → StepsFrom w t exact route now end in_work old new answer before behind → (dues_on new).unused ≤ most_legs

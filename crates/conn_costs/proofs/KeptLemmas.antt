@@ -17,14 +17,17 @@ use Rattle.package.specs.steps.Packages.{PackageView, all_accounts}
 use Rattle.front_conn.specs.declared.stepped.Stepped.{Stepped}
 use Rattle.front_conn.specs.declared.stepped.Stepped.TheVariants.{Idle, NotYet, Went, Memory}
 use Rattle.front_conn.specs.declared.totals.Total.{Total}
-use Rattle.front_conn.specs.steps.Answering.{AnsweringState, AreMade, IsKeptBehind, Outside, WorksOn, totals_of_all}
+use Rattle.front_conn.specs.steps.Answering.{AnsweringState, AreMade, IsKeptBehind, IsKeptBehindHead, Outside, WorksOn, totals_of_all}
 use Rattle.front_conn.specs.steps.Feeding.{without_work}
 use Rattle.front_conn.specs.steps.States.{ConnectionState, nothing_yet}
-use Rattle.front_conn.specs.steps.Steps.{EndsByRest, GoesAhead, StepsFrom, TakesUnit, answering_of, end_of}
+use Rattle.front_conn.specs.steps.Steps.{EndsByRest, GoesAhead, StepsFrom, TakesHead, TakesUnit, answering_of}
 use Rattle.front_conn.specs.steps.Totals.{totals_for}
 use Rattle.conn_costs.specs.steps.Conns.{AreTotalsOf, HasTotals, RestsIfEnded, counted_on, in_total, marks_of, met_on}
 use Rattle.conn_costs.specs.steps.Laws.{IsCostless, IsSummed}
 use Rattle.conn_costs.specs.steps.Numbers.{Caused, Number, weight}
+use Rattle.front_sru.specs.declared.begun.Begun as sru_begun
+use Rattle.front_sru.specs.declared.begun.Begun.TheVariants as get
+use Rattle.conn_costs.proofs.OverLemmas.{IsLeftBy, went-left}
 use Rattle.conn_costs.proofs.TotalLemmas.{after-classes, classes_of, made-classes, none-made}
 
 -- ---- sums that are kept
@@ -59,9 +62,15 @@ module _ {S : Type 0} (route : Route) where
     lost-has none (inl same) = has-rest new old.totals same none has.made
     lost-has none (inr made) = made-all made
 
-    went-has : old.in_work ≡ None → TakesUnit route old new ⊎ EndsByRest old new → HasTotals route new
+    head-has : (answer : sru_begun.Begun) → IsKeptBehindHead route (answering_of old) (answering_of new) new.end answer → HasTotals route new
+    head-has (get.Write m end) h = made-all h.3
+    head-has (get.Work job) h = made-all h.3
+    head-has get.Memory h = absurd h
+
+    went-has : old.in_work ≡ None → TakesUnit route old new ⊎ TakesHead route old new ⊎ EndsByRest old new → HasTotals route new
     went-has rests (inl h) = begun-has h.begun.answer h.begun.kept
-    went-has rests (inr h) = has-rest new old.totals h.totals (h.in_work ∙ rests) has.made
+    went-has rests (inr (inl h)) = head-has h.taken.answer h.taken.kept
+    went-has rests (inr (inr h)) = has-rest new old.totals h.totals (h.in_work ∙ rests) has.made
 
     ahead-has : (answer : Stepped) → old.in_work ≡ None → GoesAhead route old new answer → HasTotals route new
     ahead-has Idle rests h = subst (λ (s : ConnectionState S). HasTotals route s) (sym h.1) has
@@ -74,12 +83,12 @@ module _ {S : Type 0} (route : Route) where
     on-has next all same = has-all new (ap (λ (a : AnsweringState S). classes_of a.totals) same ∙ all)
 
     works-has : (turned_ : Turned) (next : PackageView S) (answer : Stepped) → AreTotalsOf route old.totals
-        → WorksOn route turned_ next (answering_of old) (answering_of new) answer → HasTotals route new
+        → WorksOn route turned_ next (answering_of old) (answering_of new) answer new.end → HasTotals route new
     works-has turned.Went next answer all h = on-has next all h.1
     works-has turned.NotYet next answer all h = on-has next all h.1
     works-has turned.Memory next answer all h = on-has next all h.1
     works-has turned.Done next answer all h =
-        has-all new (ap classes_of h.totals ∙ after-classes old.totals (all_accounts next) ∙ all)
+        has-all new (ap classes_of h.ends.totals ∙ after-classes old.totals (all_accounts next) ∙ all)
 
   pub step-has : {W : Type 0} (w : world.Ghosts W) (t : sitting.Ghosts S W) (exact : Bool) (now : ℕ) (old new : ConnectionState S)
       (answer : Stepped) (before behind : Outside S) (end : Option End) (in_work : Option (PackageView S)) → old.end ≡ end
@@ -104,9 +113,15 @@ module _ {S : Type 0} (route : Route) (old new : ConnectionState S) where
   begun-rests (begun.Work job) h = λ ended. absurd (ended-none new.end h.0 ended)
   begun-rests begun.Memory h = absurd h
 
-  went-rests : old.in_work ≡ None → TakesUnit route old new ⊎ EndsByRest old new → RestsIfEnded new
+  head-rests : (answer : sru_begun.Begun) → IsKeptBehindHead route (answering_of old) (answering_of new) new.end answer → RestsIfEnded new
+  head-rests (get.Write m end) h = λ ended. h.2
+  head-rests (get.Work job) h = λ ended. absurd (ended-none new.end h.0 ended)
+  head-rests get.Memory h = absurd h
+
+  went-rests : old.in_work ≡ None → TakesUnit route old new ⊎ TakesHead route old new ⊎ EndsByRest old new → RestsIfEnded new
   went-rests rests (inl h) = begun-rests h.begun.answer h.begun.kept
-  went-rests rests (inr h) = λ ended. h.in_work ∙ rests
+  went-rests rests (inr (inl h)) = head-rests h.taken.answer h.taken.kept
+  went-rests rests (inr (inr h)) = λ ended. h.in_work ∙ rests
 
   ahead-rests : (answer : Stepped) → old.in_work ≡ None → GoesAhead route old new answer → RestsIfEnded new
   ahead-rests Idle rests h = λ ended. ap (λ (s : ConnectionState S). s.in_work) h.1 ∙ rests
@@ -114,12 +129,18 @@ module _ {S : Type 0} (route : Route) (old new : ConnectionState S) where
   ahead-rests Went rests h = went-rests rests h.2
   ahead-rests Memory rests h = λ ended. h.unbegun.in_work
 
-  -- the turn of a request in work ends nothing, where memory could be had
-  turn-rests : (answer : Stepped) → new.end ≡ end_of answer → (answer ≡ Memory → ⊥) → RestsIfEnded new
-  turn-rests Idle e has = λ ended. absurd (ended-none new.end e ended)
-  turn-rests NotYet e has = λ ended. absurd (ended-none new.end e ended)
-  turn-rests Went e has = λ ended. absurd (ended-none new.end e ended)
-  turn-rests Memory e has = absurd (has refl)
+  left-rests : (next : PackageView S) → IsLeftBy route next (answering_of old) (answering_of new) new.end → RestsIfEnded new
+  left-rests next (inl left) = λ ended. left.0
+  left-rests next (inr left) = λ ended. absurd (ended-none new.end left.3 ended)
+
+  -- the turn of a request in work ends nothing while it is in work, where memory could be had
+  turn-rests : (turned_ : Turned) (next : PackageView S) (answer : Stepped) → (answer ≡ Memory → ⊥)
+      → WorksOn route turned_ next (answering_of old) (answering_of new) answer new.end → RestsIfEnded new
+  turn-rests turned.Went next answer has h = λ ended. absurd (ended-none new.end h.2 ended)
+  turn-rests turned.NotYet next answer has h = λ ended. absurd (ended-none new.end h.2 ended)
+  turn-rests turned.Memory next answer has h = absurd (has h.0)
+  turn-rests turned.Done next answer has h =
+      left-rests next (went-left route next (answering_of old) (answering_of new) answer new.end has h).left
 
   pub step-rests : {W : Type 0} (w : world.Ghosts W) (t : sitting.Ghosts S W) (exact : Bool) (now : ℕ) (answer : Stepped)
       (before behind : Outside S) (end : Option End) (in_work : Option (PackageView S)) → old.end ≡ end → old.in_work ≡ in_work
@@ -127,7 +148,7 @@ module _ {S : Type 0} (route : Route) (old new : ConnectionState S) where
   step-rests w t exact now answer before behind (Some end) in_work e f has rests h =
       subst (λ (s : ConnectionState S). RestsIfEnded s) (sym h.1) rests
   step-rests w t exact now answer before behind None None e f has rests h = ahead-rests answer f h.0
-  step-rests w t exact now answer before behind None (Some view) e f has rests h = turn-rests answer h.input.ended has
+  step-rests w t exact now answer before behind None (Some view) e f has rests h = turn-rests h.turns.turned h.turns.next answer has h.turns.works
 
 -- ---- between steps
 

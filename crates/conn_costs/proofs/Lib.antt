@@ -3,6 +3,7 @@ mod TurnLemmas
 mod PackageLemmas
 pub mod TotalLemmas
 mod CauseLemmas
+mod OverLemmas
 mod ConnLemmas
 mod KeptLemmas
 mod PhaseLemmas

@@ -24,15 +24,18 @@ use Rattle.package.specs.steps.Packages.{HasFitting, IsPackageOf, PackageView, n
 use Rattle.package.specs.steps.Packages.{begun as leg_begun}
 use Rattle.front_conn.specs.declared.stepped.Stepped.{Stepped}
 use Rattle.front_conn.specs.declared.stepped.Stepped.TheVariants.{Idle, NotYet, Went, Memory}
-use Rattle.front_conn.specs.steps.Answering.{AnsweringState, IsKeptBehind, Outside, TurnsWork, WorksOn, legs_in}
+use Rattle.front_conn.specs.steps.Answering.{AnsweringState, IsKeptBehind, IsKeptBehindHead, Outside, TurnsWork, WorksOn, legs_in}
 use Rattle.front_conn.specs.steps.States.{ConnectionState, IsConnOf}
-use Rattle.front_conn.specs.steps.Steps.{EndsByRest, GoesAhead, StepsFrom, TakesUnit, answering_of}
+use Rattle.front_conn.specs.steps.Steps.{EndsByRest, GoesAhead, StepsFrom, TakesHead, TakesUnit, answering_of}
 use Rattle.conn_costs.specs.steps.Conns.{AreBelowEnd, PaysFor, dues_on}
 use Rattle.conn_costs.specs.steps.Growth.{RisesAsMuch, RisesEnough, last64}
 use Rattle.conn_costs.specs.steps.Laws.{RoseSo}
 use Rattle.conn_costs.specs.steps.Ledgers.{Dues, IsPaid, dues_in, dues_of}
 use Rattle.conn_costs.proofs.LedgerLemmas.{Pays, Seen, no_dues, package-pays, pays-both, pays-nothing}
+use Rattle.conn_costs.proofs.OverLemmas.{IsLeftBy, over-left}
 use Rattle.conn_costs.proofs.PhaseLemmas.{unused}
+use Rattle.front_sru.specs.declared.begun.Begun as sru_begun
+use Rattle.front_sru.specs.declared.begun.Begun.TheVariants as get
 
 abbrev seen_of : {S : Type 0} → Outside S → Seen
 seen_of outside = record { door = outside.door.counts; backend = outside.backend.counts }
@@ -83,7 +86,7 @@ module _ {S : Type 0} where
       sum_by-append f (map leg_begun (first_asked route job)) []
       ∙ ap (λ (n : ℕ). n + 0) (begun-zero f fresh (first_asked route job))
 
-  dues-new : (state : ConnectionState S) (route : Route) (job : Work) → state.in_work ≡ Some (new_package route job) → dues_on state ≡ no_dues
+  pub dues-new : (state : ConnectionState S) (route : Route) (job : Work) → state.in_work ≡ Some (new_package route job) → dues_on state ≡ no_dues
   dues-new state route job e =
       ap (λ (v : Option (PackageView S)). dues_in (legs_in v)) e
       ∙ (λ i. record {
@@ -97,9 +100,15 @@ module _ {S : Type 0} where
     kept-dues (begun.Work job) h = dues-new new route job h.2
     kept-dues begun.Memory h = absurd h
 
-    went-dues : TakesUnit route old new ⊎ EndsByRest old new → dues_on new ≡ no_dues
+    head-dues : (answer : sru_begun.Begun) → IsKeptBehindHead route (answering_of old) (answering_of new) new.end answer → dues_on new ≡ no_dues
+    head-dues (get.Write m end) h = dues-none new h.2
+    head-dues (get.Work job) h = dues-new new route job h.2
+    head-dues get.Memory h = absurd h
+
+    went-dues : TakesUnit route old new ⊎ TakesHead route old new ⊎ EndsByRest old new → dues_on new ≡ no_dues
     went-dues (inl h) = kept-dues h.begun.answer h.begun.kept
-    went-dues (inr h) = dues-none new (h.in_work ∙ rests)
+    went-dues (inr (inl h)) = head-dues h.taken.answer h.taken.kept
+    went-dues (inr (inr h)) = dues-none new (h.in_work ∙ rests)
 
     pub ahead-dues : (answer : Stepped) → GoesAhead route old new answer → dues_on new ≡ no_dues
     ahead-dues Idle h = dues-none new (ap (λ (s : ConnectionState S). s.in_work) h.1 ∙ rests)
@@ -161,7 +170,7 @@ module _ {S : Type 0} where
 module _ {W S : Type 0} (w : world.Ghosts W) (t : sitting.Ghosts S W) (exact : Bool) (route : Route) (now : ℕ)
     (old new : ConnectionState S) (answer : Stepped) (before behind : Outside S) (view : PackageView S)
     (works_on : old.in_work ≡ Some view) (of : IsPackageOf w t route before.door.counts.most view)
-    (h : TurnsWork w t exact route now view (answering_of old) (answering_of new) answer before behind) where
+    (h : TurnsWork w t exact route now view (answering_of old) (answering_of new) answer new.end before behind) where
   abbrev next_dues : Dues
   next_dues = dues_in (h.next.first ++ h.next.later)
 
@@ -177,24 +186,29 @@ module _ {W S : Type 0} (w : world.Ghosts W) (t : sitting.Ghosts S W) (exact : B
       (sym (ap (λ (a : AnsweringState S). a.in_work) same)) legs-pay)
 
   -- behind legs that are done nothing is due
-  ends-pay : new.in_work ≡ None → next_dues.unused ≡ 0 → PaysFor old new before behind
+  ends-pay : dues_on new ≡ no_dues → next_dues.unused ≡ 0 → PaysFor old new before behind
   ends-pay none over =
       let s = legs-pay.paid.searches in
       let o = legs-pay.paid.opens in
       record {
         cost = legs-pay.cost;
         raised = legs-pay.raised;
-        paid = subst (λ (d : Dues). IsPaid legs-pay.cost (dues_on old) d) (sym (dues-none new none))
+        paid = subst (λ (d : Dues). IsPaid legs-pay.cost (dues_on old) d) (sym none)
             (record { searches = omega (arith, s); opens = omega (arith, o, over) });
       }
 
-  works-pay : (turned_ : Turned) → WorksOn route turned_ h.next (answering_of old) (answering_of new) answer → PaysFor old new before behind
+  left-dues : (ended : Option End) → IsLeftBy route h.next (answering_of old) (answering_of new) ended → dues_on new ≡ no_dues
+  left-dues ended (inl left) = dues-none new left.0
+  left-dues ended (inr left) = dues-new new route left.0 left.1
+
+  works-pay : (turned_ : Turned) → WorksOn route turned_ h.next (answering_of old) (answering_of new) answer new.end → PaysFor old new before behind
   works-pay turned.Went on = on-pays on.1
   works-pay turned.NotYet on = on-pays on.1
   works-pay turned.Memory on = on-pays on.1
   works-pay turned.Done on =
-      ends-pay on.in_work
-      (over-unused (h.next.first ++ h.next.later) (All-append IsFitting h.next.first h.next.later on.over.first on.over.later))
+      let is = over-left route h.next (answering_of old) (answering_of new) answer new.end on in
+      ends-pay (left-dues _ is.left)
+      (over-unused (h.next.first ++ h.next.later) (All-append IsFitting h.next.first h.next.later is.over.first is.over.later))
 
   pub turn-pays : PaysFor old new before behind
   turn-pays = works-pay h.turned h.works

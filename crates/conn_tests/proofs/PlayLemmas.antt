@@ -36,7 +36,7 @@ module _ {W S : Type 0} (w : world.Ghosts W) (t : sitting.Ghosts S W) where
 
   of_given_up : (route : Route) (most : ℕ) (state : ConnectionState S) → IsConnOf w t route most state
       → IsConnOf w t route most (without_work state)
-  of_given_up route most state is goes_on = record { sets = (is goes_on).sets; in_work = tt }
+  of_given_up route most state is goes_on = record { sets = (is goes_on).sets; in_work = tt; one_work = tt }
 
   pub gives_up : (route : Route) (most : ℕ) (state : ConnectionState S) (ended : Bool) (other : ClientState S)
       → ArePlayed w t route most (record { conn = state; has_ended = ended }) other

@@ -5,6 +5,8 @@
 #[cfg(test)]
 mod cuts;
 #[cfg(test)]
+mod gets;
+#[cfg(test)]
 mod groups;
 #[cfg(test)]
 mod legs;

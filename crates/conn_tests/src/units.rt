@@ -1,11 +1,12 @@
-//! Units in hexadecimal digits, each worked out by hand from ANSI/NISO Z39.50-2003, appendix A, and X.690.
+//! Units in hexadecimal digits, each worked out by hand from ANSI/NISO Z39.50-2003, appendix A, and X.690;
+//! and texts of HTTP, which are none.
 //! The letter `a` as title is found at the records 4, 12 and 20 of the test target 0, the letter `b` at
 //! ten, the letter `c` at seven.
 
 use std::alloc::Global;
 use z_types::{Memory, Text};
 
-/// The octets of units, one behind another; none of what is no hexadecimal digits.
+/// The octets of units, one behind another; what is no hexadecimal digits stands for its own.
 pub(crate) fn octets_of(alloc: Global, units: &[&str]) -> Result<Text, Memory> {
     let mut octets = Text::new(alloc);
     for digits in units {
@@ -14,11 +15,11 @@ pub(crate) fn octets_of(alloc: Global, units: &[&str]) -> Result<Text, Memory> {
     Ok(octets)
 }
 
-/// Appends the octets of digits.
+/// Appends the octets of digits, or of a text that is none.
 fn append_digits(alloc: Global, octets: &mut Text, digits: &str) -> Result<(), Memory> {
     match hex::decode(alloc, digits) {
         Ok(decoded) => octets.append(decoded.as_slice()),
-        Err(_) => Ok(()),
+        Err(_) => octets.append(digits.as_bytes()),
     }
 }
 

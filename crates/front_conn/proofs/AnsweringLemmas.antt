@@ -23,14 +23,13 @@ use Rattle.front_session.specs.Admitting.{hits_named}
 use Rattle.front_session.specs.Sessions.{SessionState, Waiting, client_of, progress_of}
 use Rattle.front_z.specs.Units.{IsBegun, IsDueBegun, IsEnded, IsMetBegun, Served}
 use Rattle.front_z.specs.declared.units.Begun.TheVariants as begun
-use Rattle.package.specs.steps.Packages.{PackageView}
 use Rattle.package_rules.specs.Planned.{AreThere}
-use Rattle.front_conn.specs.steps.States.{HasLegsOf, IsOneWork}
+use Rattle.front_conn.specs.steps.States.{HasLegsOf, IsWaitedFor}
 use Rattle.front_conn.proofs.WorkLemmas.{work-there}
 
 -- ---- what was written behind
 
-taken-back : (old more new : List ℕ) → new ≡ old ++ more → take (length old) new ≡ old
+pub taken-back : (old more new : List ℕ) → new ≡ old ++ more → take (length old) new ≡ old
 taken-back old more new is = ap (take (length old)) is ∙ take-append-le (length old) old more (omega arith) ∙ take-length old
 
 due-back : (asks : Request) (due : Asking) (old new : Served) (mark : Option Mark) (end : Option End)
@@ -95,12 +94,12 @@ work-is-there route at unit old new job sound sets h =
     let asked = work-asked route at unit old new job h in
     work-there (hits_named old.session.sets) route (client_of old.session) old.session.sets asked.asks job sound refl sets asked.due
 
--- it waits for its package
-pub work-waits : {S : Type 0} (route : Route) (at : ℕ) (unit : List ℕ) (old new : Served) (job : Work) (view : PackageView S)
-    → view.work ≡ job → IsBegun route at unit old new (begun.Work job) → IsOneWork new.session.waiting (Some view)
-work-waits route at unit old new job view is h =
+-- it is waited for
+pub work-waits : (route : Route) (at : ℕ) (unit : List ℕ) (old new : Served) (job : Work)
+    → IsBegun route at unit old new (begun.Work job) → IsWaitedFor new.session.waiting job
+work-waits route at unit old new job h =
     let asked = work-asked route at unit old new job h in
-    subst (λ (waiting : Option Waiting). IsOneWork waiting (Some view)) (sym asked.waits) (sym is)
+    subst (λ (waiting : Option Waiting). IsWaitedFor waiting job) (sym asked.waits) refl
 
 -- nothing was written
 pub work-unwritten : (route : Route) (at : ℕ) (unit : List ℕ) (old new : Served) (job : Work) → IsBegun route at unit old new (begun.Work job)

@@ -12,6 +12,8 @@ use Rattle.front_session.specs.Sessions.{SessionState}
 use Rattle.front_z.specs.Units.{IsBegun}
 use Rattle.front_z.specs.declared.units.Begun.TheVariants as begun
 use Rattle.package.specs.steps.Packages.{IsPackageOf, PackageView, new_package}
+use Rattle.front_sru.specs.declared.state.SruStage.{SruStage}
+use Rattle.front_sru.specs.declared.state.SruStage.TheVariants.{Idle}
 use Rattle.front_conn.specs.declared.totals.Total.{Total}
 use Rattle.front_conn.specs.steps.Answering.{AnsweringState, IsBegunSo, IsListed, IsWorkBegun, served, with_package}
 use Rattle.front_conn.specs.steps.States.{IsOneWork}
@@ -20,25 +22,27 @@ use Rattle.front_conn.proofs.AnsweringLemmas.{work-unwritten, work-waits, writte
 
 module _ {W S : Type 0} (w : world.Ghosts W) (t : sitting.Ghosts S W) (route : Route) (at : ℕ) (unit : List ℕ) (old new : AnsweringState S)
     (session : SessionState) (out : List ℕ) where
-  -- behind what was written
+  -- behind what was written; no GET waits
   abbrev mid : AnsweringState S
-  mid = record old { session = session; totals = totals_for route old.totals; out = out }
+  mid = record old { session = session; stage = Idle; totals = totals_for route old.totals; out = out }
 
   -- it was answered at once
   pub begun-written : (mark : Option Mark) (end : Option End) (written : ℕ) (listed : Result (Option End) Memory) → old.in_work ≡ None
       → written ≡ length old.out → IsBegun route at unit (served old) (served mid) (begun.Write mark end)
       → IsListed mark end written mid new listed → IsBegunSo w t route at unit old new listed
   begun-written mark end written (Ok ended) rests is h l =
-      let in_work : new.in_work ≡ None = ap (λ (a : AnsweringState S). a.in_work) l.1 ∙ rests in
-      record {
-        begun = record {
+      let in_work : new.in_work ≡ None = ap (λ (a : AnsweringState S). a.in_work) l.1 ∙ rests in (
+        record {
           answer = begun.Write mark end;
           begun = subst (λ (a : AnsweringState S). IsBegun route at unit (served old) (served a) (begun.Write mark end)) (sym l.1) h;
           kept = (l.0, ap (λ (a : AnsweringState S). a.marks) l.1, in_work, ap (λ (a : AnsweringState S). a.totals) l.1);
-        };
-        of = λ most. subst (λ (i : Option (PackageView S)). IfSome i (IsPackageOf w t route most)) (sym in_work) tt;
-        one_work = subst (λ (i : Option (PackageView S)). IsOneWork new.session.waiting i) (sym in_work) tt;
-      }
+          idle = ap (λ (a : AnsweringState S). a.stage) l.1;
+        },
+        record {
+          of = λ most. subst (λ (i : Option (PackageView S)). IfSome i (IsPackageOf w t route most)) (sym in_work) tt;
+          one_work = subst (λ (i : Option (PackageView S)). IsOneWork route new.session.waiting new.stage i) (sym in_work) tt;
+        },
+      )
   begun-written mark end written (Err want) rests is h l = record {
     unwritten = record {
       out = ap (λ (a : AnsweringState S). a.out) l ∙ ap (λ n. take n out) is ∙ written-back route at unit (served old) (served mid) mark end h;
@@ -53,18 +57,19 @@ module _ {W S : Type 0} (w : world.Ghosts W) (t : sitting.Ghosts S W) (route : R
       → IsBegun route at unit (served old) (served mid) (begun.Work job) → IsWorkBegun w t route job mid new started
       → IsBegunSo w t route at unit old new started
   begun-works job (Ok ended) rests h s =
-      let in_work : new.in_work ≡ Some (new_package route job) = ap (λ (a : AnsweringState S). a.in_work) s.1 in
-      let at_mid = work-waits route at unit (served old) (served mid) job (new_package {S = S} route job) refl h in
-      let at_new = subst (λ (a : AnsweringState S). IsOneWork a.session.waiting (Some (new_package {S = S} route job))) (sym s.1) at_mid in
-      record {
-        begun = record {
+      let in_work : new.in_work ≡ Some (new_package route job) = ap (λ (a : AnsweringState S). a.in_work) s.1 in (
+        record {
           answer = begun.Work job;
           begun = subst (λ (a : AnsweringState S). IsBegun route at unit (served old) (served a) (begun.Work job)) (sym s.1) h;
           kept = (s.0, ap (λ (a : AnsweringState S). a.marks) s.1, in_work, ap (λ (a : AnsweringState S). a.totals) s.1);
-        };
-        of = λ most. subst (λ (i : Option (PackageView S)). IfSome i (IsPackageOf w t route most)) (sym in_work) (s.2 most);
-        one_work = subst (λ (i : Option (PackageView S)). IsOneWork new.session.waiting i) (sym in_work) at_new;
-      }
+          idle = ap (λ (a : AnsweringState S). a.stage) s.1;
+        },
+        record {
+          of = λ most. subst (λ (i : Option (PackageView S)). IfSome i (IsPackageOf w t route most)) (sym in_work) (s.2 most);
+          one_work = subst (λ (a : AnsweringState S). IsOneWork route a.session.waiting a.stage a.in_work) (sym s.1)
+              (work-waits route at unit (served old) (served mid) job h);
+        },
+      )
   begun-works job (Err want) rests h s = record {
     unwritten = record {
       out = ap (λ (a : AnsweringState S). a.out) s ∙ work-unwritten route at unit (served old) (served mid) job h;
@@ -91,14 +96,14 @@ not-err (Ok x) P h p = p
 not-err (Err want) P h p = absurd cc
 
 module _ {W S : Type 0} (w : world.Ghosts W) (t : sitting.Ghosts S W) (route : Route) (at : ℕ) (unit : List ℕ)
-    (here old new : AnsweringState S) (session : SessionState) (totals : List Total) (out : List ℕ) (is : here ≡ old)
-    (made : totals ≡ totals_for route here.totals) (rests : old.in_work ≡ None) where
+    (here old new : AnsweringState S) (session : SessionState) (totals : List Total) (out : List ℕ) (stage : SruStage) (is : here ≡ old)
+    (made : totals ≡ totals_for route here.totals) (rests : old.in_work ≡ None) (idle : stage ≡ Idle) where
   abbrev then : AnsweringState S
-  then = record here { session = session; totals = totals; out = out }
+  then = record here { session = session; stage = stage; totals = totals; out = out }
 
   -- the same with the sums as they are made
-  then-is : then ≡ record here { session = session; totals = totals_for route here.totals; out = out }
-  then-is = λ i. record here { session = session; totals = made i; out = out }
+  then-is : then ≡ record here { session = session; stage = Idle; totals = totals_for route here.totals; out = out }
+  then-is = λ i. record here { session = session; stage = idle i; totals = made i; out = out }
 
   rests-here : here.in_work ≡ None
   rests-here = ap (λ (a : AnsweringState S). a.in_work) is ∙ rests

@@ -1,7 +1,6 @@
 -- A connection that ends by the end of its input, or by octets that are no unit.
-use Rattle.std.proofs.Common.{◌≡◌, ℕ, ◌<◌, ◌⊎◌, Bool, true, false, List, [], ◌∷◌, ◌++◌, length, Option, Some, None, refl, sym, ap, ◌∙◌, subst, append_assoc, append-nil, length-append, arith, inl, inr}
-use Rattle.std.specs.Prelude.{option_to_list, if◌then◌else◌, IsTrue}
-use Rattle.std.specs.Char.{is_ascii_alphabetic}
+use Rattle.std.proofs.Common.{◌≡◌, ℕ, ◌<◌, ◌⊎◌, Bool, true, false, List, [], ◌∷◌, ◌++◌, length, Option, Some, None, Ok, refl, sym, ap, ◌∙◌, subst, append_assoc, append-nil, length-append, arith, inl, inr}
+use Rattle.std.specs.Prelude.{option_to_list}
 use Rattle.std.specs.List.{AllByRecursion}
 use Rattle.std.proofs.lemmas.Grind.{flat_map-append}
 use Rattle.z_types.specs.declared.marks.End.{End}
@@ -14,7 +13,11 @@ use Rattle.route_config.specs.declared.route.Route.{Route}
 use Rattle.unit_forms.specs.Replies.{spell_reply}
 use Rattle.z_ber.specs.Frames.{IsFrame}
 use Rattle.gateway_rules.specs.Answers as kind
-use Rattle.gateway_rules.specs.Answers.{Answers, Kind, kind_of, IsReceived, IsOpen, IsBad, IsCourseOf, RestLeadsTo}
+use Rattle.gateway_rules.specs.Answers.{Kind, kind_of, IsReceived, IsOpen, IsBad, IsCourseOf, RestLeadsTo}
+use Rattle.sru_request.specs.Request.{IsHeadAnswer}
+use Rattle.sru_request.specs.declared.head.HeadGot.TheVariants.{NeedMore}
+use Rattle.sru_rules.specs.Answers.{Answers}
+use Rattle.sru_rules.specs.Laws.{HeadIsCut}
 use Rattle.gateway_rules.specs.Course as course
 use Rattle.gateway_rules.specs.Course.{Received, octets_of, ends}
 use Rattle.gateway_rules.specs.Runs.{marks_of, written_as}
@@ -26,18 +29,17 @@ use Rattle.gateway_rules.proofs.OneEnding.{extent-filled}
 use Rattle.gateway_rules.proofs.Runs.{rest-ends}
 use Rattle.front_conn.specs.steps.States.{BeginsWithUnits, ConnectionState, MayCome, Rests}
 use Rattle.front_conn.specs.steps.Steps.{KeepsState}
-use Rattle.front_conn.proofs.StateLemmas.{kind-fed, kind-more, of-ended, rests-of}
+use Rattle.front_conn.proofs.StateLemmas.{as-none, as-units, kind-fed, kind-more, of-ended, rests-of}
 
 -- ---- a connection without units
 
--- the answers to octets of a kind that has no units
-kind-ended : {W : Type 0} (w : world.Ghosts W) (route : Route) (bytes written : List ℕ) (of_kind : Kind)
-    (last : Option Reply) (end : End) → kind_of bytes ≡ of_kind → IsCourseOf of_kind route bytes (ends last end)
-    → written ≡ written_as (option_to_list last) → Answers w route bytes [] written end
-kind-ended w route bytes written of_kind last end same is out = record {
+-- the answers where nothing comes
+none-ended : {W : Type 0} (w : world.Ghosts W) (route : Route) (bytes written : List ℕ) → kind_of bytes ≡ kind.empty
+    → written ≡ [] → Answers w route bytes [] written Finished
+none-ended w route bytes written same out = as-none w route bytes [] written Finished same (record {
   answered = record {
-    whole = ends last end;
-    is_whole = subst (λ (k : Kind). IsCourseOf k route bytes (ends last end)) (sym same) is;
+    whole = ends None Finished;
+    is_whole = subst (λ (k : Kind). IsCourseOf k route bytes (ends None Finished)) (sym same) refl;
     causes = [];
     of_marks = refl;
     allowed = tt;
@@ -45,7 +47,7 @@ kind-ended w route bytes written of_kind last end same is out = record {
   };
   fits = record { allowed = tt; served = tt; none_left = refl };
   ended = refl;
-}
+})
 
 -- a state that stands behind no units has no marks, and nothing was written
 pub record IsFirst {S : Type 0} (fed written : List ℕ) (state : ConnectionState S) : Type 0 where
@@ -53,7 +55,7 @@ pub record IsFirst {S : Type 0} (fed written : List ℕ) (state : ConnectionStat
   pub marks : state.marks ≡ []
   pub out : written ++ state.out ≡ []
 
-first-state : {W S : Type 0} (w : world.Ghosts W) (route : Route) (fed written : List ℕ) (state : ConnectionState S)
+pub first-state : {W S : Type 0} (w : world.Ghosts W) (route : Route) (fed written : List ℕ) (state : ConnectionState S)
     (rb : Rests w route fed written state) → rb.units ≡ [] → IsFirst fed written state
 first-state w route fed written state rb e =
     let got : stopped [] rb.answered.causes new_client (session.standing at_the_start) ≡ rb.answered.got =
@@ -78,7 +80,9 @@ rest-answers w route fed written more old new last end rb of_units leads marks o
     sym (append_assoc (octets_of rb.units) old.left more) ∙ ap (λ o. o ++ more) (sym rb.spelled) in
     let of_kind = subst (λ (o : List ℕ). kind_of o ≡ kind.unit) (sym octets) of_units in
     let replies : List Reply = rb.answered.got.replies ++ option_to_list last in
-    let all = rest-ends w route rb.units rb.answered.causes rb.answered.got _ (old.left ++ more) last end rb.answered.has_run rb.answered.standing leads of_kind in
+    let all = as-units w route (octets_of rb.units ++ (old.left ++ more)) _ _ end of_kind
+    (rest-ends w route rb.units rb.answered.causes rb.answered.got _ (old.left ++ more) last end rb.answered.has_run rb.answered.standing
+    leads of_kind) in
     let by_octets = subst (λ (o : List ℕ). Answers w route o (marks_of rb.answered.causes) (written_as replies) end) octets all in
     let by_marks = subst (λ (m : List Mark). Answers w route (fed ++ more) m (written_as replies) end) (rb.answered.of_marks ∙ sym marks) by_octets in
     subst (λ (o : List ℕ). Answers w route (fed ++ more) new.marks o end) (sym out) by_marks
@@ -108,18 +112,23 @@ by-units P [] fed begins f g = g refl
 by-units P (unit ∷ units) fed begins f g = f begins
 
 -- at the offset 0 there are none
-none-at_0 : (units : List Received) → AllByRecursion IsReceived units → within64 (length (octets_of units)) ≡ 0 → units ≡ []
+pub none-at_0 : (units : List Received) → AllByRecursion IsReceived units → within64 (length (octets_of units)) ≡ 0 → units ≡ []
 none-at_0 [] all e = refl
 none-at_0 (unit ∷ units) all e =
     absurd (omega (arith, e, length-append unit.octets (octets_of units), frame-octets unit.octets all.0.0))
 
 -- ---- the end of the input
 
+-- octets that end inside a unit, or inside the head of an HTTP connection
+abbrev pub IsCutIn : ℕ → List ℕ → Type 0
+IsCutIn at octets =
+    (IsOpen octets × (at ≡ 0 → kind_of octets ≡ kind.unit))
+    ⊎ ((at ≡ 0) × (kind_of octets ≡ kind.letter) × IsHeadAnswer octets (Ok NeedMore))
+
 -- how octets end that were not taken
 abbrev pub EndsSo : ℕ → List ℕ → End → Type 0
 EndsSo at [] end = end ≡ Finished
-EndsSo at (octet ∷ octets) end =
-    IsOpen (octet ∷ octets) × (end ≡ Cut (length (octet ∷ octets))) × (at ≡ 0 → kind_of (octet ∷ octets) ≡ kind.unit)
+EndsSo at (octet ∷ octets) end = (end ≡ Cut (length (octet ∷ octets))) × IsCutIn at (octet ∷ octets)
 
 -- nothing comes behind the end of the input
 nothing-comes : (has_ended : Bool) (more : List ℕ) → has_ended ≡ true → MayCome has_ended more → more ≡ []
@@ -147,8 +156,8 @@ finished-answers w route fed written old new rb left marks out =
     (λ none.
     let first = first-state w route fed written old rb none in
     subst (λ (m : List Mark). Answers w route (fed ++ []) m (written ++ new.out) Finished) (sym first.marks ∙ sym marks)
-    (kind-ended w route (fed ++ []) (written ++ new.out) kind.empty None Finished
-    (ap kind_of (append-nil fed ∙ first.fed-is ∙ left)) refl (ap (λ o. written ++ o) out ∙ first.out)))
+    (none-ended w route (fed ++ []) (written ++ new.out)
+    (ap kind_of (append-nil fed ∙ first.fed-is ∙ left)) (ap (λ o. written ++ o) out ∙ first.out)))
 
 -- the answers where the input ends inside a unit
 cut-answers : {W S : Type 0} (w : world.Ghosts W) (route : Route) (fed written : List ℕ) (old new : ConnectionState S) (octet : ℕ)
@@ -162,36 +171,57 @@ cut-answers w route fed written old new octet octets rb left is_open first marks
     (subst (λ (l : List ℕ). RestLeadsTo (length (octets_of rb.units)) l (ends None end)) (sym (append-nil old.left ∙ left))
     (inl (is_open, refl))) marks (no-reply written old.out new.out rb.answered.got.replies rb.answered.replies out)
 
--- either
+-- the answers where it ends inside the head of an HTTP connection
+head_cut-answers : {W S : Type 0} (w : world.Ghosts W) (route : Route) (fed written : List ℕ) (old new : ConnectionState S)
+    (left : List ℕ) (rb : Rests w route fed written old) → HeadIsCut w → old.left ≡ left → old.at ≡ 0 → kind_of left ≡ kind.letter
+    → IsHeadAnswer left (Ok NeedMore) → new.marks ≡ old.marks → new.out ≡ old.out
+    → Answers w route (fed ++ []) new.marks (written ++ new.out) (Cut (length left))
+head_cut-answers w route fed written old new left rb law e zero is_letter more marks out =
+    let end : End = Cut (length left) in
+    let none = none-at_0 rb.units rb.answered.has_run.each (sym rb.offset ∙ zero) in
+    let first = first-state w route fed written old rb none in
+    let by_octets = subst (λ (o : List ℕ). Answers w route o [] [] end) (sym (append-nil fed ∙ first.fed-is ∙ e)) (law route left is_letter more) in
+    let by_marks = subst (λ (m : List Mark). Answers w route (fed ++ []) m [] end) (sym (marks ∙ first.marks)) by_octets in
+    subst (λ (o : List ℕ). Answers w route (fed ++ []) new.marks o end) (sym (ap (λ o. written ++ o) out ∙ first.out)) by_marks
+
+-- each of these
+cut_in-answers : {W S : Type 0} (w : world.Ghosts W) (route : Route) (fed written : List ℕ) (old new : ConnectionState S) (octet : ℕ)
+    (octets : List ℕ) (rb : Rests w route fed written old) → HeadIsCut w → old.left ≡ octet ∷ octets
+    → IsCutIn old.at (octet ∷ octets) → new.marks ≡ old.marks → new.out ≡ old.out
+    → Answers w route (fed ++ []) new.marks (written ++ new.out) (Cut (length (octet ∷ octets)))
+cut_in-answers w route fed written old new octet octets rb law e (inl so) marks out =
+    cut-answers w route fed written old new octet octets rb e so.0 so.1 marks out
+cut_in-answers w route fed written old new octet octets rb law e (inr so) marks out =
+    head_cut-answers w route fed written old new (octet ∷ octets) rb law e so.0 so.1 so.2 marks out
+
 ends-answers : {W S : Type 0} (w : world.Ghosts W) (route : Route) (fed written : List ℕ) (old new : ConnectionState S) (end : End)
-    (left : List ℕ) (rb : Rests w route fed written old) → old.left ≡ left → EndsSo old.at left end
+    (left : List ℕ) (rb : Rests w route fed written old) → HeadIsCut w → old.left ≡ left → EndsSo old.at left end
     → new.marks ≡ old.marks → new.out ≡ old.out → Answers w route (fed ++ []) new.marks (written ++ new.out) end
-ends-answers w route fed written old new end [] rb e so marks out =
+ends-answers w route fed written old new end [] rb law e so marks out =
     subst (λ (x : End). Answers w route (fed ++ []) new.marks (written ++ new.out) x) (sym so)
     (finished-answers w route fed written old new rb e marks out)
-ends-answers w route fed written old new end (octet ∷ octets) rb e so marks out =
-    subst (λ (x : End). Answers w route (fed ++ []) new.marks (written ++ new.out) x) (sym so.1)
-    (cut-answers w route fed written old new octet octets rb e so.0 so.2 marks out)
+ends-answers w route fed written old new end (octet ∷ octets) rb law e so marks out =
+    subst (λ (x : End). Answers w route (fed ++ []) new.marks (written ++ new.out) x) (sym so.0)
+    (cut_in-answers w route fed written old new octet octets rb law e so.1 marks out)
 
 -- a connection whose input has ended is answered whole
-pub end-keeps : {W S : Type 0} (w : world.Ghosts W) (route : Route) (old new : ConnectionState S) (end : End)
+pub end-keeps : {W S : Type 0} (w : world.Ghosts W) (route : Route) (old new : ConnectionState S) (end : End) → HeadIsCut w
     → Ends old new end → EndsSo old.at old.left end → KeepsState w route old new
-end-keeps w route old new end t so = λ fair fed written h.
+end-keeps w route old new end law t so = λ fair fed written h.
     let rb = rests-of w route fed written old t.goes t.rests h in
     of-ended w route fed written new end t.ended
     (λ more may.
     subst (λ (m : List ℕ). Answers w route (fed ++ m) new.marks (written ++ new.out) end)
     (sym (nothing-comes new.has_ended more t.input may))
-    (ends-answers w route fed written old new end old.left rb refl so t.marks t.out))
+    (ends-answers w route fed written old new end old.left rb law refl so t.marks t.out))
 
 -- ---- octets that are no unit
 
--- a letter at the start, or octets of which no continuation begins with a unit
+-- octets of which no continuation begins with a unit
 abbrev pub BadSo : ℕ → List ℕ → ℕ → Type 0
 BadSo at [] state = ⊥
 BadSo at (octet ∷ octets) state =
-    ((at ≡ 0) × (state ≡ 0) × IsTrue (is_ascii_alphabetic octet))
-    ⊎ (IsBad (octet ∷ octets) × (state ≡ at) × (at ≡ 0 → kind_of (octet ∷ octets) ≡ kind.unit))
+    IsBad (octet ∷ octets) × (state ≡ at) × (at ≡ 0 → kind_of (octet ∷ octets) ≡ kind.unit)
 
 -- the connection is unchanged but for a Close, and its end
 pub record Refuses {S : Type 0} (old new : ConnectionState S) (at : ℕ) : Type 0 where
@@ -204,26 +234,6 @@ pub record Refuses {S : Type 0} (old new : ConnectionState S) (at : ℕ) : Type 
 -- octets stay bad whatever follows them
 bad-more : (rest more : List ℕ) → IsBad rest → IsBad (rest ++ more)
 bad-more rest more bad o = bad (more ++ o.0, (o.1.0, o.1.1, o.1.2, sym (append_assoc rest more o.0) ∙ o.1.3))
-
--- a letter is no unit
-letter-kind : (octet : ℕ) (octets : List ℕ) → IsTrue (is_ascii_alphabetic octet) → kind_of (octet ∷ octets) ≡ kind.letter
-letter-kind octet octets h = ap (λ b. if b then kind.letter else kind.unit) h
-
--- the answers where a letter stands first
-letter-answers : {W S : Type 0} (w : world.Ghosts W) (route : Route) (fed written more : List ℕ) (old new : ConnectionState S)
-    (rb : Rests w route fed written old) → old.at ≡ 0 → kind_of (old.left ++ more) ≡ kind.letter
-    → new.marks ≡ old.marks → new.out ≡ old.out ++ spell_reply bad_unit_reply
-    → Answers w route (fed ++ more) new.marks (written ++ new.out) (Malformed 0)
-letter-answers w route fed written more old new rb zero is_letter marks out =
-    let none = none-at_0 rb.units rb.answered.has_run.each (sym rb.offset ∙ zero) in
-    let first = first-state w route fed written old rb none in
-    let reply : List ℕ = spell_reply bad_unit_reply in
-    let all : written ++ new.out ≡ written_as (bad_unit_reply ∷ []) =
-    ap (λ o. written ++ o) out ∙ sym (append_assoc written old.out reply) ∙ ap (λ o. o ++ reply) first.out
-    ∙ sym (append-nil reply) in
-    subst (λ (m : List Mark). Answers w route (fed ++ more) m (written ++ new.out) (Malformed 0)) (sym first.marks ∙ sym marks)
-    (kind-ended w route (fed ++ more) (written ++ new.out) kind.letter (Some bad_unit_reply) (Malformed 0)
-    (ap (λ f. kind_of (f ++ more)) first.fed-is ∙ is_letter) refl all)
 
 -- the answers where no unit can come
 bad-answers : {W S : Type 0} (w : world.Ghosts W) (route : Route) (fed written more : List ℕ) (old new : ConnectionState S) (octet : ℕ)
@@ -246,11 +256,7 @@ refused-answers : {W S : Type 0} (w : world.Ghosts W) (route : Route) (fed writt
     → new.marks ≡ old.marks → new.out ≡ old.out ++ spell_reply bad_unit_reply
     → Answers w route (fed ++ more) new.marks (written ++ new.out) (Malformed at)
 refused-answers w route fed written more old new at [] rb e so marks out = absurd so
-refused-answers w route fed written more old new at (octet ∷ octets) rb e (inl so) marks out =
-    subst (λ (a : ℕ). Answers w route (fed ++ more) new.marks (written ++ new.out) (Malformed a)) (sym so.1)
-    (letter-answers w route fed written more old new rb so.0
-    (ap (λ l. kind_of (l ++ more)) e ∙ letter-kind octet (octets ++ more) so.2) marks out)
-refused-answers w route fed written more old new at (octet ∷ octets) rb e (inr so) marks out =
+refused-answers w route fed written more old new at (octet ∷ octets) rb e so marks out =
     subst (λ (a : ℕ). Answers w route (fed ++ more) new.marks (written ++ new.out) (Malformed a)) (sym so.1)
     (bad-answers w route fed written more old new octet octets rb e so.0 so.2 marks out)
 

@@ -4,7 +4,12 @@ use Rattle.z_types.specs.declared.marks.End.{End}
 use Rattle.z_types.specs.declared.sitting.Sitting as sitting
 use Rattle.z_types.specs.declared.world.World as world
 use Rattle.route_config.specs.declared.route.Route.{Route}
-use Rattle.gateway_rules.specs.Answers.{Answers}
+use Rattle.sru_rules.specs.Answers.{Answers}
+use Rattle.front_sru.specs.declared.state.SruStage.{SruStage}
+use Rattle.front_sru.specs.declared.state.SruStage.TheVariants.{Idle, Searching, Fetching}
+use Rattle.front_http.specs.Laws.{GetsStand}
+use Rattle.gateway_rules.specs.Answers as kind
+use Rattle.gateway_rules.specs.Answers.{kind_of}
 use Rattle.gateway_rules.specs.Course.{Received, octets_of}
 use Rattle.gateway_rules.specs.Session as session
 use Rattle.gateway_rules.specs.Session.{stopped}
@@ -12,7 +17,7 @@ use Rattle.gateway_rules.specs.State.{new_client, at_the_start}
 use Rattle.front_session.specs.Sessions.{SessionState}
 use Rattle.package.specs.steps.Packages.{PackageView}
 use Rattle.front_conn.specs.steps.Feeding.{EndsAnswered, StandsAtStart, StandsWhenEnded, StandsWhenFed, StandsWhenWritten, StaysOfRoute, fed_piece, with_end, without_out}
-use Rattle.front_conn.specs.steps.States.{BeginsWithUnits, ConnectionState, HasAnswered, HasEnded, IsConnOf, IsStateOf, MayCome, Rests, StandsOrEnded, Works}
+use Rattle.front_conn.specs.steps.States.{BeginsWithUnits, ConnectionState, HasAnswered, HasEnded, IsConnOf, IsStateOf, MayCome, Rests, StandsOrEnded, Works, WorksAt, WorksOnGet}
 use Rattle.front_conn.proofs.StateLemmas.{kind-more}
 
 -- ---- the start
@@ -41,6 +46,10 @@ stands-at-start w t route = record {
 begins-more : (units : List Received) (fed piece : List ℕ) → BeginsWithUnits units fed → BeginsWithUnits units (fed ++ piece)
 begins-more [] fed piece h = tt
 begins-more (unit ∷ units) fed piece h = kind-more fed piece h
+
+letter-more : (fed piece : List ℕ) → kind_of fed ≡ kind.letter → kind_of (fed ++ piece) ≡ kind.letter
+letter-more [] piece h = absurd cc
+letter-more (octet ∷ octets) piece h = h
 
 -- before the end of the input anything may come
 may-come : (has_ended : Bool) (more : List ℕ) → has_ended ≡ false → MayCome has_ended more
@@ -82,6 +91,22 @@ module _ {W S : Type 0} (w : world.Ghosts W) (route : Route) (fed written : List
     waits = k.waits;
   }
 
+  get-fed : GetsStand w → (piece : List ℕ) (view : PackageView S) → WorksOnGet w route fed written state view
+      → WorksOnGet w route (fed ++ piece) written (record state { left = state.left ++ piece }) view
+  get-fed law piece view k = record {
+    kind = letter-more fed piece k.kind;
+    stands = law route fed piece state.stage k.stands;
+    of_work = k.of_work;
+    no_marks = k.no_marks;
+    unwritten = k.unwritten;
+  }
+
+  works_at-fed : GetsStand w → (piece : List ℕ) (view : PackageView S) (stage : SruStage) → WorksAt w route fed written state stage view
+      → WorksAt w route (fed ++ piece) written (record state { left = state.left ++ piece }) stage view
+  works_at-fed law piece view Idle k = works-fed piece view k
+  works_at-fed law piece view (Searching retrieval) k = get-fed law piece view k
+  works_at-fed law piece view (Fetching retrieval hits) k = get-fed law piece view k
+
   -- where it has ended
   ended-fed : (piece : List ℕ) (end : End) → state.has_ended ≡ false → HasEnded w route fed written state end
       → HasEnded w route (fed ++ piece) written state end
@@ -89,34 +114,25 @@ module _ {W S : Type 0} (w : world.Ghosts W) (route : Route) (fed written : List
       subst (λ (o : List ℕ). Answers w route o state.marks (written ++ state.out) end) (sym (append_assoc fed piece more))
       (h (piece ++ more) (may-come state.has_ended (piece ++ more) goes))
 
-  by-end-fed : (piece : List ℕ) (end : Option End) (works : Option (PackageView S)) → state.has_ended ≡ false → state.end ≡ end
+  by-end-fed : GetsStand w → (piece : List ℕ) (end : Option End) (works : Option (PackageView S)) → state.has_ended ≡ false → state.end ≡ end
       → state.in_work ≡ works → StandsOrEnded w route fed written state end works
       → IsStateOf w route (fed ++ piece) written (fed_piece end state piece)
-  by-end-fed piece None None goes e i h =
+  by-end-fed law piece None None goes e i h =
       let new : ConnectionState S = record state { left = state.left ++ piece } in
       subst (λ (x : Option End). StandsOrEnded w route (fed ++ piece) written new x state.in_work) (sym e)
       (subst (λ (x : Option (PackageView S)). StandsOrEnded w route (fed ++ piece) written new None x) (sym i) (rests-fed piece h))
-  by-end-fed piece None (Some view) goes e i h =
+  by-end-fed law piece None (Some view) goes e i h =
       let new : ConnectionState S = record state { left = state.left ++ piece } in
       subst (λ (x : Option End). StandsOrEnded w route (fed ++ piece) written new x state.in_work) (sym e)
-      (subst (λ (x : Option (PackageView S)). StandsOrEnded w route (fed ++ piece) written new None x) (sym i) (works-fed piece view h))
-  by-end-fed piece (Some end) works goes e i h =
+      (subst (λ (x : Option (PackageView S)). StandsOrEnded w route (fed ++ piece) written new None x) (sym i) (works_at-fed law piece view state.stage h))
+  by-end-fed law piece (Some end) works goes e i h =
       subst (λ (x : Option End). StandsOrEnded w route (fed ++ piece) written state x state.in_work) (sym e)
       (ended-fed piece end goes h)
 
   -- ---- the end of the input
 
-  by-end-ended : (end : Option End) (works : Option (PackageView S)) → StandsOrEnded w route fed written state end works
-      → StandsOrEnded w route fed written (with_end state) end works
-  by-end-ended None None r = record {
-    units = r.units;
-    spelled = r.spelled;
-    kind = r.kind;
-    offset = r.offset;
-    answered = r.answered;
-    waits_not = r.waits_not;
-  }
-  by-end-ended None (Some view) k = record {
+  works-ended : (view : PackageView S) → Works w route fed written state view → Works w route fed written (with_end state) view
+  works-ended view k = record {
     units = k.units;
     unit = k.unit;
     received = k.received;
@@ -130,6 +146,27 @@ module _ {W S : Type 0} (w : world.Ghosts W) (route : Route) (fed written : List
     asks = k.asks;
     waits = k.waits;
   }
+
+  get-ended : (view : PackageView S) → WorksOnGet w route fed written state view → WorksOnGet w route fed written (with_end state) view
+  get-ended view k = record { kind = k.kind; stands = k.stands; of_work = k.of_work; no_marks = k.no_marks; unwritten = k.unwritten }
+
+  works_at-ended : (view : PackageView S) (stage : SruStage) → WorksAt w route fed written state stage view
+      → WorksAt w route fed written (with_end state) stage view
+  works_at-ended view Idle k = works-ended view k
+  works_at-ended view (Searching retrieval) k = get-ended view k
+  works_at-ended view (Fetching retrieval hits) k = get-ended view k
+
+  by-end-ended : (end : Option End) (works : Option (PackageView S)) → StandsOrEnded w route fed written state end works
+      → StandsOrEnded w route fed written (with_end state) end works
+  by-end-ended None None r = record {
+    units = r.units;
+    spelled = r.spelled;
+    kind = r.kind;
+    offset = r.offset;
+    answered = r.answered;
+    waits_not = r.waits_not;
+  }
+  by-end-ended None (Some view) k = works_at-ended view state.stage k
   by-end-ended (Some end) works h = λ more may. h more (nothing-may state.has_ended more may)
 
   -- ---- what was written
@@ -143,17 +180,8 @@ module _ {W S : Type 0} (w : world.Ghosts W) (route : Route) (fed written : List
   answered-written units session a =
       subst (λ (o : List ℕ). HasAnswered w route units state.marks o session) (sym (append-nil all_written)) a
 
-  by-end-written : (end : Option End) (works : Option (PackageView S)) → StandsOrEnded w route fed written state end works
-      → StandsOrEnded w route fed all_written (without_out state) end works
-  by-end-written None None r = record {
-    units = r.units;
-    spelled = r.spelled;
-    kind = r.kind;
-    offset = r.offset;
-    answered = answered-written r.units state.session r.answered;
-    waits_not = r.waits_not;
-  }
-  by-end-written None (Some view) k = record {
+  works-written : (view : PackageView S) → Works w route fed written state view → Works w route fed all_written (without_out state) view
+  works-written view k = record {
     units = k.units;
     unit = k.unit;
     received = k.received;
@@ -167,12 +195,39 @@ module _ {W S : Type 0} (w : world.Ghosts W) (route : Route) (fed written : List
     asks = k.asks;
     waits = k.waits;
   }
+
+  get-written : (view : PackageView S) → WorksOnGet w route fed written state view → WorksOnGet w route fed all_written (without_out state) view
+  get-written view k = record {
+    kind = k.kind;
+    stands = k.stands;
+    of_work = k.of_work;
+    no_marks = k.no_marks;
+    unwritten = append-nil all_written ∙ k.unwritten;
+  }
+
+  works_at-written : (view : PackageView S) (stage : SruStage) → WorksAt w route fed written state stage view
+      → WorksAt w route fed all_written (without_out state) stage view
+  works_at-written view Idle k = works-written view k
+  works_at-written view (Searching retrieval) k = get-written view k
+  works_at-written view (Fetching retrieval hits) k = get-written view k
+
+  by-end-written : (end : Option End) (works : Option (PackageView S)) → StandsOrEnded w route fed written state end works
+      → StandsOrEnded w route fed all_written (without_out state) end works
+  by-end-written None None r = record {
+    units = r.units;
+    spelled = r.spelled;
+    kind = r.kind;
+    offset = r.offset;
+    answered = answered-written r.units state.session r.answered;
+    waits_not = r.waits_not;
+  }
+  by-end-written None (Some view) k = works_at-written view state.stage k
   by-end-written (Some end) works h = λ more may.
       subst (λ (o : List ℕ). Answers w route (fed ++ more) state.marks o end) (sym (append-nil all_written)) (h more may)
 
-pub stands-when-fed : {W S : Type 0} (w : world.Ghosts W) (t : sitting.Ghosts S W) → StandsWhenFed w t
-stands-when-fed w t route fed written piece state goes h =
-    by-end-fed w route fed written state piece state.end state.in_work goes refl refl h
+pub stands-when-fed : {W S : Type 0} (w : world.Ghosts W) (t : sitting.Ghosts S W) → GetsStand w → StandsWhenFed w t
+stands-when-fed w t law route fed written piece state goes h =
+    by-end-fed w route fed written state law piece state.end state.in_work goes refl refl h
 
 pub stands-when-ended : {W S : Type 0} (w : world.Ghosts W) (t : sitting.Ghosts S W) → StandsWhenEnded w t
 stands-when-ended w t route fed written state h = by-end-ended w route fed written state state.end state.in_work h

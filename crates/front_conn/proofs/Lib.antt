@@ -9,7 +9,10 @@ mod TurnLemmas
 mod TotalLemmas
 mod AnsweringLemmas
 mod BegunLemmas
+mod HeadLemmas
 mod EndedLemmas
+mod GetLemmas
+mod HeadKeeps
 mod StepLemmas
 mod TurnedLemmas
 mod WrittenLemmas

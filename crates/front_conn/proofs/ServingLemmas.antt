@@ -1,5 +1,5 @@
 -- Where the serving of a connection stands behind a step, a write and a read.
-use Rattle.std.proofs.Common.{◌≡◌, ℕ, ◌≤◌, ◌⊎◌, Bool, true, false, List, [], ◌++◌, Option, Some, None, refl, sym, ap, ◌∙◌, subst, append_assoc, append-nil, arith, inl, inr, take, drop}
+use Rattle.std.proofs.Common.{◌≡◌, ℕ, ◌≤◌, ◌⊎◌, Bool, true, false, List, [], ◌++◌, Option, Some, None, Result, Ok, Err, IsSome, refl, sym, ap, ◌∙◌, subst, append_assoc, append-nil, arith, inl, inr, take, drop}
 use Rattle.std.specs.Prelude.{option_map}
 use Rattle.std.proofs.lemmas.List.{take-append-drop}
 use Rattle.z_types.specs.declared.marks.End.{End}
@@ -9,7 +9,8 @@ use Rattle.z_types.specs.declared.sitting.Sitting as sitting
 use Rattle.z_types.specs.declared.world.World as world
 use Rattle.z_types.specs.Counts.{Rose}
 use Rattle.route_config.specs.declared.route.Route.{Route}
-use Rattle.gateway_rules.specs.Answers.{Answers}
+use Rattle.sru_rules.specs.Answers.{Answers}
+use Rattle.sru_rules.specs.Laws.{HeadIsCut}
 use Rattle.gw_outside.specs.Sinks.{ReceivedPrefix, appended}
 use Rattle.gw_outside.specs.Sources.{HasEnded}
 use Rattle.leg.specs.declared.answers.Turned.{Turned}
@@ -17,11 +18,20 @@ use Rattle.leg.specs.declared.answers.Turned.TheVariants as turned
 use Rattle.package.specs.steps.Packages.{PackageView}
 use Rattle.front_conn.specs.Serving.{AreInFront, IsCaused, IsServed, SinkView, SourceView, Streams}
 use Rattle.front_conn.specs.declared.stepped.Stepped.TheVariants.{Idle, NotYet, Went, Memory}
-use Rattle.front_conn.specs.steps.Answering.{AnsweringState, EndsByUnit, Outside, WorksOn}
+use Rattle.front_sru.specs.Gets.{IsEnded, work_of}
+use Rattle.front_sru.specs.declared.begun.Begun as sru_begun
+use Rattle.front_sru.specs.declared.begun.Begun.TheVariants as get
+use Rattle.front_sru.specs.declared.state.SruStage.{SruStage}
+use Rattle.front_sru.specs.declared.state.SruStage.TheVariants as at
+use Rattle.front_http.proofs.Gets.{get-closed}
+use Rattle.z_types.specs.declared.memory.Memory.{Memory as NoMemory}
+use Rattle.package.specs.steps.Ends.{outcome_in}
+use Rattle.front_conn.specs.declared.stepped.Stepped.{Stepped}
+use Rattle.front_conn.specs.steps.Answering.{AnsweringState, EndsAt, EndsByUnit, EndsWork, IsEndAfter, IsKeptBehindGet, Outside, WorksOn, get_served}
 use Rattle.front_conn.specs.steps.Feeding.{StandsAtStart, StandsWhenEnded, StandsWhenFed, StandsWhenWritten, fed_piece, with_end, with_piece, without_out}
 use Rattle.front_conn.specs.steps.Serving.{EndsByOctets, IsIdle, IsIdleAt, IsServing, IsWrittenOut}
 use Rattle.front_conn.specs.steps.States.{ConnectionState, nothing_yet}
-use Rattle.front_conn.specs.steps.Steps.{EndsAtRest, EndsByRest, IsStepped, KeepsState, NothingWaits, StepsFrom, answering_of}
+use Rattle.front_conn.specs.steps.Steps.{EndsAtRest, EndsByRest, IsStepped, KeepsState, NothingWaits, StepsFrom, TakesHead, TakesUnit, answering_of}
 use Rattle.front_conn.proofs.WrittenLemmas.{end-written, idle-answered, written-in_front}
 use Rattle.front_session.specs.Sessions.{new_session}
 
@@ -73,36 +83,92 @@ pub record EndsSo {S : Type 0} (old new : ConnectionState S) : Type 0 where
   pub ends : EndsByOctets new.has_ended new.end
   pub has_ended : new.has_ended ≡ old.has_ended
 
+-- a package that is over went, or memory was wanting
+over-says : (done : Result (Option End) NoMemory) (end : Option End) (answer : Stepped) → IsEndAfter done end answer
+    → (answer ≡ Went) ⊎ (answer ≡ Memory)
+over-says (Ok ended) end answer after = inl after.1
+over-says (Err want) end answer after = inr after.1
+
+no-not_yet : (NotYet ≡ Went) ⊎ (NotYet ≡ Memory) → ⊥
+no-not_yet (inl h) = cc
+no-not_yet (inr h) = cc
+
+no-idle : (Idle ≡ Went) ⊎ (Idle ≡ Memory) → ⊥
+no-idle (inl h) = cc
+no-idle (inr h) = cc
+
 module _ {S : Type 0} where
   ends-by_rest : (old new : ConnectionState S) → EndsByRest old new → EndsByOctets old.has_ended new.end
   ends-by_rest old new h = ends-at_rest old.has_ended new.end h.ended
 
-  taken-or-rest : {A : Type 0} (old new : ConnectionState S) → (A → EndsByUnit new.end) → new.has_ended ≡ old.has_ended
-      → A ⊎ EndsByRest old new → EndsByOctets new.has_ended new.end
-  taken-or-rest old new by_unit same (inl took) = ends-by_unit new.has_ended new.end (by_unit took)
-  taken-or-rest old new by_unit same (inr rest) =
+  went-ends : (route : Route) (old new : ConnectionState S) → new.has_ended ≡ old.has_ended
+      → TakesUnit route old new ⊎ TakesHead route old new ⊎ EndsByRest old new → EndsByOctets new.has_ended new.end
+  went-ends route old new same (inl took) = ends-by_unit new.has_ended new.end took.ended
+  went-ends route old new same (inr (inl took)) = ends-by_unit new.has_ended new.end took.ended
+  went-ends route old new same (inr (inr rest)) =
       subst (λ (b : Bool). EndsByOctets b new.end) (sym same) (ends-by_rest old new rest)
 
   module _ (route : Route) where
-    works-memory : (answer : Turned) (next : PackageView S) (old new : AnsweringState S) → WorksOn route answer next old new Memory
-        → new.marks ≡ old.marks
-    works-memory turned.Went next old new h = let wrong = h.0 in absurd cc
-    works-memory turned.NotYet next old new h = let wrong = h.0 in absurd cc
-    works-memory turned.Done next old new h = h.answered.marks
-    works-memory turned.Memory next old new h = ap (λ (s : AnsweringState S). s.marks) h.1
+    ended-marks : (stage : SruStage) (next : PackageView S) (old new : AnsweringState S) (want : NoMemory)
+        → EndsAt route stage next old new (Err want) → new.marks ≡ old.marks
+    ended-marks at.Idle next old new want h = h.0.marks
+    ended-marks (at.Searching retrieval) next old new want h = h.0.marks
+    ended-marks (at.Fetching retrieval hits) next old new want h = h.0.marks
 
-    works-not_yet : (answer : Turned) (next : PackageView S) (old new : AnsweringState S) → WorksOn route answer next old new NotYet
-        → new.out ≡ old.out
-    works-not_yet turned.Went next old new h = let wrong = h.0 in absurd cc
-    works-not_yet turned.NotYet next old new h = ap (λ (s : AnsweringState S). s.out) h.1
-    works-not_yet turned.Done next old new h = absurd h.answered
-    works-not_yet turned.Memory next old new h = let wrong = h.0 in absurd cc
+    over-marks : (done : Result (Option End) NoMemory) (end : Option End) (next : PackageView S) (old new : AnsweringState S)
+        → EndsWork route next old new done → IsEndAfter done end Memory → new.marks ≡ old.marks
+    over-marks (Ok ended) end next old new h after = let wrong = after.1 in absurd cc
+    over-marks (Err want) end next old new h after = ended-marks old.stage next old new want h.went
 
-    works-idle : (answer : Turned) (next : PackageView S) (old new : AnsweringState S) → WorksOn route answer next old new Idle → ⊥
-    works-idle turned.Went next old new h = let wrong = h.0 in absurd cc
-    works-idle turned.NotYet next old new h = let wrong = h.0 in absurd cc
-    works-idle turned.Done next old new h = h.answered
-    works-idle turned.Memory next old new h = let wrong = h.0 in absurd cc
+    works-memory : (answer : Turned) (next : PackageView S) (old new : AnsweringState S) (end : Option End)
+        → WorksOn route answer next old new Memory end → new.marks ≡ old.marks
+    works-memory turned.Went next old new end h = let wrong = h.0 in absurd cc
+    works-memory turned.NotYet next old new end h = let wrong = h.0 in absurd cc
+    works-memory turned.Done next old new end h = over-marks h.done end next old new h.ends h.after
+    works-memory turned.Memory next old new end h = ap (λ (s : AnsweringState S). s.marks) h.1
+
+    works-not_yet : (answer : Turned) (next : PackageView S) (old new : AnsweringState S) (end : Option End)
+        → WorksOn route answer next old new NotYet end → (new.out ≡ old.out) × (end ≡ None)
+    works-not_yet turned.Went next old new end h = let wrong = h.0 in absurd cc
+    works-not_yet turned.NotYet next old new end h = (ap (λ (s : AnsweringState S). s.out) h.1, h.2)
+    works-not_yet turned.Done next old new end h = absurd (no-not_yet (over-says h.done end NotYet h.after))
+    works-not_yet turned.Memory next old new end h = let wrong = h.0 in absurd cc
+
+    works-idle : (answer : Turned) (next : PackageView S) (old new : AnsweringState S) (end : Option End)
+        → WorksOn route answer next old new Idle end → ⊥
+    works-idle turned.Went next old new end h = let wrong = h.0 in absurd cc
+    works-idle turned.NotYet next old new end h = let wrong = h.0 in absurd cc
+    works-idle turned.Done next old new end h = no-idle (over-says h.done end Idle h.after)
+    works-idle turned.Memory next old new end h = let wrong = h.0 in absurd cc
+
+    -- how a connection has ended behind a work of its GET
+    get-ends : (next : PackageView S) (old new : AnsweringState S) (ended : Option End) (answer : sru_begun.Begun)
+        → IsSome (work_of route old.stage) → IsEnded route (outcome_in route next) (get_served old) (get_served new) answer
+        → IsKeptBehindGet route next old new ended answer → EndsByUnit ended
+    get-ends next old new ended get.Memory some h kept = absurd kept
+    get-ends next old new ended (get.Write mark end) some h kept =
+        subst EndsByUnit (sym (kept.0 ∙ get-closed route (outcome_in route next) (get_served old) (get_served new) mark end some h)) tt
+    get-ends next old new ended (get.Work job) some h kept = subst EndsByUnit (sym kept.0) tt
+
+    ended-ends : (stage : SruStage) (next : PackageView S) (old new : AnsweringState S) (ended : Option End) → old.stage ≡ stage
+        → EndsAt route stage next old new (Ok ended) → EndsByUnit ended
+    ended-ends at.Idle next old new ended is h = subst EndsByUnit (sym h.0) tt
+    ended-ends (at.Searching retrieval) next old new ended is h =
+        get-ends next old new ended h.answer (subst (λ (s : SruStage). IsSome (work_of route s)) (sym is) refl) h.went h.kept
+    ended-ends (at.Fetching retrieval hits) next old new ended is h =
+        get-ends next old new ended h.answer (subst (λ (s : SruStage). IsSome (work_of route s)) (sym is) refl) h.went h.kept
+
+    over-ends : (done : Result (Option End) NoMemory) (end : Option End) (next : PackageView S) (old new : AnsweringState S)
+        → EndsWork route next old new done → IsEndAfter done end Went → EndsByUnit end
+    over-ends (Ok ended) end next old new h after = subst EndsByUnit (sym after.0) (ended-ends old.stage next old new ended refl h.went)
+    over-ends (Err want) end next old new h after = let wrong = after.1 in absurd cc
+
+    works-went : (answer : Turned) (next : PackageView S) (old new : AnsweringState S) (end : Option End)
+        → WorksOn route answer next old new Went end → EndsByUnit end
+    works-went turned.Went next old new end h = subst EndsByUnit (sym h.2) tt
+    works-went turned.NotYet next old new end h = let wrong = h.0 in absurd cc
+    works-went turned.Done next old new end h = over-ends h.done end next old new h.ends h.after
+    works-went turned.Memory next old new end h = let wrong = h.0 in absurd cc
 
 module _ {W S : Type 0} (w : world.Ghosts W) (t : sitting.Ghosts S W) (exact : Bool) (route : Route) (now : ℕ)
     (old new : ConnectionState S) (before behind : Outside S) where
@@ -110,7 +176,7 @@ module _ {W S : Type 0} (w : world.Ghosts W) (t : sitting.Ghosts S W) (exact : B
       → StepsFrom w t exact route now end works old new Memory before behind → new.marks ≡ old.marks
   memory-by (Some end) works h = let wrong = h.0 in absurd cc
   memory-by None None h = h.0.unbegun.unwritten.marks
-  memory-by None (Some view) h = works-memory route h.turns.turned h.turns.next (answering_of old) (answering_of new) h.turns.works
+  memory-by None (Some view) h = works-memory route h.turns.turned h.turns.next (answering_of old) (answering_of new) new.end h.turns.works
 
   -- without memory the marks are those before
   pub step-memory : IsStepped w t exact route now old new Memory before behind → new.marks ≡ old.marks
@@ -120,13 +186,11 @@ module _ {W S : Type 0} (w : world.Ghosts W) (t : sitting.Ghosts S W) (exact : B
       → StepsFrom w t exact route now end works old new NotYet before behind → (new.out ≡ old.out) × EndsSo old new
   not_yet-by (Some end) works h = let wrong = h.0 in absurd cc
   not_yet-by None None h = absurd h.0
-  not_yet-by None (Some view) h = (
-    works-not_yet route h.turns.turned h.turns.next (answering_of old) (answering_of new) h.turns.works,
-    record {
-      ends = subst (EndsByOctets new.has_ended) (sym h.input.ended) tt;
-      has_ended = h.input.has_ended;
-    },
-  )
+  not_yet-by None (Some view) h =
+      let is = works-not_yet route h.turns.turned h.turns.next (answering_of old) (answering_of new) new.end h.turns.works in (
+        is.0,
+        record { ends = subst (EndsByOctets new.has_ended) (sym is.1) tt; has_ended = h.input.has_ended },
+      )
 
   -- where nothing was heard, nothing is to be written
   pub step-not_yet : IsStepped w t exact route now old new NotYet before behind → (new.out ≡ old.out) × EndsSo old new
@@ -135,12 +199,10 @@ module _ {W S : Type 0} (w : world.Ghosts W) (t : sitting.Ghosts S W) (exact : B
   went-by : (end : Option End) (works : Option (PackageView S))
       → StepsFrom w t exact route now end works old new Went before behind → EndsSo old new
   went-by (Some end) works h = let wrong = h.0 in absurd cc
-  went-by None None h = record {
-    ends = taken-or-rest old new (λ took. took.ended) h.0.1 h.0.2;
-    has_ended = h.0.1;
-  }
+  went-by None None h = record { ends = went-ends route old new h.0.1 h.0.2; has_ended = h.0.1 }
   went-by None (Some view) h = record {
-    ends = subst (EndsByOctets new.has_ended) (sym h.input.ended) tt;
+    ends = ends-by_unit new.has_ended new.end
+        (works-went route h.turns.turned h.turns.next (answering_of old) (answering_of new) new.end h.turns.works);
     has_ended = h.input.has_ended;
   }
 
@@ -152,7 +214,7 @@ module _ {W S : Type 0} (w : world.Ghosts W) (t : sitting.Ghosts S W) (exact : B
   idle-by (Some end) works e f h = (h.1, tt)
   idle-by None None e f h = (h.0.1, (f, h.0.0))
   idle-by None (Some view) e f h =
-      absurd (works-idle route h.turns.turned h.turns.next (answering_of old) (answering_of new) h.turns.works)
+      absurd (works-idle route h.turns.turned h.turns.next (answering_of old) (answering_of new) new.end h.turns.works)
 
   -- where nothing was done, there is nothing to do
   pub step-idle : IsStepped w t exact route now old new Idle before behind → (new ≡ old) × IsIdle old
@@ -343,17 +405,17 @@ module _ {W S : Type 0} (w : world.Ghosts W) (t : sitting.Ghosts S W) (route : R
         nothing_out = at.nothing_out;
       }
 
-  pub serving-unread : (old new : SourceView) (output : SinkView) (state : ConnectionState S) → state.end ≡ None
+  pub serving-unread : HeadIsCut w → (old new : SourceView) (output : SinkView) (state : ConnectionState S) → state.end ≡ None
       → state.in_work ≡ None → NothingWaits state → new.given ≡ old.given → Rose old.faults new.faults
       → IsWrittenOut w route start (record { input = old; output = output }) state
       → IsServed w route start (record { input = new; output = output }) state.marks how.ReadFault
-  serving-unread old new output state goes rests nothing gave rose at =
+  serving-unread law old new output state goes rests nothing gave rose at =
       let serving = at.serving in record {
         read = serving.read;
         written = serving.written;
         given = gave ∙ serving.given;
         received = serving.received;
-        answers = λ fair. idle-answered w route serving.read serving.written state goes rests nothing at.nothing_out (serving.stands fair);
+        answers = λ fair. idle-answered w route law serving.read serving.written state goes rests nothing at.nothing_out (serving.stands fair);
         caused = omega (arith, serving.reads, rose);
       }
 

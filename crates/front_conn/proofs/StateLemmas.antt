@@ -14,7 +14,11 @@ use Rattle.z_types.specs.Bounds.{within64}
 use Rattle.route_config.specs.declared.route.Route.{Route}
 use Rattle.unit_forms.specs.Replies.{spell_reply}
 use Rattle.gateway_rules.specs.Answers as kind
-use Rattle.gateway_rules.specs.Answers.{Answers, kind_of, IsReceived}
+use Rattle.gateway_rules.specs.Answers.{Kind, kind_of, IsReceived}
+use Rattle.sru_rules.specs.Answers.{Answers, AnswersAs}
+use Rattle.front_sru.specs.declared.state.SruStage.{SruStage}
+use Rattle.front_sru.specs.declared.state.SruStage.TheVariants.{Idle, Searching, Fetching}
+use Rattle.front_http.specs.Gets.{WaitsFor}
 use Rattle.gateway_rules.specs.Course as course
 use Rattle.gateway_rules.specs.Course.{Meeting, Received, octets_of, met, met_in_place, is_in_place, after, accepts, leads_to}
 use Rattle.gateway_rules.specs.Marks.{Cause, Taken, IsAllowed}
@@ -28,7 +32,7 @@ use Rattle.front_session.specs.Sessions.{SessionState, client_of, progress_of}
 use Rattle.front_z.specs.Units.{Served}
 use Rattle.package.specs.steps.Packages.{PackageView}
 use Rattle.front_conn.specs.steps.Answering.{IsAnsweredUnder}
-use Rattle.front_conn.specs.steps.States.{BeginsWithUnits, ConnectionState, HasAnswered, HasEnded, IsStateOf, Rests, StandsOrEnded, Works}
+use Rattle.front_conn.specs.steps.States.{BeginsWithUnits, ConnectionState, HasAnswered, HasEnded, IsStateOf, Rests, StandsOrEnded, Works, WorksAt, WorksOnGet}
 
 -- ---- octets
 
@@ -69,6 +73,15 @@ pub begins-snoc : (units : List Received) (unit : Received) (fed : List ℕ) →
     → BeginsWithUnits (units ++ unit ∷ []) fed
 begins-snoc [] unit fed h = h
 begins-snoc (first ∷ units) unit fed h = h
+
+-- the answers to units are those to a connection that begins with one, and to one on which nothing comes
+pub as-units : {W : Type 0} (w : world.Ghosts W) (route : Route) (bytes : List ℕ) (marks : List Mark) (out : List ℕ) (end : End)
+    → kind_of bytes ≡ kind.unit → kind.Answers w route bytes marks out end → Answers w route bytes marks out end
+as-units w route bytes marks out end is all = subst (λ (k : Kind). AnswersAs k w route bytes marks out end) (sym is) all
+
+pub as-none : {W : Type 0} (w : world.Ghosts W) (route : Route) (bytes : List ℕ) (marks : List Mark) (out : List ℕ) (end : End)
+    → kind_of bytes ≡ kind.empty → kind.Answers w route bytes marks out end → Answers w route bytes marks out end
+as-none w route bytes marks out end is all = subst (λ (k : Kind). AnswersAs k w route bytes marks out end) (sym is) all
 
 -- ---- how a unit is met
 
@@ -111,10 +124,10 @@ rests-of w route fed written state goes rests h =
     subst (λ i. StandsOrEnded w route fed written state None i) rests
     (subst (λ (e : Option End). StandsOrEnded w route fed written state e state.in_work) goes h)
 
-pub works-of : {W S : Type 0} (w : world.Ghosts W) (route : Route) (fed written : List ℕ) (state : ConnectionState S)
+pub works-at : {W S : Type 0} (w : world.Ghosts W) (route : Route) (fed written : List ℕ) (state : ConnectionState S)
     (view : PackageView S) → state.end ≡ None → state.in_work ≡ Some view → IsStateOf w route fed written state
-    → Works w route fed written state view
-works-of w route fed written state view goes works h =
+    → WorksAt w route fed written state state.stage view
+works-at w route fed written state view goes works h =
     subst (λ i. StandsOrEnded w route fed written state None i) works
     (subst (λ (e : Option End). StandsOrEnded w route fed written state e state.in_work) goes h)
 
@@ -129,6 +142,28 @@ pub of-standing : {W S : Type 0} (w : world.Ghosts W) (route : Route) (fed writt
 of-standing w route fed written state works goes is h =
     subst (λ (e : Option End). StandsOrEnded w route fed written state e state.in_work) (sym goes)
     (subst (λ i. StandsOrEnded w route fed written state None i) (sym is) h)
+
+-- where the session's request is in work
+pub works-idle : {W S : Type 0} (w : world.Ghosts W) (route : Route) (fed written : List ℕ) (state : ConnectionState S)
+    (view : PackageView S) → state.end ≡ None → state.in_work ≡ Some view → state.stage ≡ Idle → Works w route fed written state view
+    → IsStateOf w route fed written state
+works-idle w route fed written state view goes works idle h =
+    of-standing w route fed written state (Some view) goes works
+    (subst (λ (s : SruStage). WorksAt w route fed written state s view) (sym idle) h)
+
+-- where the GET is
+get-at : {W S : Type 0} (w : world.Ghosts W) (route : Route) (fed written : List ℕ) (state : ConnectionState S) (view : PackageView S)
+    (k : WorksOnGet w route fed written state view) (stage : SruStage) → state.stage ≡ stage → WorksAt w route fed written state stage view
+get-at w route fed written state view k Idle is =
+    absurd (subst (λ (s : SruStage). WaitsFor w route k.stands.retrieval s) is k.stands.waits)
+get-at w route fed written state view k (Searching retrieval) is = k
+get-at w route fed written state view k (Fetching retrieval hits) is = k
+
+pub works-get : {W S : Type 0} (w : world.Ghosts W) (route : Route) (fed written : List ℕ) (state : ConnectionState S)
+    (view : PackageView S) → state.end ≡ None → state.in_work ≡ Some view → WorksOnGet w route fed written state view
+    → IsStateOf w route fed written state
+works-get w route fed written state view goes works k =
+    of-standing w route fed written state (Some view) goes works (get-at w route fed written state view k state.stage refl)
 
 -- ---- one unit more
 
@@ -182,7 +217,8 @@ over-ended w route fed written old new unit causes reply second end rb first tak
     λ more may.
     let octets = spelled-more (rb.units ++ unit ∷ []) fed new.left more spelled in
     let of_kind = subst (λ (o : List ℕ). kind_of o ≡ kind.unit) (sym octets) (kind-more fed more of_units) in
-    let all = units-end w route (rb.units ++ unit ∷ []) (before.causes ++ causes) _ end (new.left ++ more) whole stop of_kind in
+    let all = as-units w route (octets_of (rb.units ++ unit ∷ []) ++ (new.left ++ more)) _ _ end of_kind
+    (units-end w route (rb.units ++ unit ∷ []) (before.causes ++ causes) _ end (new.left ++ more) whole stop of_kind) in
     let by_octets = subst (λ (o : List ℕ). Answers w route o (marks_of (before.causes ++ causes)) (written_as (before.got.replies ++ second.replies)) end) octets all in
     let by_marks = subst (λ (m : List Mark). Answers w route (fed ++ more) m (written_as (before.got.replies ++ second.replies)) end) all_marks by_octets in
     subst (λ (o : List ℕ). Answers w route (fed ++ more) new.marks o end) (sym all_written) by_marks

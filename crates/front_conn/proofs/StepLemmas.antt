@@ -13,25 +13,32 @@ use Rattle.z_frame.specs.Framing.{Framing}
 use Rattle.gateway_rules.specs.Replies.{bad_unit_reply}
 use Rattle.package.specs.steps.Packages.{IsPackageOf, PackageView}
 use Rattle.front_conn.specs.steps.Ahead.{AreAhead}
-use Rattle.front_conn.specs.steps.Answering.{AnsweringState, IsBegunSo, IsUnbegun, IsUnitBegun}
+use Rattle.sru_request.specs.declared.faults.HeadFault.{HeadFault}
+use Rattle.sru_request.specs.declared.head.Get.{Get}
+use Rattle.sru_rules.specs.Laws.{HeadIsCut}
+use Rattle.front_session.specs.Sessions.{SessionState}
+use Rattle.front_http.specs.Laws.{HeadsAnswer, HeadsStand}
+use Rattle.front_conn.specs.steps.Answering.{AnsweringState, IsBegunSo, IsEndAfter, IsHeadBegunSo, IsHeadTaken, IsUnbegun, IsUnitBegun}
 use Rattle.front_conn.specs.steps.States.{ConnectionState, HasLegsOf, IsOfRoute, IsOneWork, IsStateOf}
-use Rattle.front_conn.specs.steps.Steps.{EndsAtRest, GoesAhead, IsEndAfter, KeepsState, NothingWaits, UnlessMemory}
-use Rattle.front_conn.specs.declared.ahead.Ahead.TheVariants.{Nothing, Ended, Bad, Whole}
+use Rattle.front_conn.specs.steps.Steps.{EndsAtRest, GoesAhead, KeepsState, NothingWaits, UnlessMemory}
+use Rattle.front_conn.specs.declared.ahead.Ahead.TheVariants.{Nothing, Ended, Bad, Whole, Head}
 use Rattle.front_conn.specs.declared.stepped.Stepped.{Stepped}
-use Rattle.front_conn.proofs.AheadLemmas.{ahead-bad, ahead-ended, ahead-nothing, ahead-whole, busy-bad, busy-ended, busy-whole}
+use Rattle.front_conn.proofs.AheadLemmas.{ahead-bad, ahead-ended, ahead-head, ahead-nothing, ahead-whole, busy-bad, busy-ended, busy-head, busy-whole}
+use Rattle.front_conn.proofs.HeadKeeps.{head-keeps, taken-ends}
 use Rattle.front_conn.proofs.EndLemmas.{EndsSo, end-keeps, frame-octets, refuse-keeps}
 use Rattle.front_conn.proofs.UnitLemmas.{begun-ends, unit-keeps, unit-sets}
 
 -- how the end of the input ends it
 ends-at : (has_ended : Bool) (at : ℕ) (left : List ℕ) (how : End) → has_ended ≡ true → EndsSo at left how → EndsAtRest has_ended (Some how)
 ends-at has_ended at [] how is so = subst (λ (e : End). EndsAtRest has_ended (Some e)) (sym so) is
-ends-at has_ended at (octet ∷ octets) how is so = subst (λ (e : End). EndsAtRest has_ended (Some e)) (sym so.1) is
+ends-at has_ended at (octet ∷ octets) how is so = subst (λ (e : End). EndsAtRest has_ended (Some e)) (sym so.0) is
 
 module _ {S : Type 0} where
   -- the state of a connection with such parts
   abbrev pub state_of : Framing → AnsweringState S → Option End → Bool → ConnectionState S
   state_of f a end has_ended = record {
     session = a.session;
+    stage = a.stage;
     in_work = a.in_work;
     totals = a.totals;
     marks = a.marks;
@@ -71,7 +78,7 @@ module _ {S : Type 0} where
       (subst (λ (s : Stepped). GoesAhead route here new s) (sym done.1) (
         busy-ended here ahead.0,
         refl,
-        inr (record {
+        inr (inr (record {
           left = ahead.2.stays.rest;
           at = ahead.2.stays.place;
           session = refl;
@@ -79,18 +86,18 @@ module _ {S : Type 0} where
           totals = refl;
           marks = refl;
           ended = some;
-        }),
+        })),
       ))
 
-  pub keeps-ended : {W : Type 0} (w : world.Ghosts W) (route : Route) (f g : Framing) (a : AnsweringState S) (end new_end : Option End)
+  pub keeps-ended : {W : Type 0} (w : world.Ghosts W) (law : HeadIsCut w) (route : Route) (f g : Framing) (a : AnsweringState S) (end new_end : Option End)
       (has_ended : Bool) (old : ConnectionState S) (how : End) (answer : Stepped) → state_of f a end has_ended ≡ old → end ≡ None
       → a.in_work ≡ None → AreAhead f.rest has_ended f g (Ended how) → IsEndAfter (Ok (Some how)) new_end answer
       → UnlessMemory answer (KeepsState w route old (state_of g a new_end has_ended))
-  keeps-ended w route f g a end new_end has_ended old how answer e goes rests h done =
+  keeps-ended w law route f g a end new_end has_ended old how answer e goes rests h done =
       let here : ConnectionState S = state_of f a end has_ended in
       let new : ConnectionState S = state_of g a new_end has_ended in
       let ahead = ahead-ended f.rest has_ended f g how refl h in
-      let keeps = end-keeps w route here new how
+      let keeps = end-keeps w route here new how law
       (record { goes = goes; rests = rests; ended = done.0; input = ahead.0; marks = refl; out = refl }) ahead.1 in
       subst (λ (s : Stepped). UnlessMemory s (KeepsState w route old new)) (sym done.1)
       (subst (λ (o : ConnectionState S). KeepsState w route o new) e keeps)
@@ -111,7 +118,7 @@ module _ {S : Type 0} where
       (subst (λ (s : Stepped). GoesAhead route here new s) (sym done.1) (
         busy-bad here at ahead.0,
         refl,
-        inr (record {
+        inr (inr (record {
           left = ahead.1.rest;
           at = ahead.1.place;
           session = ap (λ (s : AnsweringState S). s.session) put;
@@ -119,7 +126,7 @@ module _ {S : Type 0} where
           totals = ap (λ (s : AnsweringState S). s.totals) put;
           marks = ap (λ (s : AnsweringState S). s.marks) put;
           ended = some;
-        }),
+        })),
       ))
   goes-bad route f g a b end new_end has_ended old at (Err want) answer e rests h how put none done =
       let here : ConnectionState S = state_of f a end has_ended in
@@ -169,7 +176,7 @@ module _ {S : Type 0} where
       let by_end = subst (λ (o : Option End). IsUnitBegun route f.end g.unit a b o) (sym done.0) at_place in
       subst (λ (o : ConnectionState S). GoesAhead route o new answer) e
       (subst (λ (s : Stepped). GoesAhead route here new s) (sym done.1) (
-        busy-whole here g.unit g.rest ahead.given.frame ahead.given.spelled,
+        busy-whole here g.unit g.rest ahead.given.frame ahead.given.spelled ahead.first,
         refl,
         inl (record {
           unit = g.unit;
@@ -212,11 +219,75 @@ module _ {S : Type 0} where
   keeps-whole w route f g a b end new_end has_ended old from to unit (Err want) answer e goes rests h is begun done =
       subst (λ (s : Stepped). UnlessMemory s (KeepsState w route old (state_of g b new_end has_ended))) (sym done.1) tt
 
+-- ---- a head
+
+module _ {W S : Type 0} (w : world.Ghosts W) (t : sitting.Ghosts S W) (route : Route) (f g : Framing) (a b : AnsweringState S)
+    (end new_end : Option End) (has_ended : Bool) (old : ConnectionState S) (head : Result Get HeadFault)
+    (is : state_of f a end has_ended ≡ old) (ahead : AreAhead f.rest has_ended f g (Head head)) where
+  abbrev at_head : ConnectionState S
+  at_head = state_of f a end has_ended
+
+  abbrev behind_head : ConnectionState S
+  behind_head = state_of g b new_end has_ended
+
+  pub goes-head : (done : Result (Option End) memory.Memory) (answer : Stepped) → IsHeadBegunSo w t route head a b done
+      → IsEndAfter done new_end answer → GoesAhead route old behind_head answer
+  goes-head (Ok ended) answer h done =
+      let so = ahead-head f.rest has_ended f g head refl ahead in
+      let taken = subst (λ (o : Option End). IsHeadTaken route head a b o) (sym done.0) h.0 in
+      subst (λ (o : ConnectionState S). GoesAhead route o behind_head answer) is
+      (subst (λ (s : Stepped). GoesAhead route at_head behind_head s) (sym done.1) (
+        busy-head at_head head so.0,
+        refl,
+        inr (inl (record {
+          at_start = so.0.0;
+          first = so.0.1;
+          head = head;
+          is_head = so.0.2;
+          at = so.1.stays.place;
+          left = so.1.stays.rest;
+          taken = taken;
+          ended = taken-ends route head a b new_end taken;
+        })),
+      ))
+  goes-head (Err want) answer h done =
+      subst (λ (o : ConnectionState S). GoesAhead route o behind_head answer) is
+      (subst (λ (s : Stepped). GoesAhead route at_head behind_head s) (sym done.1)
+      (record { ended = done.0; has_ended = refl; unbegun = h }))
+
+  pub keeps-head : HeadsAnswer w → HeadsStand w → end ≡ None → a.in_work ≡ None → (done : Result (Option End) memory.Memory)
+      (answer : Stepped) → IsHeadBegunSo w t route head a b done → IsEndAfter done new_end answer
+      → UnlessMemory answer (KeepsState w route old behind_head)
+  keeps-head answers stands goes rests (Ok ended) answer h done =
+      let so = ahead-head f.rest has_ended f g head refl ahead in
+      let taken = subst (λ (o : Option End). IsHeadTaken route head a b o) (sym done.0) h.0 in
+      let keeps = head-keeps w route at_head behind_head head answers stands (record {
+        goes = goes;
+        rests = rests;
+        so = so.0;
+        taken = taken;
+        one_work = h.1.one_work;
+      }) in
+      subst (λ (s : Stepped). UnlessMemory s (KeepsState w route old behind_head)) (sym done.1)
+      (subst (λ (o : ConnectionState S). KeepsState w route o behind_head) is keeps)
+  keeps-head answers stands goes rests (Err want) answer h done =
+      subst (λ (s : Stepped). UnlessMemory s (KeepsState w route old behind_head)) (sym done.1) tt
+
+  pub head-of : (most : ℕ) (done : Result (Option End) memory.Memory) (answer : Stepped) → AllByRecursion (HasLegsOf route) a.session.sets
+      → IsHeadBegunSo w t route head a b done → IsEndAfter done new_end answer → new_end ≡ None
+      → IsOfRoute w t route most b.session b.stage b.in_work
+  head-of most (Ok ended) answer sets h done goes = record {
+    sets = subst (λ (s : SessionState). AllByRecursion (HasLegsOf route) s.sets) (sym h.0.session) sets;
+    in_work = h.1.of most;
+    one_work = h.1.one_work;
+  }
+  head-of most (Err want) answer sets h done goes = let wrong = sym done.0 ∙ goes in absurd cc
+
 -- ---- by what begins a unit
 
 module _ {W S : Type 0} (w : world.Ghosts W) (t : sitting.Ghosts S W) (route : Route) (at : ℕ) (unit : List ℕ) (a b : AnsweringState S) where
   pub begun-ok : (done : Result (Option End) memory.Memory) → IsBegunSo w t route at unit a b done → IfOk done (IsUnitBegun route at unit a b)
-  begun-ok (Ok ended) h = h.begun
+  begun-ok (Ok ended) h = h.0
   begun-ok (Err want) h = tt
 
   pub begun-err : (done : Result (Option End) memory.Memory) → IsBegunSo w t route at unit a b done → OnErr done (IsUnbegun route a b)
@@ -225,17 +296,13 @@ module _ {W S : Type 0} (w : world.Ghosts W) (t : sitting.Ghosts S W) (route : R
 
   pub begun-of : (most : ℕ) (done : Result (Option End) memory.Memory) (end : Option End) (answer : Stepped)
       → AllByRecursion (HasLegsOf route) a.session.sets → IsBegunSo w t route at unit a b done → IsEndAfter done end answer → end ≡ None
-      → IsOfRoute w t route most b.session.sets b.in_work
+      → IsOfRoute w t route most b.session b.stage b.in_work
   begun-of most (Ok ended) end answer sets h done goes = record {
-    sets = unit-sets route at unit a b ended sets h.begun (sym done.0 ∙ goes);
-    in_work = h.of most;
+    sets = unit-sets route at unit a b ended sets h.0 (sym done.0 ∙ goes);
+    in_work = h.1.of most;
+    one_work = h.1.one_work;
   }
   begun-of most (Err want) end answer sets h done goes = let wrong = sym done.0 ∙ goes in absurd cc
-
-  pub begun-one : (done : Result (Option End) memory.Memory) (end : Option End) (answer : Stepped)
-      → IsBegunSo w t route at unit a b done → IsEndAfter done end answer → end ≡ None → IsOneWork b.session.waiting b.in_work
-  begun-one (Ok ended) end answer h done goes = h.one_work
-  begun-one (Err want) end answer h done goes = let wrong = sym done.0 ∙ goes in absurd cc
 
 -- a connection that ended does not go on
 some-ends : (done : Result (Option End) memory.Memory) (end : Option End) (answer : Stepped) → IfOk done IsSome → IsEndAfter done end answer
@@ -257,9 +324,12 @@ bad-stays done at end answer how put goes = absurd (some-ends done end answer (b
 
 -- a connection with no request in work, whose sets are of the route
 pub of-same : {W S : Type 0} (w : world.Ghosts W) (t : sitting.Ghosts S W) (route : Route) (most : ℕ) (a : AnsweringState S)
-    → AllByRecursion (HasLegsOf route) a.session.sets → a.in_work ≡ None → IsOfRoute w t route most a.session.sets a.in_work
-of-same {S = S} w t route most a sets rests =
-    record { sets = sets; in_work = subst (λ (i : Option (PackageView S)). IfSome i (IsPackageOf w t route most)) (sym rests) tt }
+    → AllByRecursion (HasLegsOf route) a.session.sets → a.in_work ≡ None → IsOfRoute w t route most a.session a.stage a.in_work
+of-same {S = S} w t route most a sets rests = record {
+  sets = sets;
+  in_work = subst (λ (i : Option (PackageView S)). IfSome i (IsPackageOf w t route most)) (sym rests) tt;
+  one_work = subst (λ (i : Option (PackageView S)). IsOneWork route a.session.waiting a.stage i) (sym rests) tt;
+}
 
 -- a connection that stays as it was
 pub same-keeps : {W S : Type 0} (w : world.Ghosts W) (route : Route) (old new : ConnectionState S) → new ≡ old → KeepsState w route old new

@@ -1,8 +1,10 @@
 -- A connection whose request in work had its turn stands as before, or behind the request.
-use Rattle.std.proofs.Common.{◌≡◌, ℕ, List, [], ◌∷◌, ◌++◌, Some, None, sym, ap, ◌∙◌, subst}
-use Rattle.std.specs.Prelude.{IfSome}
+use Rattle.std.proofs.Common.{◌≡◌, ℕ, List, [], ◌∷◌, ◌++◌, Option, Some, None, Result, Ok, Err, append_assoc, refl, sym, ap, ◌∙◌, subst}
 use Rattle.std.specs.List.{AllByRecursion}
+use Rattle.z_types.specs.declared.marks.End.{End}
 use Rattle.z_types.specs.declared.marks.Mark.{Mark}
+use Rattle.z_types.specs.declared.memory.Memory.{Memory as NoMemory}
+use Rattle.gateway_rules.specs.Targets.{hits_of}
 use Rattle.z_types.specs.declared.outcome.Outcome.{Outcome}
 use Rattle.z_types.specs.declared.requests.Request.{Request}
 use Rattle.z_types.specs.declared.sitting.Sitting as sitting
@@ -26,16 +28,26 @@ use Rattle.leg.specs.declared.answers.Turned.{Turned}
 use Rattle.leg.specs.declared.answers.Turned.TheVariants as turned
 use Rattle.package.specs.steps.Ends.{cause_in, outcome_in}
 use Rattle.package.specs.steps.Laws.{CauseIsAllowed, OutcomeIsTrue}
-use Rattle.package.specs.steps.Packages.{IsOver, IsPackageOf, PackageView}
+use Rattle.package.specs.steps.Packages.{IsOver, IsPackageOf, PackageView, new_package}
 use Rattle.package_rules.specs.Planned.{AreThere}
 use Rattle.package_rules.specs.Truth.{HasWorldsHits, HaveMembers}
 use Rattle.front_conn.specs.declared.stepped.Stepped.{Stepped}
-use Rattle.front_conn.specs.declared.stepped.Stepped.TheVariants.{Idle, NotYet, Went, Memory}
-use Rattle.front_conn.specs.steps.Answering.{AnsweringState, EndsWork, IsAnsweredBy, IsAnsweredUnder, WorksOn, served}
-use Rattle.front_conn.specs.steps.States.{ConnectionState, HasAnswered, HasLegsOf, HasMeantHits, IsConnOf, IsOfRoute, Rests, Works}
+use Rattle.sru_rules.specs.declared.retrieval.Retrieval.{Retrieval}
+use Rattle.sru_rules.specs.Answers.{Answers}
+use Rattle.sru_rules.specs.Asking.{fetch_work, search_work}
+use Rattle.sru_rules.specs.Laws.{FoundIsMeant}
+use Rattle.front_sru.specs.Gets.{work_of}
+use Rattle.front_sru.specs.declared.begun.Begun as sru_begun
+use Rattle.front_sru.specs.declared.begun.Begun.TheVariants as get
+use Rattle.front_sru.specs.declared.state.SruStage.{SruStage}
+use Rattle.front_sru.specs.declared.state.SruStage.TheVariants.{Idle, Searching, Fetching}
+use Rattle.front_http.specs.Gets.{GoesOnBehind, IsAnswered, StandsInGet, WaitsFor}
+use Rattle.front_http.specs.Laws.{GetsGoOn}
+use Rattle.front_conn.specs.steps.Answering.{AnsweringState, EndsAt, EndsWork, IsAnsweredBy, IsAnsweredUnder, IsEndAfter, IsGetEnded, IsKeptBehindGet, WorksOn, get_served, served}
+use Rattle.front_conn.specs.steps.States.{ConnectionState, HasAnswered, HasLegsOf, HasMeantHits, IsOneWork, IsStateOf, IsWaitedAt, Rests, Works, WorksAt, WorksOnGet}
 use Rattle.front_conn.specs.steps.Steps.{IsInputKept, KeepsState, UnlessMemory, answering_of}
 use Rattle.front_conn.proofs.SetLemmas.{asked-hits, sets-legs, sets-meant}
-use Rattle.front_conn.proofs.StateLemmas.{answered-more, begins-snoc, of-standing, works-of}
+use Rattle.front_conn.proofs.StateLemmas.{answered-more, begins-snoc, of-ended, of-standing, works-at, works-get, works-idle}
 
 -- ---- a request that is answered by what came of its legs
 
@@ -145,73 +157,201 @@ module _ {W S : Type 0} (w : world.Ghosts W) (t : sitting.Ghosts S W) (route : R
       true_next ended in
       rests-then cause may a b.marks at left
 
+-- ---- a GET in work
+
+same-of : {A : Type 0} (one other : A) → Some one ≡ Some other → one ≡ other
+same-of one other h = cc
+
+module _ {W : Type 0} (w : world.Ghosts W) (route : Route) where
+  -- the hits that its fetch goes by are the world's
+  hits-at : (retrieval : Retrieval) (stage : SruStage) (job : Work) → FoundIsMeant w → WaitsFor w route retrieval stage
+      → work_of route stage ≡ Some job → HasWorldsHits w route job
+  hits-at retrieval Idle job law waits is = absurd waits
+  hits-at retrieval (Searching asked) job law waits is =
+      subst (HasWorldsHits w route) (same-of (search_work asked) job is) tt
+  hits-at retrieval (Fetching asked hits) job law waits is =
+      subst (HasWorldsHits w route) (same-of (fetch_work route.schemas asked hits) job is)
+      (subst (λ (r : Retrieval). hits_of w route r.legs r.query ≡ Ok hits) (sym waits.0) (law route retrieval hits waits.1))
+
+module _ {W S : Type 0} (w : world.Ghosts W) (t : sitting.Ghosts S W) (route : Route) (fed written : List ℕ) (old new : ConnectionState S)
+    (view next : PackageView S) (k : WorksOnGet w route fed written old view) where
+  -- it goes on with its package
+  get-on : next.work ≡ view.work → answering_of new ≡ record (answering_of old) { in_work = Some next } → WorksOnGet w route fed written new next
+  get-on same is =
+      let stage : new.stage ≡ old.stage = ap (λ (a : AnsweringState S). a.stage) is in record {
+        kind = k.kind;
+        stands = subst (λ (s : SruStage). StandsInGet w route fed s) (sym stage) k.stands;
+        of_work = ap (work_of route) stage ∙ k.of_work ∙ ap Some (sym same);
+        no_marks = ap (λ (a : AnsweringState S). a.marks) is ∙ k.no_marks;
+        unwritten = ap (λ (a : AnsweringState S). written ++ a.out) is ∙ k.unwritten;
+      }
+
+  -- what was answered is all that is written, under its one mark
+  get-ended : (mark : Mark) (end : Option End) → new.end ≡ end → new.marks ≡ old.marks ++ mark ∷ []
+      → IsAnswered w route fed (mark ∷ []) old.out new.out end → IsStateOf w route fed written new
+  get-ended mark end ended marks a =
+      let all_marks : new.marks ≡ mark ∷ [] = marks ∙ ap (λ m. m ++ mark ∷ []) k.no_marks in
+      let all_out : written ++ new.out ≡ a.message =
+      ap (λ o. written ++ o) a.written ∙ sym (append_assoc written old.out a.message) ∙ ap (λ o. o ++ a.message) k.unwritten in
+      of-ended w route fed written new a.how (ended ∙ a.ended)
+      (λ more may.
+      subst (λ (m : List Mark). Answers w route (fed ++ more) m (written ++ new.out) a.how) (sym all_marks)
+      (subst (λ (o : List ℕ). Answers w route (fed ++ more) (mark ∷ []) o a.how) (sym all_out) (a.whole more)))
+
+  -- its fetch is begun
+  get-fetches : (job : Work) → new.end ≡ None → new.in_work ≡ Some (new_package route job) → new.marks ≡ old.marks → new.out ≡ old.out
+      → StandsInGet w route fed new.stage → work_of route new.stage ≡ Some job → IsStateOf w route fed written new
+  get-fetches job goes works marks out stands of_work =
+      works-get w route fed written new (new_package route job) goes works (record {
+        kind = k.kind;
+        stands = stands;
+        of_work = of_work;
+        no_marks = marks ∙ k.no_marks;
+        unwritten = ap (λ o. written ++ o) out ∙ k.unwritten;
+      })
+
+  -- the work of a GET that stands so
+  work-at : (retrieval : Retrieval) (waiting : Option Waiting) (job : Work) (stage : SruStage) → WaitsFor w route retrieval stage
+      → IsWaitedAt route waiting job stage → work_of route stage ≡ Some job
+  work-at retrieval waiting job Idle waits h = absurd waits
+  work-at retrieval waiting job (Searching asked) waits h = h
+  work-at retrieval waiting job (Fetching asked hits) waits h = h
+
+  one-of : (job : Work) → new.in_work ≡ Some (new_package route job) → IsOneWork route new.session.waiting new.stage new.in_work
+      → IsWaitedAt route new.session.waiting job new.stage
+  one-of job works one = subst (λ (i : Option (PackageView S)). IsOneWork route new.session.waiting new.stage i) works one
+
+  -- by what became of it
+  get-by : (answer : sru_begun.Begun) (ended : Option End) → new.end ≡ ended
+      → (new.end ≡ None → IsOneWork route new.session.waiting new.stage new.in_work)
+      → IsKeptBehindGet route next (answering_of old) (answering_of new) ended answer
+      → GoesOnBehind w route fed (cause_in route next) (get_served (answering_of old)) (get_served (answering_of new)) answer
+      → IsStateOf w route fed written new
+  get-by get.Memory ended is one kept behind = absurd kept
+  get-by (get.Write mark end) ended is one kept behind =
+      get-ended (cause_in route next).mark end (is ∙ kept.0) kept.1 behind.1
+  get-by (get.Work job) ended is one kept behind =
+      let goes : new.end ≡ None = is ∙ kept.0 in
+      get-fetches job goes kept.2 kept.1 behind.1 behind.0
+      (work-at behind.0.retrieval new.session.waiting job new.stage behind.0.waits (one-of job kept.2 (one goes)))
+
+  get-behind : (most : ℕ) → IsFair w route → IsSound route → HaveMembers route → OutcomeIsTrue w t → CauseIsAllowed w t → GetsGoOn w
+      → FoundIsMeant w → IsPackageOf w t route most next → IsOver next → next.work ≡ view.work → (ended : Option End) → new.end ≡ ended
+      → (new.end ≡ None → IsOneWork route new.session.waiting new.stage new.in_work)
+      → IsGetEnded route next (answering_of old) (answering_of new) ended → IsStateOf w route fed written new
+  get-behind most fair sound members is_true is_allowed goes_on meant of over same ended is one g =
+      let cause : Cause = cause_in route next in
+      let hits = hits-at w route k.stands.retrieval old.stage view.work meant k.stands.waits k.of_work in
+      let hits_next : HasWorldsHits w route next.work = subst (HasWorldsHits w route) (sym same) hits in
+      let true_next : outcome_in route next ≡ outcome_of w route view.work cause =
+      is_true route most next of over fair sound hits_next ∙ ap (λ j. outcome_of w route j cause) same in
+      let may = subst (λ (j : Work). IsAllowed (record { classes = classes_asked route j; cause = cause })) same
+      (is_allowed route most next of over sound members) in
+      get-by g.answer ended is one g.kept
+      (goes_on route fed (get_served (answering_of old)) (get_served (answering_of new)) view.work (outcome_in route next) cause g.answer
+      k.kind k.stands k.of_work true_next may g.went)
+
 -- ---- the turn
+
+-- what the laws of packages and GETs say
+pub record TurnLaws {W S : Type 0} (w : world.Ghosts W) (t : sitting.Ghosts S W) (route : Route) : Type 0 where
+  pub sound : IsSound route
+  pub members : HaveMembers route
+  pub is_true : OutcomeIsTrue w t
+  pub is_allowed : CauseIsAllowed w t
+  pub goes_on : GetsGoOn w
+  pub meant : FoundIsMeant w
 
 module _ {W S : Type 0} (w : world.Ghosts W) (t : sitting.Ghosts S W) (route : Route) (most : ℕ) (old new : ConnectionState S)
     (view next : PackageView S) (of : IsPackageOf w t route most next) (same : next.work ≡ view.work) where
   -- whatever was fed and written
-  ends-keeps : (answer : Stepped) → IsSound route → HaveMembers route → OutcomeIsTrue w t → CauseIsAllowed w t → old.end ≡ None
-      → old.in_work ≡ Some view → EndsWork route next (answering_of old) (answering_of new) answer → IsInputKept old new answer
-      → UnlessMemory answer (KeepsState w route old new)
-  ends-keeps Idle sound members is_true is_allowed goes works e input = absurd e.answered
-  ends-keeps NotYet sound members is_true is_allowed goes works e input = absurd e.answered
-  ends-keeps Memory sound members is_true is_allowed goes works e input = tt
-  ends-keeps Went sound members is_true is_allowed goes works e input = λ fair fed written h.
-      let k = works-of w route fed written old view goes works h in
-      of-standing w route fed written new None input.ended e.in_work
-      (settled-rests w t route fed written old new view next k most fair sound members is_true is_allowed of e.over same e.answered
+  ended-by : (laws : TurnLaws w t route) (fair : IsFair w route) (fed written : List ℕ) (stage : SruStage) (ended : Option End)
+      → IsOver next → old.stage ≡ stage → new.end ≡ ended → (new.end ≡ None → IsOneWork route new.session.waiting new.stage new.in_work)
+      → WorksAt w route fed written old stage view → EndsAt route stage next (answering_of old) (answering_of new) (Ok ended)
+      → IsInputKept old new → IsStateOf w route fed written new
+  ended-by laws fair fed written Idle ended over idle is one k e input =
+      of-standing w route fed written new None (is ∙ e.0) e.1
+      (settled-rests w t route fed written old new view next k most fair laws.sound laws.members laws.is_true laws.is_allowed of over same e.3
       input.at input.left)
+  ended-by laws fair fed written (Searching retrieval) ended over idle is one k e input =
+      get-behind w t route fed written old new view next k most fair laws.sound laws.members laws.is_true laws.is_allowed laws.goes_on
+      laws.meant of over same ended is one e
+  ended-by laws fair fed written (Fetching retrieval hits) ended over idle is one k e input =
+      get-behind w t route fed written old new view next k most fair laws.sound laws.members laws.is_true laws.is_allowed laws.goes_on
+      laws.meant of over same ended is one e
 
-  goes-keeps : (answer : Stepped) → old.end ≡ None → old.in_work ≡ Some view
+  ends-keeps : (done : Result (Option End) NoMemory) (answer : Stepped) → TurnLaws w t route → old.end ≡ None → old.in_work ≡ Some view
+      → (new.end ≡ None → IsOneWork route new.session.waiting new.stage new.in_work)
+      → EndsWork route next (answering_of old) (answering_of new) done → IsEndAfter done new.end answer → IsInputKept old new
+      → UnlessMemory answer (KeepsState w route old new)
+  ends-keeps (Err want) answer laws goes works one e after input =
+      subst (λ (s : Stepped). UnlessMemory s (KeepsState w route old new)) (sym after.1) tt
+  ends-keeps (Ok ended) answer laws goes works one e after input =
+      subst (λ (s : Stepped). UnlessMemory s (KeepsState w route old new)) (sym after.1)
+      (λ fair fed written h.
+      ended-by laws fair fed written old.stage ended e.over refl after.0 one (works-at w route fed written old view goes works h) e.went input)
+
+  on-by : (fed written : List ℕ) (stage : SruStage) → old.stage ≡ stage
+      → answering_of new ≡ record (answering_of old) { in_work = Some next } → new.end ≡ None → new.at ≡ old.at → new.left ≡ old.left
+      → WorksAt w route fed written old stage view → IsStateOf w route fed written new
+  on-by fed written Idle idle is goes at left k =
+      works-idle w route fed written new next goes (ap (λ (a : AnsweringState S). a.in_work) is)
+      (ap (λ (a : AnsweringState S). a.stage) is ∙ idle)
+      (works-on w t route fed written old new view next k same is at left)
+  on-by fed written (Searching retrieval) idle is goes at left k =
+      works-get w route fed written new next goes (ap (λ (a : AnsweringState S). a.in_work) is)
+      (get-on w t route fed written old new view next k same is)
+  on-by fed written (Fetching retrieval hits) idle is goes at left k =
+      works-get w route fed written new next goes (ap (λ (a : AnsweringState S). a.in_work) is)
+      (get-on w t route fed written old new view next k same is)
+
+  goes-keeps : old.end ≡ None → old.in_work ≡ Some view
       → answering_of new ≡ record (answering_of old) { in_work = Some next } → new.end ≡ None → new.at ≡ old.at → new.left ≡ old.left
       → KeepsState w route old new
-  goes-keeps answer goes works is ended at left = λ fair fed written h.
-      let k = works-of w route fed written old view goes works h in
-      of-standing w route fed written new (Some next) ended (ap (λ (a : AnsweringState S). a.in_work) is)
-      (works-on w t route fed written old new view next k same is at left)
+  goes-keeps goes works is ended at left = λ fair fed written h.
+      on-by fed written old.stage refl is ended at left (works-at w route fed written old view goes works h)
 
-  pub turned-keeps : (turned : Turned) (answer : Stepped) → IsSound route → HaveMembers route → OutcomeIsTrue w t → CauseIsAllowed w t
-      → old.end ≡ None → old.in_work ≡ Some view → WorksOn route turned next (answering_of old) (answering_of new) answer
-      → IsInputKept old new answer → UnlessMemory answer (KeepsState w route old new)
-  turned-keeps turned.Done answer sound members is_true is_allowed goes works on input =
-      ends-keeps answer sound members is_true is_allowed goes works on input
-  turned-keeps turned.Went answer sound members is_true is_allowed goes works on input =
-      let kept = subst (λ (s : Stepped). IsInputKept old new s) on.0 input in
+  pub turned-keeps : (turned : Turned) (answer : Stepped) → TurnLaws w t route
+      → old.end ≡ None → old.in_work ≡ Some view → (new.end ≡ None → IsOneWork route new.session.waiting new.stage new.in_work)
+      → WorksOn route turned next (answering_of old) (answering_of new) answer new.end
+      → IsInputKept old new → UnlessMemory answer (KeepsState w route old new)
+  turned-keeps turned.Done answer laws goes works one on input =
+      ends-keeps on.done answer laws goes works one on.ends on.after input
+  turned-keeps turned.Went answer laws goes works one on input =
       subst (λ (s : Stepped). UnlessMemory s (KeepsState w route old new)) (sym on.0)
-      (goes-keeps Went goes works on.1 kept.ended kept.at kept.left)
-  turned-keeps turned.NotYet answer sound members is_true is_allowed goes works on input =
-      let kept = subst (λ (s : Stepped). IsInputKept old new s) on.0 input in
+      (goes-keeps goes works on.1 on.2 input.at input.left)
+  turned-keeps turned.NotYet answer laws goes works one on input =
       subst (λ (s : Stepped). UnlessMemory s (KeepsState w route old new)) (sym on.0)
-      (goes-keeps NotYet goes works on.1 kept.ended kept.at kept.left)
-  turned-keeps turned.Memory answer sound members is_true is_allowed goes works on input =
+      (goes-keeps goes works on.1 on.2 input.at input.left)
+  turned-keeps turned.Memory answer laws goes works one on input =
       subst (λ (s : Stepped). UnlessMemory s (KeepsState w route old new)) (sym on.0) tt
 
   -- ---- of its route
 
-  ends-sets : (answer : Stepped) → AllByRecursion (HasLegsOf route) old.session.sets → new.end ≡ None
-      → EndsWork route next (answering_of old) (answering_of new) answer → IsInputKept old new answer
-      → AllByRecursion (HasLegsOf route) new.session.sets
-  ends-sets Idle sets goes e input = absurd e.answered
-  ends-sets NotYet sets goes e input = absurd e.answered
-  ends-sets Memory sets goes e input = let wrong = sym input.ended ∙ goes in absurd cc
-  ends-sets Went sets goes e input =
-      let b = e.answered in
+  ended-sets : (stage : SruStage) (ended : Option End) → AllByRecursion (HasLegsOf route) old.session.sets
+      → EndsAt route stage next (answering_of old) (answering_of new) (Ok ended) → AllByRecursion (HasLegsOf route) new.session.sets
+  ended-sets Idle ended sets e =
+      let b = e.3 in
       let there = subst (AreThere route) (sym b.of_work) of.asks.there in
       sets-legs route old.session.sets b.waiting.work (outcome_in route next) new.session.sets sets there b.ended.settled.hits
+  ended-sets (Searching retrieval) ended sets e =
+      subst (λ (s : SessionState). AllByRecursion (HasLegsOf route) s.sets) (sym e.session) sets
+  ended-sets (Fetching retrieval hits) ended sets e =
+      subst (λ (s : SessionState). AllByRecursion (HasLegsOf route) s.sets) (sym e.session) sets
 
-  on-of : AllByRecursion (HasLegsOf route) old.session.sets → answering_of new ≡ record (answering_of old) { in_work = Some next }
-      → IsOfRoute w t route most new.session.sets new.in_work
-  on-of sets is = record {
-    sets = subst (λ (a : AnsweringState S). AllByRecursion (HasLegsOf route) a.session.sets) (sym is) sets;
-    in_work = subst (λ (a : AnsweringState S). IfSome a.in_work (IsPackageOf w t route most)) (sym is) of;
-  }
+  ends-sets : (done : Result (Option End) NoMemory) (answer : Stepped) → AllByRecursion (HasLegsOf route) old.session.sets → new.end ≡ None
+      → EndsWork route next (answering_of old) (answering_of new) done → IsEndAfter done new.end answer
+      → AllByRecursion (HasLegsOf route) new.session.sets
+  ends-sets (Ok ended) answer sets goes e after = ended-sets old.stage ended sets e.went
+  ends-sets (Err want) answer sets goes e after = let wrong = sym after.0 ∙ goes in absurd cc
 
-  pub turned-of : (turned : Turned) (answer : Stepped) → AllByRecursion (HasLegsOf route) old.session.sets
-      → WorksOn route turned next (answering_of old) (answering_of new) answer → IsInputKept old new answer → IsConnOf w t route most new
-  turned-of turned.Done answer sets on input = λ goes. record {
-    sets = ends-sets answer sets goes on input;
-    in_work = rw on.in_work tt;
-  }
-  turned-of turned.Went answer sets on input = λ goes. on-of sets on.1
-  turned-of turned.NotYet answer sets on input = λ goes. on-of sets on.1
-  turned-of turned.Memory answer sets on input = λ goes. on-of sets on.1
+  on-sets : AllByRecursion (HasLegsOf route) old.session.sets → answering_of new ≡ record (answering_of old) { in_work = Some next }
+      → AllByRecursion (HasLegsOf route) new.session.sets
+  on-sets sets is = subst (λ (a : AnsweringState S). AllByRecursion (HasLegsOf route) a.session.sets) (sym is) sets
+
+  pub turned-sets : (turned : Turned) (answer : Stepped) → AllByRecursion (HasLegsOf route) old.session.sets → new.end ≡ None
+      → WorksOn route turned next (answering_of old) (answering_of new) answer new.end → AllByRecursion (HasLegsOf route) new.session.sets
+  turned-sets turned.Done answer sets goes on = ends-sets on.done answer sets goes on.ends on.after
+  turned-sets turned.Went answer sets goes on = on-sets sets on.1
+  turned-sets turned.NotYet answer sets goes on = on-sets sets on.1
+  turned-sets turned.Memory answer sets goes on = on-sets sets on.1

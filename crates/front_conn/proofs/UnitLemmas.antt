@@ -36,7 +36,7 @@ use Rattle.front_conn.specs.steps.Answering.{AnsweringState, EndsByUnit, IsAnswe
 use Rattle.front_conn.specs.steps.States.{ConnectionState, HasAnswered, HasLegsOf, HasMeantHits, IsStateOf, Rests, Works}
 use Rattle.front_conn.specs.steps.Steps.{KeepsState, answering_of}
 use Rattle.front_conn.proofs.SetLemmas.{asked_with-meant}
-use Rattle.front_conn.proofs.StateLemmas.{answered-more, begins-snoc, kind-fed, met-at, of-ended, of-standing, offset-more, over-ended, rests-of, spelled-snoc, stand_of, unit-run}
+use Rattle.front_conn.proofs.StateLemmas.{answered-more, begins-snoc, kind-fed, met-at, of-ended, of-standing, offset-more, over-ended, rests-of, spelled-snoc, stand_of, unit-run, works-idle}
 
 -- a unit was taken and begun
 pub record TookUnit {S : Type 0} (route : Route) (old new : ConnectionState S) (unit : List ℕ) : Type 0 where
@@ -183,7 +183,7 @@ module _ {W S : Type 0} (w : world.Ghosts W) (route : Route) (fed written : List
   due-works asks (asking.at_once reply) job is e h kept = let wrong = h.0 in absurd cc
   due-works asks (asking.works other) job is e h kept =
       let same : other ≡ job = let b = h.0 in cc in
-      of-standing w route fed written new (Some (new_package route job)) kept.0 kept.2
+      works-idle w route fed written new (new_package route job) kept.0 kept.2 t.begun.idle
       (in-work asks job is (sym e ∙ ap asking.works same) h.3 kept.1
       (h.4 ∙ ap (λ j. record (counted old.session asks) { waiting = Some (record { request = asks; work = j }) }) same))
 

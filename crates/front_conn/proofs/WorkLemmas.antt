@@ -128,7 +128,7 @@ all-found-by : {A : Type 0} (P : A → Type 0) (test : Bool) (first : A) (others
 all-found-by P true first others x p rest h = let same : first ≡ x = cc in subst P same p
 all-found-by P false first others x p rest h = rest h
 
-all-found : {A : Type 0} (P : A → Type 0) (test : A → Bool) (xs : List A) (x : A) → AllByRecursion P xs → find test xs ≡ Some x → P x
+pub all-found : {A : Type 0} (P : A → Type 0) (test : A → Bool) (xs : List A) (x : A) → AllByRecursion P xs → find test xs ≡ Some x → P x
 all-found P test [] x all h = absurd cc
 all-found P test (first ∷ xs) x all h =
     all-found-by P (test first) first (find test xs) x all.0 (all-found P test xs x all.1) h

@@ -1,7 +1,7 @@
 -- What is written of a connection so far: a front of the answers to what was fed, or all of them.
 use Rattle.std.proofs.Common.{◌≡◌, ℕ, ◌<◌, Bool, true, false, List, [], ◌∷◌, ◌++◌, length, Option, Some, None, refl, sym, ap, ◌∙◌, subst, append_assoc, append-nil, length-append, arith, inl}
 use Rattle.std.proofs.lemmas.Grind.{flat_map-append}
-use Rattle.std.specs.Prelude.{if◌then◌else◌, IsTrue}
+use Rattle.std.specs.Prelude.{if◌then◌else◌}
 use Rattle.std.specs.Char.{is_ascii_alphabetic}
 use Rattle.z_types.specs.declared.marks.End.{End}
 use Rattle.z_types.specs.declared.marks.End.TheVariants.{Closed, Finished, Malformed, Cut, Limited, ReadFault, WriteFault, Memory}
@@ -9,9 +9,16 @@ use Rattle.z_types.specs.declared.marks.Mark.{Mark}
 use Rattle.z_types.specs.declared.world.World as world
 use Rattle.z_types.specs.Bounds.{within64}
 use Rattle.route_config.specs.declared.route.Route.{Route}
+use Rattle.std.specs.List.{AllByRecursion}
 use Rattle.z_ber.specs.Frames.{IsFrame}
 use Rattle.gateway_rules.specs.Answers as kind
-use Rattle.gateway_rules.specs.Answers.{Answers, RestLeadsTo, kind_of}
+use Rattle.gateway_rules.specs.Answers.{IsOpen, IsReceived, RestLeadsTo, kind_of}
+use Rattle.sru_rules.specs.Answers.{Answers}
+use Rattle.sru_rules.specs.Laws.{HeadIsCut}
+use Rattle.front_sru.specs.declared.state.SruStage.{SruStage}
+use Rattle.front_sru.specs.declared.state.SruStage.TheVariants.{Idle, Searching, Fetching}
+use Rattle.front_conn.proofs.EndLemmas.{none-at_0}
+use Rattle.front_conn.proofs.StateLemmas.{as-units}
 use Rattle.gateway_rules.specs.Course.{Received, octets_of, ends}
 use Rattle.gateway_rules.specs.Runs.{marks_of, written_as}
 use Rattle.gateway_rules.specs.Session as session
@@ -23,8 +30,8 @@ use Rattle.front_session.specs.Sessions.{SessionState}
 use Rattle.package.specs.steps.Packages.{PackageView}
 use Rattle.front_conn.specs.Serving.{AreAnswers, AreInFront, AreWritten}
 use Rattle.front_conn.specs.steps.Serving.{EndsByOctets}
-use Rattle.front_conn.specs.steps.States.{BeginsWithUnits, ConnectionState, HasAnswered, HasEnded, IsStateOf, MayCome, Rests, StandsOrEnded}
-use Rattle.front_conn.specs.steps.Steps.{AreUnfinished, BeginsWithLetter, NothingWaits}
+use Rattle.front_conn.specs.steps.States.{BeginsWithUnits, ConnectionState, HasAnswered, HasEnded, IsStateOf, MayCome, Rests, StandsOrEnded, Works, WorksAt, WorksOnGet}
+use Rattle.front_conn.specs.steps.Steps.{AreUnfinished, BeginsWithLetter, IsUnfinished, NothingWaits}
 
 -- ---- the kind of a connection
 
@@ -32,10 +39,6 @@ use Rattle.front_conn.specs.steps.Steps.{AreUnfinished, BeginsWithLetter, Nothin
 kind-in_front : (octets more : List ℕ) → 0 < length octets → kind_of (octets ++ more) ≡ kind.unit → kind_of octets ≡ kind.unit
 kind-in_front [] more filled h = absurd (omega (arith, filled))
 kind-in_front (octet ∷ octets) more filled h = h
-
-kind-unit : (letter : Bool) → ¬ IsTrue letter → (if letter then kind.letter else kind.unit) ≡ kind.unit
-kind-unit true other = absurd (other refl)
-kind-unit false other = refl
 
 -- a frame has octets
 frame-octets : (frame : List ℕ) → IsFrame frame → 0 < length frame
@@ -72,7 +75,8 @@ module _ {W : Type 0} (w : world.Ghosts W) (route : Route) where
       → HasAnswered w route units marks written left → RestLeadsTo (length (octets_of units)) rest (ends None end)
       → kind_of (octets_of units ++ rest) ≡ kind.unit → Answers w route (octets_of units ++ rest) marks written end
   rest-answered units rest marks written left end has leads of_kind =
-      let all = rest-ends w route units has.causes has.got _ rest None end has.has_run has.standing leads of_kind in
+      let all = as-units w route (octets_of units ++ rest) _ _ end of_kind
+      (rest-ends w route units has.causes has.got _ rest None end has.has_run has.standing leads of_kind) in
       let by_marks = subst (λ (m : List Mark). Answers w route (octets_of units ++ rest) m (written_as (has.got.replies ++ [])) end)
       has.of_marks all in
       subst (λ (o : List ℕ). Answers w route (octets_of units ++ rest) marks o end)
@@ -141,11 +145,9 @@ module _ {W : Type 0} (w : world.Ghosts W) (route : Route) where
         subst (λ (o : List ℕ). Answers w route o state.marks (written ++ state.out) end) (append-nil fed)
         (has [] (none-comes state.has_ended))
 
-    before-by : (fed written : List ℕ) (state : ConnectionState S) (end : Option End) (works : Option (PackageView S))
-        → StandsOrEnded w route fed written state end works → AreInFront w route fed state.marks (written ++ state.out)
-    before-by fed written state None None rests =
-        units-in_front rests.units fed state.left state.marks (written ++ state.out) state.session rests.spelled rests.kind rests.answered
-    before-by fed written state None (Some view) works =
+    works-in_front : (fed written : List ℕ) (state : ConnectionState S) (view : PackageView S) → Works w route fed written state view
+        → AreInFront w route fed state.marks (written ++ state.out)
+    works-in_front fed written state view works =
         let octets : octets_of (works.units ++ works.unit ∷ []) ≡ octets_of works.units ++ works.unit.octets =
         flat_map-append (λ (u : Received). u.octets) works.units (works.unit ∷ [])
         ∙ ap (λ o. octets_of works.units ++ o) (append-nil works.unit.octets) in
@@ -153,6 +155,33 @@ module _ {W : Type 0} (w : world.Ghosts W) (route : Route) where
         works.spelled ∙ ap (λ o. o ++ state.left) octets ∙ append_assoc (octets_of works.units) works.unit.octets state.left in
         units-in_front works.units fed (works.unit.octets ++ state.left) state.marks (written ++ state.out) works.before spelled
         (begins-so works.units fed works.kind) works.answered
+
+    -- a GET in work has no answer yet
+    get-in_front : (fed written : List ℕ) (state : ConnectionState S) (view : PackageView S) → WorksOnGet w route fed written state view
+        → AreInFront w route fed state.marks (written ++ state.out)
+    get-in_front fed written state view k =
+        let by_marks = subst (λ (m : List Mark). Answers w route [] m [] Finished) (sym k.no_marks) nothing-answered in record {
+          answered = [];
+          behind = fed;
+          spelled = refl;
+          unwritten = [];
+          answers = (
+            Finished,
+            subst (λ (o : List ℕ). Answers w route [] state.marks o Finished) (sym (append-nil (written ++ state.out) ∙ k.unwritten)) by_marks,
+          );
+        }
+
+    works_at-in_front : (fed written : List ℕ) (state : ConnectionState S) (view : PackageView S) (stage : SruStage)
+        → WorksAt w route fed written state stage view → AreInFront w route fed state.marks (written ++ state.out)
+    works_at-in_front fed written state view Idle k = works-in_front fed written state view k
+    works_at-in_front fed written state view (Searching retrieval) k = get-in_front fed written state view k
+    works_at-in_front fed written state view (Fetching retrieval hits) k = get-in_front fed written state view k
+
+    before-by : (fed written : List ℕ) (state : ConnectionState S) (end : Option End) (works : Option (PackageView S))
+        → StandsOrEnded w route fed written state end works → AreInFront w route fed state.marks (written ++ state.out)
+    before-by fed written state None None rests =
+        units-in_front rests.units fed state.left state.marks (written ++ state.out) state.session rests.spelled rests.kind rests.answered
+    before-by fed written state None (Some view) works = works_at-in_front fed written state view state.stage works
     before-by fed written state (Some end) works has =
         let all = ended-answered fed written state end has in record {
           answered = fed;
@@ -169,32 +198,56 @@ module _ {W : Type 0} (w : world.Ghosts W) (route : Route) where
 
     -- ---- all of them
 
-    -- a connection on which no whole unit stands, and that is in its state
-    kind-unfinished : (units : List Received) (fed : List ℕ) (state : ConnectionState S) (octet : ℕ) (octets : List ℕ)
-        → fed ≡ octets_of units ++ octet ∷ octets → BeginsWithUnits units fed → state.at ≡ within64 (length (octets_of units))
-        → ¬ BeginsWithLetter state octet → kind_of (octets_of units ++ octet ∷ octets) ≡ kind.unit
-    kind-unfinished [] fed state octet octets spelled begins offset other =
-        kind-unit (is_ascii_alphabetic octet) (λ is. other (offset, is))
-    kind-unfinished (unit ∷ units) fed state octet octets spelled begins offset other =
-        subst (λ (o : List ℕ). kind_of o ≡ kind.unit) spelled begins
+    -- octets behind units that more octets can make a unit
+    open-answered : (fed written : List ℕ) (state : ConnectionState S) (units : List Received) (octet : ℕ) (octets : List ℕ)
+        → fed ≡ octets_of units ++ octet ∷ octets → HasAnswered w route units state.marks written state.session → IsOpen (octet ∷ octets)
+        → kind_of (octets_of units ++ octet ∷ octets) ≡ kind.unit → AreAnswers w route fed state.marks written
+    open-answered fed written state units octet octets spelled has is_open of_kind =
+        let end : End = Cut (length (octet ∷ octets)) in
+        let all = rest-answered units (octet ∷ octets) state.marks written state.session end has (inl (is_open, refl)) of_kind in
+        (end, subst (λ (o : List ℕ). Answers w route o state.marks written end) (sym spelled) all)
 
-    rest-unfinished : (fed written : List ℕ) (state : ConnectionState S) (units : List Received) (left : List ℕ)
+    -- and behind none, by whether a letter stands first
+    first-unfinished : (letter : Bool) (fed written : List ℕ) (state : ConnectionState S) (octet : ℕ) (octets : List ℕ) → HeadIsCut w
+        → is_ascii_alphabetic octet ≡ letter → fed ≡ octet ∷ octets → state.at ≡ 0
+        → HasAnswered w route [] state.marks written state.session → IsUnfinished state octet octets
+        → AreAnswers w route fed state.marks written
+    first-unfinished false fed written state octet octets law first spelled zero has unfinished =
+        open-answered fed written state [] octet octets spelled has
+        (unfinished.unit (λ letter. let wrong : true ≡ false = sym letter.1 ∙ first in absurd cc))
+        (ap (λ b. if b then kind.letter else kind.unit) first)
+    first-unfinished true fed written state octet octets law first spelled zero has unfinished =
+        let end : End = Cut (length (octet ∷ octets)) in
+        let none = none-answered state.marks written state.session has in
+        let all = law route (octet ∷ octets) (ap (λ b. if b then kind.letter else kind.unit) first) (unfinished.head (zero, first)) in
+        let by_octets = subst (λ (o : List ℕ). Answers w route o [] [] end) (sym spelled) all in
+        let by_marks = subst (λ (m : List Mark). Answers w route fed m [] end) (sym none.0) by_octets in
+        (end, subst (λ (o : List ℕ). Answers w route fed state.marks o end) (sym none.1) by_marks)
+
+    -- behind units no letter begins HTTP
+    no-letter : (unit : Received) (units : List Received) (state : ConnectionState S) (octet : ℕ)
+        → AllByRecursion IsReceived (unit ∷ units) → state.at ≡ within64 (length (octets_of (unit ∷ units))) → BeginsWithLetter state octet → ⊥
+    no-letter unit units state octet each offset letter =
+        let wrong = none-at_0 (unit ∷ units) each (sym offset ∙ letter.0) in absurd cc
+
+    rest-unfinished : HeadIsCut w → (fed written : List ℕ) (state : ConnectionState S) (units : List Received) (left : List ℕ)
         → fed ≡ octets_of units ++ left → BeginsWithUnits units fed → state.at ≡ within64 (length (octets_of units))
         → HasAnswered w route units state.marks written state.session → AreUnfinished state left
         → AreAnswers w route fed state.marks written
-    rest-unfinished fed written state units [] spelled begins offset has unfinished =
+    rest-unfinished law fed written state units [] spelled begins offset has unfinished =
         let all = units-answered units fed [] state.marks written state.session spelled begins has in
         (all.0, subst (λ (o : List ℕ). Answers w route o state.marks written all.0) (sym (spelled ∙ append-nil (octets_of units))) all.1)
-    rest-unfinished fed written state units (octet ∷ octets) spelled begins offset has unfinished =
-        let end : End = Cut (length (octet ∷ octets)) in
-        let of_kind = kind-unfinished units fed state octet octets spelled begins offset unfinished.0 in
-        let all = rest-answered units (octet ∷ octets) state.marks written state.session end has (inl (unfinished.1, refl)) of_kind in
-        (end, subst (λ (o : List ℕ). Answers w route o state.marks written end) (sym spelled) all)
+    rest-unfinished law fed written state [] (octet ∷ octets) spelled begins offset has unfinished =
+        first-unfinished (is_ascii_alphabetic octet) fed written state octet octets law refl spelled offset has unfinished
+    rest-unfinished law fed written state (unit ∷ units) (octet ∷ octets) spelled begins offset has unfinished =
+        open-answered fed written state (unit ∷ units) octet octets spelled has
+        (unfinished.unit (no-letter unit units state octet has.has_run.each offset))
+        (subst (λ (o : List ℕ). kind_of o ≡ kind.unit) spelled begins)
 
     -- where there is nothing to do, and all output was written, all that was fed is answered
-    pub idle-answered : (fed written : List ℕ) (state : ConnectionState S) → state.end ≡ None → state.in_work ≡ None
+    pub idle-answered : HeadIsCut w → (fed written : List ℕ) (state : ConnectionState S) → state.end ≡ None → state.in_work ≡ None
         → NothingWaits state → state.out ≡ [] → IsStateOf w route fed written state → AreAnswers w route fed state.marks written
-    idle-answered fed written state goes rests nothing out stands =
+    idle-answered law fed written state goes rests nothing out stands =
         let here : StandsOrEnded w route fed written state None state.in_work =
         subst (λ (e : Option End). StandsOrEnded w route fed written state e state.in_work) goes stands in
         let rest : Rests w route fed written state =
@@ -202,7 +255,7 @@ module _ {W : Type 0} (w : world.Ghosts W) (route : Route) where
         let has : HasAnswered w route rest.units state.marks written state.session =
         subst (λ (o : List ℕ). HasAnswered w route rest.units state.marks o state.session)
         (ap (λ o. written ++ o) out ∙ append-nil written) rest.answered in
-        rest-unfinished fed written state rest.units state.left rest.spelled rest.kind rest.offset has nothing.unfinished
+        rest-unfinished law fed written state rest.units state.left rest.spelled rest.kind rest.offset has nothing.unfinished
 
     -- a connection that its octets have ended, and all of whose output was written, is answered
     pub end-written : (fed written : List ℕ) (state : ConnectionState S) (end : End) → state.end ≡ Some end

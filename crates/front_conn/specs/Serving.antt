@@ -1,4 +1,4 @@
--- Serving a connection (ANSI/NISO Z39.50-2003, 4.2): what its sink received are the answers to what its source gave, and each end
+-- Serving a connection (ANSI/NISO Z39.50-2003, 4.2; SRU 1.2): what its sink received are the answers to what its source gave, and each end
 -- has its cause
 use Rattle.std.specs.Prelude.{◌≡◌, ℕ, List, ◌++◌, Option}
 use Rattle.z_types.specs.declared.marks.End.{End}
@@ -11,8 +11,8 @@ use Rattle.gw_outside.specs.declared.sinks.Sink as to
 use Rattle.gw_outside.specs.declared.sources.Source as from
 use Rattle.gw_outside.specs.Sinks.{appended}
 use Rattle.gw_outside.specs.Sources.{HasEnded}
-use Rattle.gateway_rules.specs.Answers.{Answers}
 use Rattle.gateway_rules.specs.Fair.{IsFair}
+use Rattle.sru_rules.specs.Answers.{Answers}
 
 -- ---- where octets come from, and where they go
 

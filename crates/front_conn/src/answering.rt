@@ -1,4 +1,5 @@
-//! What answers a client: its session, and the request in work (ANSI/NISO Z39.50-2003, 4.2).
+//! What answers a client: its session or its GET, and the request in work (ANSI/NISO Z39.50-2003, 4.2;
+//! SRU 1.2, searchRetrieve).
 
 ghost use Rattle.std.specs.Prelude.{◌≡◌, ◌++◌, ◌∷◌, [], IfOk, IfSome, IsSome, None, OnErr, OnOk, Some, is_some, option_to_list, take};
 ghost use Rattle.z_types.specs.declared.marks.End.TheVariants.{Malformed};
@@ -11,12 +12,16 @@ ghost use Rattle.gateway_rules.specs.Works.{CanBegin, FitsWork, IsAskable};
 ghost use Rattle.package.specs.steps.Ends.{cause_in, lost_seats, outcome_in};
 ghost use Rattle.package.specs.steps.Packages.{AsksSo, IsOver, IsPackageOf};
 ghost use Rattle.package_rules.specs.Planned.{AreThere};
-ghost use Rattle.front_conn.specs.steps.Answering.{EndsWork, IsBegunSo, IsListed, IsWorkBegun, TurnsWork, given_up, legs_in, stepped_by};
-ghost use Rattle.front_conn.specs.steps.States.{HasLegsOf, IsOneWork};
+ghost use Rattle.front_sru.specs.Gets.{work_of};
+ghost use Rattle.front_conn.specs.steps.Answering.{EndsWork, IsBegunSo, IsGetEndedIf, IsHeadBegunSo, IsListed, IsReady, IsRequestEndedIf, IsWorkBegun, TurnsWork, given_up, legs_in};
+ghost use Rattle.front_conn.specs.steps.States.{HasLegsOf, IsOneWork, IsWaitedFor};
 
 use crate::Stepped;
+use crate::ends::end_step;
 use crate::totals::{Total, add_accounts, make_totals};
+use front_http::begin_head;
 use front_session::FrontSession;
+use front_sru::{SruState, end_get};
 use front_z::{Begun, begin_unit, end_unit};
 use gateway_rules::{bad_unit_reply, mark_of};
 use gw_outside::Backend;
@@ -25,16 +30,18 @@ use package::{Package, package_outcome_fits};
 use package_rules::finished_has_mark;
 use pool_sets::Door;
 use route_config::Route;
+use sru_request::{Get, HeadFault};
 use std::alloc::Global;
 use std::marker::Model;
 use z_types::{End, List, Mark, Memory, Sitting, Text, Work, World};
 use z_write::put_reply;
 
-/// The session of a client, the legs of its request in work, and what was answered.
+/// The session of a client and its GET, the legs of its request in work, and what was answered.
 #[derive(Drop)]
 pub(crate) struct Answering<W: World, S: Sitting<W>> {
     alloc: Global,
     session: FrontSession,
+    get: SruState,
     work: Option<Package<W, S>>,
     totals: List<Total>,
     marks: List<Mark>,
@@ -52,6 +59,7 @@ impl<W: World, S: Sitting<W>> Model for Answering<W, S> {
 
     ghost view = { λ a. record {
       session = a.session;
+      stage = a.get;
       in_work = a.work;
       totals = a.totals;
       marks = a.marks;
@@ -80,16 +88,6 @@ fn list_mark(
         out.truncate(written);
     }
     listed
-}
-
-/// What a step did that answered a request.
-fn stepped(settled: Result<(), Memory>) -> Stepped
-    ensures { result ≡ stepped_by settled }
-{
-    match settled {
-        Ok(()) => Stepped::Went,
-        Err(_) => Stepped::Memory,
-    }
 }
 
 /// Fills the place of the request in work.
@@ -139,6 +137,7 @@ impl<W: World, S: Sitting<W>> Answering<W, S> {
         Answering {
             alloc,
             session: FrontSession::new(alloc),
+            get: SruState::new(),
             work: None,
             totals: List::new(alloc),
             marks: List::new(alloc),
@@ -200,7 +199,7 @@ impl<W: World, S: Sitting<W>> Answering<W, S> {
     }
 
     /// Begins a unit at an offset: it is answered at once, and ends the connection so, if it does, or the
-    /// legs for its request are begun. Without memory nothing is written.
+    /// legs for its request are begun. No GET waits where units come. Without memory nothing is written.
     pub(crate) fn begin(
         &mut self,
         alloc: Global,
@@ -213,6 +212,7 @@ impl<W: World, S: Sitting<W>> Answering<W, S> {
         ensures { IsBegunSo W.World S.Sitting route.now at unit.now self.old self.new result }
     {
         let _ = route.parts();
+        self.get = SruState::new();
         if make_totals(alloc, route, &mut self.totals).is_err() {
             return Err(Memory);
         }
@@ -221,6 +221,29 @@ impl<W: World, S: Sitting<W>> Answering<W, S> {
             Begun::Write(mark, end) => self.list(mark, end, written),
             Begun::Work(work) => self.start(alloc, route, work),
             Begun::Memory => Err(Memory),
+        }
+    }
+
+    /// Begins the head of an HTTP connection: it is answered at once, and ends the connection so, or the
+    /// legs for the search of a GET are begun. Without memory nothing is written.
+    pub(crate) fn begin_head(
+        &mut self,
+        alloc: Global,
+        route: &Route,
+        head: Result<Get, HeadFault>,
+    ) -> Result<Option<End>, Memory>
+        requires idle { self.old.in_work ≡ None }
+        ensures { IsHeadBegunSo W.World S.Sitting route.now head self.old self.new result }
+    {
+        let _ = route.parts();
+        if make_totals(alloc, route, &mut self.totals).is_err() {
+            return Err(Memory);
+        }
+        let written = self.out.len();
+        match begin_head(alloc, &mut self.get, route, head, &mut self.out) {
+            front_sru::Begun::Write(mark, end) => self.list(mark, end, written),
+            front_sru::Begun::Work(work) => self.start(alloc, route, work),
+            front_sru::Begun::Memory => Err(Memory),
         }
     }
 
@@ -256,7 +279,8 @@ impl<W: World, S: Sitting<W>> Answering<W, S> {
         }
     }
 
-    /// Turns the legs of the request in work, and answers it where all are done.
+    /// Turns the legs of the request in work, and answers it where all are done, or goes on with the
+    /// fetch of a GET; and how the connection has ended so, if it did.
     pub(crate) fn turn<B: Backend<W, Session = S>, D: Door<W, S>>(
         &mut self,
         alloc: Global,
@@ -264,14 +288,17 @@ impl<W: World, S: Sitting<W>> Answering<W, S> {
         backend: &mut B,
         door: &mut D,
         now: u64,
+        end: &mut Option<End>,
     ) -> Stepped
+        requires goes_on { end.old ≡ None }
         requires works { IsSome self.old.in_work }
-        requires one_work { IsOneWork self.old.session.waiting self.old.in_work }
+        requires one_work { IsOneWork route.now
+            self.old.session.waiting self.old.stage self.old.in_work }
         requires of { IfSome self.old.in_work
             (IsPackageOf W.World S.Sitting route.now (D.counts door.old).most) }
         ensures most { (D.counts door.new).most ≡ (D.counts door.old).most }
         ensures turns { IfSome self.old.in_work (λ view.
-            TurnsWork W.World S.Sitting B.exact route.now now view self.old self.new result
+            TurnsWork W.World S.Sitting B.exact route.now now view self.old self.new result end.new
             (record {
               door = record { pool = D.pool door.old; counts = D.counts door.old };
               backend = record { counts = B.counts backend.old; happened = B.happened backend.old };
@@ -288,28 +315,85 @@ impl<W: World, S: Sitting<W>> Answering<W, S> {
         match package.turn(alloc, route, backend, door, now) {
             Turned::Went => Stepped::Went,
             Turned::NotYet => Stepped::NotYet,
-            Turned::Memory => Stepped::Memory,
-            Turned::Done => self.end_work(alloc, route),
+            Turned::Memory => end_step(end, Err(Memory)),
+            Turned::Done => {
+                let done = self.end_work(alloc, route);
+                end_step(end, done)
+            }
         }
     }
 
-    /// Answers the request whose legs are done.
-    fn end_work(&mut self, alloc: Global, route: &Route) -> Stepped
+    /// Answers the request whose legs are done, or goes on with the fetch of a GET. A connection that is
+    /// answered a GET has ended so.
+    fn end_work(&mut self, alloc: Global, route: &Route) -> Result<Option<End>, Memory>
         requires works { IsSome self.old.in_work }
-        requires one_work { IsOneWork self.old.session.waiting self.old.in_work }
+        requires one_work { IsOneWork route.now
+            self.old.session.waiting self.old.stage self.old.in_work }
         requires over { IfSome self.old.in_work IsOver }
         requires asks { IfSome self.old.in_work (AsksSo route.now) }
         requires fits { IfSome self.old.in_work
             (λ view. FitsWork view.work (outcome_in route.now view)) }
-        ensures { IfSome self.old.in_work
+        ensures ended { IfSome self.old.in_work
             (λ view. EndsWork route.now view self.old self.new result) }
+        ensures ready { OnOk result (IsReady W.World S.Sitting route.now self.new) }
     {
         let Some(package) = self.work.take() else {
             unreachable!()
         };
         add_accounts(alloc, &mut self.totals, package.accounts());
+        if self.get.is_idle() {
+            self.end_request(alloc, route, package)
+        } else {
+            self.end_get(alloc, route, package)
+        }
+    }
+
+    /// Answers the request of the session whose legs are done.
+    fn end_request(
+        &mut self,
+        alloc: Global,
+        route: &Route,
+        done: Package<W, S>,
+    ) -> Result<Option<End>, Memory>
+        requires rests { self.old.in_work ≡ None }
+        requires asks { AsksSo route.now done }
+        requires over { IsOver done }
+        requires waits { IsWaitedFor self.old.session.waiting done.work }
+        requires fits { FitsWork done.work (outcome_in route.now done) }
+        ensures ended { IsRequestEndedIf route.now done self.old self.new result }
+        ensures totals { self.new.totals ≡ self.old.totals }
+        ensures ready { OnOk result (IsReady W.World S.Sitting route.now self.new) }
+    {
         let (session, marks, out) = (&mut self.session, &mut self.marks, &mut self.out);
-        stepped(settle(alloc, route, package, session, marks, out))
+        settle(alloc, route, done, session, marks, out)?;
+        Ok(None)
+    }
+
+    /// Ends the work of a GET whose legs are done: the GET is answered, and the connection has ended so,
+    /// or the legs for its fetch are begun. Without memory nothing is written.
+    fn end_get(
+        &mut self,
+        alloc: Global,
+        route: &Route,
+        done: Package<W, S>,
+    ) -> Result<Option<End>, Memory>
+        requires rests { self.old.in_work ≡ None }
+        requires asks { AsksSo route.now done }
+        requires over { IsOver done }
+        requires waits { work_of route.now self.old.stage ≡ Some done.work }
+        requires fits { FitsWork done.work (outcome_in route.now done) }
+        ensures ended { IsGetEndedIf route.now done self.old self.new result }
+        ensures totals { self.new.totals ≡ self.old.totals }
+        ensures ready { OnOk result (IsReady W.World S.Sitting route.now self.new) }
+    {
+        finished_has_mark();
+        let written = self.out.len();
+        let outcome = done.finish(alloc, route)?;
+        match end_get(alloc, &mut self.get, route, outcome, &mut self.out) {
+            front_sru::Begun::Write(mark, end) => self.list(mark, end, written),
+            front_sru::Begun::Work(work) => self.start(alloc, route, work),
+            front_sru::Begun::Memory => Err(Memory),
+        }
     }
 
     /// Gives up each session that is out for the request in work; what its legs counted is added.

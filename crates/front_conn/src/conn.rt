@@ -9,24 +9,28 @@ ghost use Rattle.package.specs.steps.Ends.{lost_seats};
 ghost use Rattle.package.specs.steps.Packages.{IsPackageOf};
 ghost use Rattle.front_conn.specs.steps.Answering.{legs_in};
 ghost use Rattle.front_conn.specs.steps.Feeding.{with_end, with_piece, without_out, without_work};
-ghost use Rattle.front_conn.specs.steps.States.{HasLegsOf, IsConnOf, nothing_yet};
-ghost use Rattle.front_conn.specs.steps.Steps.{GoesAhead, HasTurned, IsEndAfter, IsStepped, KeepsState, UnlessMemory, end_of};
+ghost use Rattle.front_conn.specs.steps.States.{HasLegsOf, IsConnOf, IsOneWork, nothing_yet};
+ghost use Rattle.front_conn.specs.steps.Steps.{GoesAhead, HasTurned, IsStepped, KeepsState, UnlessMemory};
 
 use crate::ahead::{Ahead, look};
 use crate::answering::Answering;
+use crate::ends::end_step;
 use crate::{Stepped, Total};
+use front_http::{gets_go_on, heads_answer};
 use gw_outside::Backend;
 use package::{package_cause_is_allowed, package_outcome_is_true};
 use package_rules::have_members;
 use pool_sets::Door;
 use route_config::Route;
+use sru_rules::{head_is_refused, works_answer};
 use std::alloc::Global;
 use std::marker::Model;
 use z_frame::Framer;
 use z_types::{End, List, Mark, Memory, Sitting, World};
 
-/// A connection of one client: the octets that were not taken yet, its session, the request in work, and
-/// what was answered.
+/// A connection of one client: the octets that were not taken yet, its session or its GET, the request in
+/// work, and what was answered. It speaks HTTP where its first octet is an ASCII letter, and else Z39.50.
+/// An HTTP connection answers one GET, and what follows the head is never taken.
 ///
 /// ```text
 /// new    once, first
@@ -42,6 +46,7 @@ use z_types::{End, List, Mark, Memory, Sitting, World};
 #[derive(Drop)]
 pub struct Conn<W: World, S: Sitting<W>> {
     framer: Framer,
+    passed: usize,
     answering: Answering<W, S>,
     end: Option<End>,
     has_ended: bool,
@@ -51,7 +56,8 @@ impl<W: World, S: Sitting<W>> Model for Conn<W, S> {
     ghost use Rattle.std.specs.Prelude.{◌≡◌, None};
     ghost use Rattle.std.specs.Coded.{codes};
     ghost use Rattle.z_types.specs.Tree.{tree_code};
-    ghost use Rattle.front_conn.specs.steps.States.{ConnectionState, IsOneWork};
+    ghost use Rattle.front_http.specs.Seeking.{HasPassed};
+    ghost use Rattle.front_conn.specs.steps.States.{ConnectionState};
 
     ghost Value = { ConnectionState S };
 
@@ -59,6 +65,7 @@ impl<W: World, S: Sitting<W>> Model for Conn<W, S> {
 
     ghost view = { λ c. record {
       session = c.answering.session;
+      stage = c.answering.stage;
       in_work = c.answering.in_work;
       totals = c.answering.totals;
       marks = c.answering.marks;
@@ -70,7 +77,7 @@ impl<W: World, S: Sitting<W>> Model for Conn<W, S> {
     } };
 
     ghost invariant = { λ c. c.end ≡ None
-        → (c.framer.refused ≡ None) × IsOneWork c.answering.session.waiting c.answering.in_work };
+        → (c.framer.refused ≡ None) × HasPassed c.framer.rest c.passed };
 }
 
 impl<W: World, S: Sitting<W>> Conn<W, S> {
@@ -81,6 +88,7 @@ impl<W: World, S: Sitting<W>> Conn<W, S> {
     {
         Conn {
             framer: Framer::new(alloc),
+            passed: 0,
             answering: Answering::new(alloc),
             end: None,
             has_ended: false,
@@ -129,7 +137,7 @@ impl<W: World, S: Sitting<W>> Conn<W, S> {
     }
 
     /// What the legs of its requests counted: a sum for each class of the route, in their order, once a
-    /// unit was begun. What the legs of the request in work counted is not in them yet.
+    /// unit or a head was begun. What the legs of the request in work counted is not in them yet.
     pub fn totals(&self) -> &List<Total>
         ensures { result.now ≡ self.now.totals }
     {
@@ -151,9 +159,9 @@ impl<W: World, S: Sitting<W>> Conn<W, S> {
     }
 
     /// One step: the request in work has its turn, in which each of its legs that is not done goes on, and
-    /// is answered once all are done; or else the next unit of the client is begun, and answered at once
-    /// where it asks nothing of a target; or the connection ends, by the end of its input or by octets that
-    /// are no unit. Without memory the connection ends so, with nothing written in that step.
+    /// is answered once all are done, or a GET goes on with its fetch; or else the next unit of the client
+    /// is begun, or the head of an HTTP connection, and answered at once where it asks nothing of a target;
+    /// or the connection ends, by the end of its input or by octets that are no unit. Without memory the connection ends so, with nothing written in that step.
     pub fn step<B: Backend<W, Session = S>, D: Door<W, S>>(
         &mut self,
         alloc: Global,
@@ -199,6 +207,8 @@ impl<W: World, S: Sitting<W>> Conn<W, S> {
         requires of { IfSome self.old.in_work
             (IsPackageOf W.World S.Sitting route.now (D.counts door.old).most) }
         requires sets { AllByRecursion (HasLegsOf route.now) self.old.session.sets }
+        requires one_work { IsOneWork route.now
+            self.old.session.waiting self.old.stage self.old.in_work }
         ensures of { IsConnOf W.World S.Sitting route.now (D.counts door.new).most self.new }
         ensures most { (D.counts door.new).most ≡ (D.counts door.old).most }
         ensures turns { IfSome self.old.in_work (λ view.
@@ -217,12 +227,14 @@ impl<W: World, S: Sitting<W>> Conn<W, S> {
         have_members(route);
         package_cause_is_allowed::<W, S>();
         package_outcome_is_true::<W, S>();
-        let stepped = self.answering.turn(alloc, route, backend, door, now);
-        end_turn(&mut self.end, stepped);
-        stepped
+        works_answer::<W>();
+        gets_go_on::<W>();
+        let end = &mut self.end;
+        self.answering.turn(alloc, route, backend, door, now, end)
     }
 
-    /// Goes ahead where no request is in work: takes and begins the next unit, or ends the connection.
+    /// Goes ahead where no request is in work: takes and begins the next unit, or the head of an HTTP
+    /// connection, or ends the connection.
     fn go_ahead(&mut self, alloc: Global, route: &Route) -> Stepped
         requires goes_on { self.old.end ≡ None }
         requires rests { self.old.in_work ≡ None }
@@ -231,11 +243,17 @@ impl<W: World, S: Sitting<W>> Conn<W, S> {
         ensures goes { GoesAhead route.now self.old self.new result }
         ensures keeps { UnlessMemory result (KeepsState W.World route.now self.old self.new) }
     {
-        match look(&mut self.framer, self.has_ended) {
+        heads_answer::<W>();
+        head_is_refused::<W>();
+        match look(alloc, &mut self.framer, &mut self.passed, self.has_ended) {
             Ahead::Nothing => Stepped::Idle,
             Ahead::Ended(end) => end_step(&mut self.end, Ok(Some(end))),
             Ahead::Bad(at) => {
                 let done = self.answering.refuse(at);
+                end_step(&mut self.end, done)
+            }
+            Ahead::Head(head) => {
+                let done = self.answering.begin_head(alloc, route, head);
                 end_step(&mut self.end, done)
             }
             Ahead::Whole(start, end) => {
@@ -255,32 +273,5 @@ impl<W: World, S: Sitting<W>> Conn<W, S> {
         ensures counts { D.counts door.new ≡ D.counts door.old }
     {
         self.answering.give_up(door);
-    }
-}
-
-/// How a connection stands behind the turn of a request in work: without memory it has ended so.
-fn end_turn(end: &mut Option<End>, stepped: Stepped)
-    requires { end.old ≡ None }
-    ensures { end.new ≡ end_of stepped }
-{
-    match stepped {
-        Stepped::Memory => *end = Some(End::Memory),
-        Stepped::Idle | Stepped::NotYet | Stepped::Went => {}
-    }
-}
-
-/// How a connection stands behind what was done: without memory it has ended so.
-fn end_step(end: &mut Option<End>, done: Result<Option<End>, Memory>) -> Stepped
-    ensures { IsEndAfter done end.new result }
-{
-    match done {
-        Ok(ended) => {
-            *end = ended;
-            Stepped::Went
-        }
-        Err(_) => {
-            *end = Some(End::Memory);
-            Stepped::Memory
-        }
     }
 }

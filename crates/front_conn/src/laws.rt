@@ -2,6 +2,7 @@
 
 ghost use Rattle.front_conn.specs.steps.Feeding.{EndsAnswered, StandsAtStart, StandsWhenEnded, StandsWhenFed, StandsWhenWritten, StaysOfRoute};
 
+use front_http::gets_go_on;
 use z_types::{Sitting, World};
 
 /// A new connection stands at the start: nothing was fed, and nothing written.
@@ -12,7 +13,9 @@ pub fn stands_at_start<W: World, S: Sitting<W>>()
 /// A connection that is fed a piece stands where it stood, of these octets more.
 pub fn stands_when_fed<W: World, S: Sitting<W>>()
     ensures { StandsWhenFed W.World S.Sitting }
-{}
+{
+    gets_go_on::<W>();
+}
 
 /// A connection whose input has ended stands where it stood.
 pub fn stands_when_ended<W: World, S: Sitting<W>>()

@@ -1,10 +1,11 @@
-//! A connection of a client: octets in any pieces in, the answers to them out, one step at a time, over
-//! links to the targets.
+//! A connection of a client, of Z39.50 or of HTTP by its first octet: octets in any pieces in, the answers
+//! to them out, one step at a time, over links to the targets.
 #![tactic(auto)]
 
 mod ahead;
 mod answering;
 mod conn;
+mod ends;
 mod laws;
 mod serving;
 mod stepped;

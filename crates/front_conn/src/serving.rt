@@ -15,6 +15,7 @@ use crate::{
 use gw_outside::{Backend, Clock, Got, Sink, Source, write_all};
 use pool_sets::Door;
 use route_config::Route;
+use sru_rules::head_is_refused;
 use std::alloc::Global;
 use z_types::{End, List, Mark, Sitting, World};
 
@@ -190,6 +191,7 @@ fn read_on<W: World, S: Sitting<W>, I: Source>(conn: &mut Conn<W, S>, source: &m
     stands_when_fed::<W, S>();
     stands_when_ended::<W, S>();
     stays_of_route::<W, S>();
+    head_is_refused::<W>();
     let mut piece = [0u8; PIECE_LEN];
     match source.read(&mut piece) {
         Got::Bytes(count) => match conn.feed(&piece[..count]) {

@@ -3,8 +3,8 @@
 /// What a step of a connection did.
 #[derive(Clone, Copy, PartialEq, Eq, Debug)]
 pub enum Stepped {
-    /// Nothing: the connection has ended, or nothing is in work and no whole request, no bad unit and
-    /// no end waits.
+    /// Nothing: the connection has ended, or nothing is in work and no whole request, no head, no bad
+    /// unit and no end waits.
     Idle,
     /// It turned the request in work, and each leg that was not done heard nothing.
     NotYet,

@@ -1,5 +1,5 @@
 -- For contracts alone: what is kept of a GET between its works, and the parts of what came of one (this project's own)
-use Rattle.std.specs.Prelude.{◌≡◌, ℕ, Bool, List, [], None, Some, if◌then◌else◌}
+use Rattle.std.specs.Prelude.{◌≡◌, ℕ, Bool, true, false, List, [], None, Some, if◌then◌else◌}
 use Rattle.z_types.specs.declared.outcome.Fetched.TheVariants as fetched
 use Rattle.z_types.specs.declared.outcome.Outcome.{Outcome}
 use Rattle.z_types.specs.declared.sru.SruItem.{SruItem}
@@ -17,6 +17,11 @@ abbrev pub IsKept : SruStage → Type 0
 IsKept Idle = Unit {0}
 IsKept (Searching retrieval) = IsRetrieval retrieval
 IsKept (Fetching retrieval hits) = IsRetrieval retrieval
+
+-- a GET waits for no work
+abbrev pub is_idle : SruStage → Bool
+is_idle Idle = true
+is_idle other = false
 
 -- a GET that waited for its search waits for its fetch, from a result set with these hits
 abbrev pub fetching : SruStage → (hits : List ℕ) → SruStage

@@ -2,7 +2,7 @@
 
 ghost use Rattle.std.specs.Prelude.{◌≡◌};
 ghost use Rattle.front_sru.specs.declared.state.SruStage.TheVariants.{Idle};
-ghost use Rattle.front_sru.specs.Kept.{IsKept, fetching};
+ghost use Rattle.front_sru.specs.Kept.{IsKept, fetching, is_idle};
 
 use sru_rules::Retrieval;
 use std::marker::Model;
@@ -49,6 +49,13 @@ impl SruState {
         SruState {
             stage: SruStage::Idle,
         }
+    }
+
+    /// Whether the GET waits for no work.
+    pub fn is_idle(&self) -> bool
+        ensures { result ≡ is_idle self.now }
+    {
+        matches!(self.stage, SruStage::Idle)
     }
 
     /// Where the GET stands.

@@ -66,7 +66,8 @@ abbrev pub kind_of : List ℕ → Kind
 kind_of [] = empty
 kind_of (octet ∷ octets) = if is_ascii_alphabetic octet then letter else unit
 
--- the course of a connection of a kind: a letter begins no unit. HTTP will stand in its place.
+-- the course of a connection of units, by its kind: a letter begins no unit. Where HTTP is spoken too, its first
+-- letter is answered by `sru_rules` in place of this.
 abbrev pub IsCourseOf : Kind → Route → List ℕ → Course → Type 0
 IsCourseOf empty route bytes whole = whole ≡ ends None Finished
 IsCourseOf letter route bytes whole = whole ≡ ends (Some bad_unit_reply) (Malformed 0)

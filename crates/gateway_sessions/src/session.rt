@@ -17,7 +17,8 @@ pub(crate) fn has_its_page<R: rt::Files + AllocGlobal>(
     let route = text_of(runtime, folder, "route.toml")?;
     let script = text_of(runtime, folder, "script")?;
     let page = text_of(runtime, folder, "page")?;
-    match prints(alloc, route, script, page.as_slice()) {
+    let failing = failing_calls(runtime, folder)?;
+    match prints(alloc, route, script, failing, page.as_slice()) {
         Ok(has_page) => Ok(has_page),
         Err(Memory) => Err(io::Error::from(io::ErrorKind::OutOfMemory)),
     }
@@ -29,8 +30,38 @@ fn text_of<R: rt::Files + AllocGlobal>(runtime: &R, folder: &str, name: &str) ->
     Ok(Text::from_vec(fs::read(runtime, path.as_str())?))
 }
 
-/// Whether a replay ends well, and prints this page and nothing else.
-fn prints(alloc: Global, route: Text, script: Text, page: &[u8]) -> Result<bool, Memory> {
+/// The numbers of the wire's calls that fail in the session in a folder: the lines of its file `failing`,
+/// where it has one.
+fn failing_calls<R: rt::Files + AllocGlobal>(runtime: &R, folder: &str) -> io::Result<List<u64>> {
+    let path = format!(in runtime.alloc(); "{folder}/failing")?;
+    match fs::read_to_string(runtime, path.as_str()) {
+        Ok(lines) => numbers(runtime.alloc(), &lines),
+        Err(_) => Ok(List::new(runtime.alloc())),
+    }
+}
+
+/// The numbers that lines are, one a line.
+fn numbers(alloc: Global, lines: &str) -> io::Result<List<u64>> {
+    let mut numbers = List::new(alloc);
+    for line in lines.lines() {
+        let Ok(number) = line.parse() else {
+            return Err(io::Error::from(io::ErrorKind::InvalidData));
+        };
+        if numbers.push(number).is_err() {
+            return Err(io::Error::from(io::ErrorKind::OutOfMemory));
+        }
+    }
+    Ok(numbers)
+}
+
+/// Whether a replay over a wire of which these calls fail ends well, and prints this page and nothing else.
+fn prints(
+    alloc: Global,
+    route: Text,
+    script: Text,
+    failing: List<u64>,
+    page: &[u8],
+) -> Result<bool, Memory> {
     let mut files = files(alloc, route, script)?;
     let words = [
         word(alloc, b"replay")?,
@@ -38,7 +69,7 @@ fn prints(alloc: Global, route: Text, script: Text, page: &[u8]) -> Result<bool,
         word(alloc, b"script")?,
     ];
     let mut out = MemorySink::new(alloc, List::new(alloc));
-    let mut wire = TestWire::new(alloc);
+    let mut wire = TestWire::failing(alloc, failing);
     let status = top::<TestWorld, _, _, _>(alloc, &words, &mut files, &mut out, &mut wire);
     Ok(status == Status::Ok && out.received() == page)
 }

@@ -131,11 +131,13 @@ fn is_so(alloc: Global, case: &Case) -> Result<bool, Memory> {
 
 /// What the program tells of itself.
 const HELP: &[u8] = b"Zaklumen, a gateway for Z39.50 and SRU.\n\n\
-check CONFIG          reads a configuration, and prints how many databases and classes it has\n\
-replay CONFIG SCRIPT  plays what a script says of clients, time and targets, and prints what clients are answered\n\
-load N                plays N clients of four requests each, and prints how many octets, searches and links that took\n\
---help                prints this\n\
---version             prints the version\n";
+check CONFIG               reads a configuration, and prints how many databases and classes it has\n\
+replay CONFIG SCRIPT       plays what a script says of clients, time and targets, and prints what clients are answered\n\
+load N                     plays N clients of four requests each, and prints how many octets, searches and links that took\n\
+serve CONFIG PORT WORKERS  serves clients at a port of this machine, as many at once as there are workers (1 to 64)\n\
+serve .. --quiet           the same, and logs no connection that begins or ends\n\
+--help                     prints this\n\
+--version                  prints the version\n";
 
 const USAGE: &[u8] =
     b"usage: check CONFIG | replay CONFIG SCRIPT | load N | serve CONFIG PORT WORKERS\n";

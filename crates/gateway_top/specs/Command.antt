@@ -3,7 +3,7 @@
 use Rattle.z_types.specs.Same.{is_same}
 use Rattle.std.specs.Prelude.{ℕ, List, [], ◌∷◌, Option, None, Some, if◌then◌else◌, codes}
 use Rattle.script.specs.Events.{most_clients}
-use Rattle.script.specs.Lines.{number_in}
+use Rattle.gateway_config.specs.Numbers.{number_in}
 
 -- the name of the configuration to check
 abbrev pub check_of : List (List ℕ) → Option (List ℕ)

@@ -1,13 +1,18 @@
 -- The main theorem: what is printed of a replay, of a load, and of a configuration that is checked.
 --
--- A replay of the configuration and the script of two files printed the page of one report, and nothing else.
--- The script feeds clients, runs them whole or step by step, lets time pass, deletes result sets at targets, and cuts
--- and slows links, in any order. On a fair route, whose targets' answers are known whichever member of a group is asked,
+-- A replay of the configuration and the script of two files printed the page of one report, and nothing else. The
+-- script feeds clients, runs them whole or step by step, lets time pass, deletes result sets at targets, and cuts and
+-- slows links, in any order. On a fair route, whose targets' answers are known whichever member of a group is asked,
 -- each client that it names, once and in ascending order, and no other, was written the answers to the octets that it
--- was fed: those of a route with private sessions with the targets and no pool, under the marks that the report lists,
--- one for each request that is answered. No other client, no session with a target, no pool and no clock is in that
--- answer. A mark other than Plain says that a target or the pool failed this request.
--- Where every mark is Plain, octets have one answer (`one_answer` of `gateway_rules`), and how a connection ends follows
+-- was fed, as Z39.50 or, where a letter comes first, as HTTP: those of a route with private sessions with the targets
+-- and no pool, under the marks that the report lists, one for each request that is answered. No other client, no
+-- session with a target, no pool and no clock is in that answer. A mark other than Plain says that a target or the
+-- pool failed this request, and comes with its counted cause alone: over all clients the wire counted a fault for each
+-- Link, as many looks in vain as the pool is patient for each Silent, and one reply more that a set is gone than the pool
+-- repeats for each Gone; and where one is Full, as many links were made, or failed, as there may be sessions. The sums
+-- that are printed, of links made, Searches sent, sets that were gone and calls that failed, are what the wire counted.
+-- (A target that tells what it answers makes no other fault.)
+-- Where every mark is Plain, octets have one answer (`one_answer` of `sru_rules`), and how a connection ends follows
 -- from its octets and the route alone (`one_end`). So two replays that feed a client the same octets, with all its
 -- marks Plain, write it the same and end its connection the same.
 use Rattle.std.specs.Prelude.{◌≡◌, ℕ, List, [], ◌∷◌, Some, codes}
@@ -15,23 +20,25 @@ use Rattle.z_types.specs.declared.world.World as world
 use Rattle.route_config.specs.declared.route.Route.{Route}
 use Rattle.script.specs.declared.event.Event.{Event}
 use Rattle.script.specs.Events.{most_clients}
-use Rattle.script.specs.Lines.{number_in}
-use Rattle.gateway_top.specs.Configs.{IsConfigurationOf}
-use Rattle.gateway_top.specs.Lines.{Received, check_line}
+use Rattle.gateway_config.specs.Configs.{IsConfigurationOf}
+use Rattle.gateway_config.specs.Lines.{Received}
+use Rattle.gateway_config.specs.Numbers.{number_in}
+use Rattle.gateway_top.specs.Lines.{check_line}
 use Rattle.gateway_top.specs.Load.{HasLoaded}
 use Rattle.gateway_top.specs.Outcome.{HasPrinted, IsPlayable}
-use Rattle.gateway_top.specs.Outside.{FileReads, SinkWrites}
-use Rattle.gateway_top.specs.declared.status.Status.{Status}
-use Rattle.gateway_top.specs.declared.status.Status.TheVariants.{Ok}
+use Rattle.gateway_config.specs.Outside.{FileReads, SinkWrites}
+use Rattle.gateway_config.specs.declared.status.Status.{Status}
+use Rattle.gateway_config.specs.declared.status.Status.TheVariants.{Ok}
+use Rattle.gateway_top.specs.Outside.{WireCalls}
 
 -- the configuration and the script were replayed, and the page is what was printed
-pub record IsReplay {W : Type 0} (w : world.Ghosts W) (config script : List ℕ)
+pub record IsReplay {W : Type 0} (w : world.Ghosts W) (calls : WireCalls) (config script : List ℕ)
     (writes : SinkWrites) : Type 0 where
   pub route : Route
   pub configured : IsConfigurationOf route config
   pub events : List Event
   pub scripted : IsPlayable route events script
-  pub printed : HasPrinted w route events writes
+  pub printed : HasPrinted w calls route events writes
 
 -- the configuration was checked, and that it is good is what was printed
 pub record IsCheck (config : List ℕ) (writes : SinkWrites) : Type 0 where
@@ -40,23 +47,23 @@ pub record IsCheck (config : List ℕ) (writes : SinkWrites) : Type 0 where
   pub printed : Received writes (check_line route)
 
 -- `replay` at Ok: the files that it names were replayed, where they are told
-abbrev pub IsReplayHeadline : {W : Type 0} → world.Ghosts W → List (List ℕ) → FileReads → SinkWrites
+abbrev pub IsReplayHeadline : {W : Type 0} → world.Ghosts W → WireCalls → List (List ℕ) → FileReads → SinkWrites
     → Status → Type 0
-IsReplayHeadline w words reads writes ended =
+IsReplayHeadline w calls words reads writes ended =
     (config script config_text script_text : List ℕ)
     → ended ≡ Ok → words ≡ codes "replay" ∷ config ∷ script ∷ []
     → reads.contents config ≡ Some config_text → reads.contents script ≡ Some script_text
-    → IsReplay w config_text script_text writes
+    → IsReplay w calls config_text script_text writes
 
 -- `load` at Ok: so many clients were played, and one line of a report of them was printed, as that of a
 -- replay is one by its events
-abbrev pub IsLoadHeadline : {W : Type 0} → world.Ghosts W → List (List ℕ) → SinkWrites → Status
+abbrev pub IsLoadHeadline : {W : Type 0} → world.Ghosts W → WireCalls → List (List ℕ) → SinkWrites → Status
     → Type 0
-IsLoadHeadline w words writes ended =
+IsLoadHeadline w calls words writes ended =
     (number : List ℕ) (clients : ℕ)
     → ended ≡ Ok → words ≡ codes "load" ∷ number ∷ []
     → number_in 0 most_clients number ≡ Some clients
-    → HasLoaded w clients writes
+    → HasLoaded w calls clients writes
 
 -- `check` at Ok: the file that it names was checked, where it is told
 abbrev pub IsCheckHeadline : List (List ℕ) → FileReads → SinkWrites → Status → Type 0

@@ -2,21 +2,24 @@
 use Rattle.z_types.specs.Same.{is_same}
 use Rattle.std.specs.Prelude.{ℕ, List, [], ◌∷◌, ◌++◌, Option, None, Some, if◌then◌else◌, codes}
 use Rattle.z_types.specs.declared.world.World as world
-use Rattle.gateway_top.specs.Lines.{Received, FailedWithin, line_of}
+use Rattle.gateway_config.specs.ConfigRead.{IsTold}
+use Rattle.gateway_config.specs.Lines.{line_of}
 use Rattle.gateway_top.specs.Outcome.{IsDone}
-use Rattle.gateway_top.specs.Outside.{FileReads, SinkWrites}
-use Rattle.gateway_top.specs.declared.status.Status.{Status}
-use Rattle.gateway_top.specs.declared.status.Status.TheVariants as status
+use Rattle.gateway_config.specs.Outside.{FileReads, SinkWrites}
+use Rattle.gateway_config.specs.declared.status.Status.{Status}
+use Rattle.gateway_top.specs.Outside.{WireCalls}
 
 -- what the program is, and its words
 abbrev pub help_text : List ℕ
 help_text =
     line_of (codes "Zaklumen, a gateway for Z39.50 and SRU.") ++ line_of []
-    ++ line_of (codes "check CONFIG          reads a configuration, and prints how many databases and classes it has")
-    ++ line_of (codes "replay CONFIG SCRIPT  plays what a script says of clients, time and targets, and prints what clients are answered")
-    ++ line_of (codes "load N                plays N clients of four requests each, and prints how many octets, searches and links that took")
-    ++ line_of (codes "--help                prints this")
-    ++ line_of (codes "--version             prints the version")
+    ++ line_of (codes "check CONFIG               reads a configuration, and prints how many databases and classes it has")
+    ++ line_of (codes "replay CONFIG SCRIPT       plays what a script says of clients, time and targets, and prints what clients are answered")
+    ++ line_of (codes "load N                     plays N clients of four requests each, and prints how many octets, searches and links that took")
+    ++ line_of (codes "serve CONFIG PORT WORKERS  serves clients at a port of this machine, as many at once as there are workers (1 to 64)")
+    ++ line_of (codes "serve .. --quiet           the same, and logs no connection that begins or ends")
+    ++ line_of (codes "--help                     prints this")
+    ++ line_of (codes "--version                  prints the version")
 
 -- its name and number
 abbrev pub version_text : List ℕ
@@ -33,19 +36,13 @@ abbrev pub own_text : List (List ℕ) → Option (List ℕ)
 own_text (word ∷ []) = text_of_word word
 own_text words = None
 
--- a text was printed, or a front of it where the sink failed
-abbrev pub IsTold : List ℕ → SinkWrites → Status → Type 0
-IsTold text writes status.Ok = Received writes text
-IsTold text writes status.WriteFault = FailedWithin writes text
-IsTold text writes other = ⊥
-
 -- a text of the program's own was asked for, or else a command
-abbrev pub ToldOrDone : {W : Type 0} → world.Ghosts W → Option (List ℕ) → List (List ℕ) → FileReads
+abbrev pub ToldOrDone : {W : Type 0} → world.Ghosts W → WireCalls → Option (List ℕ) → List (List ℕ) → FileReads
     → SinkWrites → Status → Type 0
-ToldOrDone w (Some text) words reads writes ended = IsTold text writes ended
-ToldOrDone w None words reads writes ended = IsDone w words reads writes ended
+ToldOrDone w calls (Some text) words reads writes ended = IsTold text writes ended
+ToldOrDone w calls None words reads writes ended = IsDone w calls words reads writes ended
 
 -- what the program did at these words
-abbrev pub IsProgramDone : {W : Type 0} → world.Ghosts W → List (List ℕ) → FileReads → SinkWrites
+abbrev pub IsProgramDone : {W : Type 0} → world.Ghosts W → WireCalls → List (List ℕ) → FileReads → SinkWrites
     → Status → Type 0
-IsProgramDone w words reads writes ended = ToldOrDone w (own_text words) words reads writes ended
+IsProgramDone w calls words reads writes ended = ToldOrDone w calls (own_text words) words reads writes ended

@@ -1,9 +1,7 @@
-pub mod Statuses
-pub mod Outside
 pub mod Command
 pub mod Lines
-pub mod Configs
-pub mod ConfigRead
+pub mod Targets
+pub mod Outside
 pub mod Load
 pub mod Outcome
 pub mod Headline

@@ -11,10 +11,12 @@ use Rattle.replay.specs.declared.reports.ClientReport.{ClientReport}
 use Rattle.replay.specs.declared.reports.Report.{Report}
 use Rattle.replay.specs.Page.{requests}
 use Rattle.replay.specs.Report.{IsReportOf}
-use Rattle.gateway_top.specs.Lines.{Received, ReceivedNothing, FailedWithin, line_of}
-use Rattle.gateway_top.specs.Outside.{SinkWrites}
-use Rattle.gateway_top.specs.declared.status.Status.{Status}
-use Rattle.gateway_top.specs.declared.status.Status.TheVariants as status
+use Rattle.replay.specs.Wires.{IsCountedBy}
+use Rattle.gateway_config.specs.Lines.{Received, ReceivedNothing, FailedWithin, line_of}
+use Rattle.gateway_config.specs.Outside.{SinkWrites}
+use Rattle.gateway_config.specs.declared.status.Status.{Status}
+use Rattle.gateway_config.specs.declared.status.Status.TheVariants as status
+use Rattle.gateway_top.specs.Outside.{WireCalls}
 
 -- the mark of an answer that no target and no pool failed
 abbrev pub is_plain : Mark → Bool
@@ -51,21 +53,23 @@ load_line clients report =
 
 -- the load of so many clients was played by the route of the smallest configuration, and the line of
 -- one report of it was printed, and nothing else
-pub record HasLoaded {W : Type 0} (w : world.Ghosts W) (clients : ℕ) (writes : SinkWrites) : Type 0 where
+pub record HasLoaded {W : Type 0} (w : world.Ghosts W) (calls : WireCalls) (clients : ℕ) (writes : SinkWrites) : Type 0 where
   pub report : Report
   pub right : IsReportOf w smallest_route (load_events clients) report
+  pub counted : IsCountedBy w calls.exact smallest_route calls.before calls.behind report
   pub printed : Received writes (load_line clients report)
 
 -- the same, of which a front of the line was printed, and nothing else, since a write failed
-pub record HasLoadedPart {W : Type 0} (w : world.Ghosts W) (clients : ℕ) (writes : SinkWrites) : Type 0 where
+pub record HasLoadedPart {W : Type 0} (w : world.Ghosts W) (calls : WireCalls) (clients : ℕ) (writes : SinkWrites) : Type 0 where
   pub report : Report
   pub right : IsReportOf w smallest_route (load_events clients) report
+  pub counted : IsCountedBy w calls.exact smallest_route calls.before calls.behind report
   pub printed : FailedWithin writes (load_line clients report)
 
 -- the load of so many clients was played: its line is printed, or a front of it where the sink failed,
 -- or nothing for want of memory
-abbrev pub LoadDone : {W : Type 0} → world.Ghosts W → (clients : ℕ) → SinkWrites → Status → Type 0
-LoadDone w clients writes status.Ok = HasLoaded w clients writes
-LoadDone w clients writes status.WriteFault = HasLoadedPart w clients writes
-LoadDone w clients writes status.Memory = ReceivedNothing writes
-LoadDone w clients writes other = ⊥
+abbrev pub LoadDone : {W : Type 0} → world.Ghosts W → WireCalls → (clients : ℕ) → SinkWrites → Status → Type 0
+LoadDone w calls clients writes status.Ok = HasLoaded w calls clients writes
+LoadDone w calls clients writes status.WriteFault = HasLoadedPart w calls clients writes
+LoadDone w calls clients writes status.Memory = ReceivedNothing writes
+LoadDone w calls clients writes other = ⊥

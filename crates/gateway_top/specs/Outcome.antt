@@ -1,6 +1,5 @@
 -- When each status comes, and what is printed with it (this project's own)
 use Rattle.std.specs.Prelude.{◌≡◌, ◌⊎◌, ℕ, ◌<◌, ◌≤◌, List, Option, None, Some, Ok, Err, IfSome, length}
-use Rattle.z_types.specs.Counts.{Rose}
 use Rattle.z_types.specs.declared.world.World as world
 use Rattle.route_config.specs.declared.route.Route.{Route}
 use Rattle.route_config.specs.Lookup.{target_names}
@@ -10,36 +9,43 @@ use Rattle.script.specs.Script.{script_of}
 use Rattle.replay.specs.declared.reports.Report.{Report}
 use Rattle.replay.specs.Report.{IsReportOf}
 use Rattle.replay.specs.Page.{page}
+use Rattle.replay.specs.Wires.{IsCountedBy}
+use Rattle.gateway_config.specs.ConfigRead.{IsUnread}
+use Rattle.gateway_config.specs.Configs.{IsTaken, IsRefusedConfig}
+use Rattle.gateway_config.specs.Lines.{Received, ReceivedNothing, FailedWithin, Says, usage_line}
+use Rattle.gateway_config.specs.Outside.{FileReads, SinkWrites}
+use Rattle.gateway_config.specs.declared.status.Status.{Status}
+use Rattle.gateway_config.specs.declared.status.Status.TheVariants as status
 use Rattle.gateway_top.specs.Command.{check_of, replay_of, load_of}
-use Rattle.gateway_top.specs.Configs.{IsTaken, IsRefusedConfig, first_real}
-use Rattle.gateway_top.specs.Lines.{Received, ReceivedNothing, FailedWithin, Says, usage_line, check_line, real_target_line, script_line, fault_line}
+use Rattle.gateway_top.specs.Lines.{check_line, real_target_line, script_line}
 use Rattle.gateway_top.specs.Load.{LoadDone}
-use Rattle.gateway_top.specs.Outside.{FileReads, SinkWrites}
-use Rattle.gateway_top.specs.declared.status.Status.{Status}
-use Rattle.gateway_top.specs.declared.status.Status.TheVariants as status
+use Rattle.gateway_top.specs.Targets.{first_real}
+use Rattle.gateway_top.specs.Outside.{WireCalls}
 
 -- the page of one report of the events was printed, and nothing else
-pub record HasPrinted {W : Type 0} (w : world.Ghosts W) (route : Route) (events : List Event)
+pub record HasPrinted {W : Type 0} (w : world.Ghosts W) (calls : WireCalls) (route : Route) (events : List Event)
     (writes : SinkWrites) : Type 0 where
   pub report : Report
   pub right : IsReportOf w route events report
+  pub counted : IsCountedBy w calls.exact route calls.before calls.behind report
   pub printed : Received writes (page report)
 
 -- a front of the page of one report of the events was printed, and nothing else, since a write failed
-pub record HasPrintedPart {W : Type 0} (w : world.Ghosts W) (route : Route) (events : List Event)
+pub record HasPrintedPart {W : Type 0} (w : world.Ghosts W) (calls : WireCalls) (route : Route) (events : List Event)
     (writes : SinkWrites) : Type 0 where
   pub report : Report
   pub right : IsReportOf w route events report
+  pub counted : IsCountedBy w calls.exact route calls.before calls.behind report
   pub printed : FailedWithin writes (page report)
 
 -- the events were played: their page is printed, or a front of it where the sink failed, or nothing
 -- for want of memory
-abbrev pub Played : {W : Type 0} → world.Ghosts W → Route → List Event → SinkWrites → Status
+abbrev pub Played : {W : Type 0} → world.Ghosts W → WireCalls → Route → List Event → SinkWrites → Status
     → Type 0
-Played w route events writes status.Ok = HasPrinted w route events writes
-Played w route events writes status.WriteFault = HasPrintedPart w route events writes
-Played w route events writes status.Memory = ReceivedNothing writes
-Played w route events writes other = ⊥
+Played w calls route events writes status.Ok = HasPrinted w calls route events writes
+Played w calls route events writes status.WriteFault = HasPrintedPart w calls route events writes
+Played w calls route events writes status.Memory = ReceivedNothing writes
+Played w calls route events writes other = ⊥
 
 -- the most octets of a script
 abbrev pub script_limit : ℕ
@@ -63,60 +69,54 @@ IsNoScript route number text =
     ⊎ ((length text ≤ script_limit) × IsRefusedAt route number text)
 
 -- a script of these octets, where they are told, was played
-abbrev pub EventsPlayed : {W : Type 0} → world.Ghosts W → Route → Option (List ℕ) → SinkWrites
+abbrev pub EventsPlayed : {W : Type 0} → world.Ghosts W → WireCalls → Route → Option (List ℕ) → SinkWrites
     → Status → Type 0
-EventsPlayed w route contents writes status =
+EventsPlayed w calls route contents writes status =
     (events : List Event) × IfSome contents (IsPlayable route events)
-    × Played w route events writes status
+    × Played w calls route events writes status
 
 -- a script of these octets, where they are told, was played; or it is refused, at the line that is
 -- printed
-abbrev pub ScriptPlayed : {W : Type 0} → world.Ghosts W → Route → Option (List ℕ) → SinkWrites
+abbrev pub ScriptPlayed : {W : Type 0} → world.Ghosts W → WireCalls → Route → Option (List ℕ) → SinkWrites
     → Status → Type 0
-ScriptPlayed w route contents writes status.Ok = EventsPlayed w route contents writes status.Ok
-ScriptPlayed w route contents writes status.WriteFault =
-    EventsPlayed w route contents writes status.WriteFault
-ScriptPlayed w route contents writes status.Script =
+ScriptPlayed w calls route contents writes status.Ok = EventsPlayed w calls route contents writes status.Ok
+ScriptPlayed w calls route contents writes status.WriteFault =
+    EventsPlayed w calls route contents writes status.WriteFault
+ScriptPlayed w calls route contents writes status.Script =
     (number : ℕ) × IfSome contents (IsNoScript route number) × Says writes (script_line number)
-ScriptPlayed w route contents writes status.Memory = ReceivedNothing writes
-ScriptPlayed w route contents writes other = ⊥
-
--- the read of the file of this name failed, and the line says so
-abbrev pub IsUnread : List ℕ → FileReads → SinkWrites → Type 0
-IsUnread name reads writes =
-    Rose reads.faults reads.faults_after × IfSome reads.failed_after (λ failed. failed ≡ name)
-    × Says writes (fault_line name)
+ScriptPlayed w calls route contents writes status.Memory = ReceivedNothing writes
+ScriptPlayed w calls route contents writes other = ⊥
 
 -- the script of a name was played, or could not be read
-abbrev pub ScriptDone : {W : Type 0} → world.Ghosts W → Route → List ℕ → FileReads → SinkWrites
+abbrev pub ScriptDone : {W : Type 0} → world.Ghosts W → WireCalls → Route → List ℕ → FileReads → SinkWrites
     → Status → Type 0
-ScriptDone w route script reads writes status.ReadFault = IsUnread script reads writes
-ScriptDone w route script reads writes other =
-    ScriptPlayed w route (reads.contents script) writes other
+ScriptDone w calls route script reads writes status.ReadFault = IsUnread script reads writes
+ScriptDone w calls route script reads writes other =
+    ScriptPlayed w calls route (reads.contents script) writes other
 
 -- a route with test targets alone is played with the script; another is refused by its first other
 -- target
-abbrev pub RoutePlayed : {W : Type 0} → world.Ghosts W → Option (List ℕ) → Route → List ℕ
+abbrev pub RoutePlayed : {W : Type 0} → world.Ghosts W → WireCalls → Option (List ℕ) → Route → List ℕ
     → FileReads → SinkWrites → Status → Type 0
-RoutePlayed w (Some name) route script reads writes ended =
+RoutePlayed w calls (Some name) route script reads writes ended =
     (ended ≡ status.RealTarget) × Says writes (real_target_line name)
-RoutePlayed w None route script reads writes ended = ScriptDone w route script reads writes ended
+RoutePlayed w calls None route script reads writes ended = ScriptDone w calls route script reads writes ended
 
 -- a configuration was taken, and its route played
-abbrev pub TakenAndPlayed : {W : Type 0} → world.Ghosts W → List ℕ → List ℕ → FileReads → SinkWrites
+abbrev pub TakenAndPlayed : {W : Type 0} → world.Ghosts W → WireCalls → List ℕ → List ℕ → FileReads → SinkWrites
     → Status → Type 0
-TakenAndPlayed w config script reads writes ended =
+TakenAndPlayed w calls config script reads writes ended =
     (route : Route) × IsTaken config reads route
-    × RoutePlayed w (first_real route) route script reads writes ended
+    × RoutePlayed w calls (first_real route) route script reads writes ended
 
 -- Config exactly where the configuration is refused; and else its route and the script decide
-abbrev pub ReplayDone : {W : Type 0} → world.Ghosts W → List ℕ → List ℕ → FileReads → SinkWrites
+abbrev pub ReplayDone : {W : Type 0} → world.Ghosts W → WireCalls → List ℕ → List ℕ → FileReads → SinkWrites
     → Status → Type 0
-ReplayDone w config script reads writes status.Config = IsRefusedConfig config reads writes
-ReplayDone w config script reads writes status.Memory = ReceivedNothing writes
-ReplayDone w config script reads writes status.ReadFault =
-    IsUnread config reads writes ⊎ TakenAndPlayed w config script reads writes status.ReadFault
-ReplayDone w config script reads writes ended = TakenAndPlayed w config script reads writes ended
+ReplayDone w calls config script reads writes status.Config = IsRefusedConfig config reads writes
+ReplayDone w calls config script reads writes status.Memory = ReceivedNothing writes
+ReplayDone w calls config script reads writes status.ReadFault =
+    IsUnread config reads writes ⊎ TakenAndPlayed w calls config script reads writes status.ReadFault
+ReplayDone w calls config script reads writes ended = TakenAndPlayed w calls config script reads writes ended
 
 -- a configuration was checked: it is good, or refused, or could not be read
 abbrev pub CheckDone : List ℕ → FileReads → SinkWrites → Status → Type 0
@@ -130,31 +130,25 @@ CheckDone config reads writes status.Memory = ReceivedNothing writes
 CheckDone config reads writes other = ⊥
 
 -- Words exactly where the words are no command
-abbrev pub CommandDone : {W : Type 0} → world.Ghosts W → Option (List ℕ) → Option (List ℕ × List ℕ)
+abbrev pub CommandDone : {W : Type 0} → world.Ghosts W → WireCalls → Option (List ℕ) → Option (List ℕ × List ℕ)
     → Option ℕ → FileReads → SinkWrites → Status → Type 0
-CommandDone w (Some config) replayed loaded reads writes ended = CheckDone config reads writes ended
-CommandDone w None (Some (config, script)) loaded reads writes ended =
-    ReplayDone w config script reads writes ended
-CommandDone w None None (Some clients) reads writes ended = LoadDone w clients writes ended
-CommandDone w None None None reads writes ended = (ended ≡ status.Words) × Says writes usage_line
+CommandDone w calls (Some config) replayed loaded reads writes ended = CheckDone config reads writes ended
+CommandDone w calls None (Some (config, script)) loaded reads writes ended =
+    ReplayDone w calls config script reads writes ended
+CommandDone w calls None None (Some clients) reads writes ended = LoadDone w calls clients writes ended
+CommandDone w calls None None None reads writes ended = (ended ≡ status.Words) × Says writes usage_line
 
 -- what these words did
-abbrev pub IsDone : {W : Type 0} → world.Ghosts W → List (List ℕ) → FileReads → SinkWrites → Status
+abbrev pub IsDone : {W : Type 0} → world.Ghosts W → WireCalls → List (List ℕ) → FileReads → SinkWrites → Status
     → Type 0
-IsDone w words reads writes ended =
-    CommandDone w (check_of words) (replay_of words) (load_of words) reads writes ended
+IsDone w calls words reads writes ended =
+    CommandDone w calls (check_of words) (replay_of words) (load_of words) reads writes ended
 
 -- a script is refused at a line, which is printed, or no memory could be had
 abbrev pub IsRefusal : ℕ → SinkWrites → Status → Type 0
 IsRefusal number writes status.Script = Says writes (script_line number)
 IsRefusal number writes status.Memory = ReceivedNothing writes
 IsRefusal number writes other = ⊥
-
--- a file of this name could not be read, which is printed, or no memory could be had
-abbrev pub IsUnreadTold : List ℕ → SinkWrites → Status → Type 0
-IsUnreadTold name writes status.ReadFault = Says writes (fault_line name)
-IsUnreadTold name writes status.Memory = ReceivedNothing writes
-IsUnreadTold name writes other = ⊥
 
 -- a route is refused for a target, whose name is printed, or no memory could be had
 abbrev pub IsTargetRefusal : List ℕ → SinkWrites → Status → Type 0

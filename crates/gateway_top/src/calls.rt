@@ -1,17 +1,18 @@
 //! The top call, which the program makes.
 
 ghost use Rattle.gateway_top.specs.Outcome.{IsDone, ReplayDone, CheckDone, RoutePlayed, IsMemoryOr, IsTargetRefusal, IsTextPrinted};
-ghost use Rattle.gateway_top.specs.Outside.{file_reads, sink_writes};
+ghost use Rattle.gateway_config.specs.Outside.{file_reads, sink_writes};
+ghost use Rattle.gateway_top.specs.Outside.{wire_calls};
 ghost use Rattle.gateway_top.specs.Headline.{IsReplayHeadline, IsCheckHeadline, IsLoadHeadline};
-ghost use Rattle.gateway_top.specs.Configs.{first_real};
+ghost use Rattle.gateway_top.specs.Targets.{first_real};
 ghost use Rattle.gateway_top.specs.Lines.{check_line};
 
-use crate::config::{ConfigRead, first_real, read_config, refuse_config};
 use crate::load::load;
-use crate::play::{play_script, unread};
-use crate::say::{USAGE, check_line, real_target_line, say};
-use crate::status::Status;
+use crate::play::play_script;
+use crate::say::{check_line, real_target_line};
+use crate::targets::first_real;
 use crate::words::{check_of, load_of, replay_of};
+use gateway_config::{ConfigRead, Status, USAGE, read_config, refuse_config, say, unread};
 use gw_outside::{Events, Files, Sink, Wire, write_all};
 use route_config::Route;
 use std::alloc::Global;
@@ -27,8 +28,9 @@ pub fn top<W: World, N: Wire<W> + Events, F: Files, K: Sink>(
     out: &mut K,
     wire: &mut N,
 ) -> Status
-    // At Ok the page of one report is printed, of the answers that a route with private sessions gives.
-    ensures headline { IsReplayHeadline W.World words.now
+    // At Ok the page of one report is printed, of the answers that a route with private sessions gives,
+    // of sums that the wire counted, and of marks that have their counted cause.
+    ensures headline { IsReplayHeadline W.World (wire_calls N.Watched wire.old wire.new) words.now
         (file_reads F.Files files.old files.new) (sink_writes K.Sink out.old out.new) result }
 
     // At Ok of `check` the sizes of the configuration's route are printed.
@@ -36,10 +38,11 @@ pub fn top<W: World, N: Wire<W> + Events, F: Files, K: Sink>(
         (file_reads F.Files files.old files.new) (sink_writes K.Sink out.old out.new) result }
 
     // At Ok of `load` the line of one report is printed, of the events of so many clients.
-    ensures loaded { IsLoadHeadline W.World words.now (sink_writes K.Sink out.old out.new) result }
+    ensures loaded { IsLoadHeadline W.World (wire_calls N.Watched wire.old wire.new) words.now
+        (sink_writes K.Sink out.old out.new) result }
 
     // Each status comes exactly as its definition says, with what is printed.
-    ensures done { IsDone W.World words.now
+    ensures done { IsDone W.World (wire_calls N.Watched wire.old wire.new) words.now
         (file_reads F.Files files.old files.new) (sink_writes K.Sink out.old out.new) result }
 {
     if let Some(config) = check_of(words) {
@@ -95,7 +98,7 @@ fn replay<W: World, N: Wire<W> + Events, F: Files, K: Sink>(
     out: &mut K,
     wire: &mut N,
 ) -> Status
-    ensures { ReplayDone W.World config.now script.now
+    ensures { ReplayDone W.World (wire_calls N.Watched wire.old wire.new) config.now script.now
         (file_reads F.Files files.old files.new) (sink_writes K.Sink out.old out.new) result }
 {
     match read_config(alloc, files, config) {
@@ -116,7 +119,8 @@ fn play_route<W: World, N: Wire<W> + Events, F: Files, K: Sink>(
     wire: &mut N,
 ) -> Status
     ensures { IsMemoryOr result (sink_writes K.Sink out.old out.new)
-        (RoutePlayed W.World (first_real route.now) route.now script.now
+        (RoutePlayed W.World (wire_calls N.Watched wire.old wire.new)
+        (first_real route.now) route.now script.now
         (file_reads F.Files files.old files.new) (sink_writes K.Sink out.old out.new) result) }
 {
     match first_real(route) {

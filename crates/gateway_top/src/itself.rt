@@ -1,23 +1,26 @@
 //! What the program tells of itself.
 
-ghost use Rattle.gateway_top.specs.Itself.{IsProgramDone, IsTold, own_text};
-ghost use Rattle.gateway_top.specs.Outside.{file_reads, sink_writes};
+ghost use Rattle.gateway_top.specs.Itself.{IsProgramDone, own_text};
+ghost use Rattle.gateway_config.specs.Outside.{file_reads, sink_writes};
+ghost use Rattle.gateway_top.specs.Outside.{wire_calls};
 ghost use Rattle.std.specs.Prelude.{◌≡◌};
 ghost use Rattle.std.specs.Option.{option_copied};
 
 use crate::calls::top;
-use crate::status::Status;
-use gw_outside::{Events, Files, Sink, Wire, write_all};
+use gateway_config::{Status, print_text};
+use gw_outside::{Events, Files, Sink, Wire};
 use std::alloc::Global;
 use z_types::{Text, World};
 
 /// What `--help` prints.
 const HELP: &[u8] = b"Zaklumen, a gateway for Z39.50 and SRU.\n\n\
-check CONFIG          reads a configuration, and prints how many databases and classes it has\n\
-replay CONFIG SCRIPT  plays what a script says of clients, time and targets, and prints what clients are answered\n\
-load N                plays N clients of four requests each, and prints how many octets, searches and links that took\n\
---help                prints this\n\
---version             prints the version\n";
+check CONFIG               reads a configuration, and prints how many databases and classes it has\n\
+replay CONFIG SCRIPT       plays what a script says of clients, time and targets, and prints what clients are answered\n\
+load N                     plays N clients of four requests each, and prints how many octets, searches and links that took\n\
+serve CONFIG PORT WORKERS  serves clients at a port of this machine, as many at once as there are workers (1 to 64)\n\
+serve .. --quiet           the same, and logs no connection that begins or ends\n\
+--help                     prints this\n\
+--version                  prints the version\n";
 
 /// What `--version` prints.
 const VERSION: &[u8] = b"zaklumen 0.1.0\n";
@@ -30,11 +33,11 @@ pub fn command<W: World, N: Wire<W> + Events, F: Files, K: Sink>(
     out: &mut K,
     wire: &mut N,
 ) -> Status
-    ensures { IsProgramDone W.World words.now
+    ensures { IsProgramDone W.World (wire_calls N.Watched wire.old wire.new) words.now
         (file_reads F.Files files.old files.new) (sink_writes K.Sink out.old out.new) result }
 {
     match own_text(words) {
-        Some(text) => tell(out, text),
+        Some(text) => print_text(out, text),
         None => top(alloc, words, files, out, wire),
     }
 }
@@ -47,16 +50,5 @@ fn own_text(words: &[Text]) -> Option<&'static [u8]>
         [word] if word.as_slice() == b"--help".as_slice() => Some(HELP),
         [word] if word.as_slice() == b"--version".as_slice() => Some(VERSION),
         _ => None,
-    }
-}
-
-/// Prints a text of the program's own.
-fn tell<K: Sink>(out: &mut K, text: &[u8]) -> Status
-    ensures { IsTold text.now (sink_writes K.Sink out.old out.new) result }
-{
-    if write_all(out, text) {
-        Status::Ok
-    } else {
-        Status::WriteFault
     }
 }

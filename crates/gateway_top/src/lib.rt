@@ -2,15 +2,13 @@
 #![tactic(auto)]
 
 mod calls;
-mod config;
 mod itself;
 mod load;
-mod numbers;
 mod play;
 mod say;
-mod status;
+mod targets;
 mod words;
 
 pub use crate::calls::top;
 pub use crate::itself::command;
-pub use crate::status::Status;
+pub use gateway_config::Status;

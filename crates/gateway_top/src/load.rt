@@ -7,10 +7,12 @@ ghost use Rattle.route_config.specs.Smallest.{smallest_route};
 ghost use Rattle.sample_maker.specs.Load.{load_events};
 ghost use Rattle.replay.specs.Page.{requests};
 ghost use Rattle.replay.specs.Report.{IsReportOf};
+ghost use Rattle.replay.specs.Wires.{IsCountedBy};
 ghost use Rattle.gateway_top.specs.Load.{LoadDone, is_plain, links_made, load_line, octets_written, plain_requests, searches_sent};
-ghost use Rattle.gateway_top.specs.Outside.{sink_writes};
+ghost use Rattle.gateway_config.specs.Outside.{sink_writes};
+ghost use Rattle.gateway_top.specs.Outside.{wire_calls};
 
-use crate::status::Status;
+use gateway_config::Status;
 use gw_outside::{Events, Sink, Wire, write_all};
 use replay::{ClassReport, ClientReport, Report, run};
 use route_config::Route;
@@ -26,7 +28,8 @@ pub(crate) fn load<W: World, N: Wire<W> + Events, K: Sink>(
     wire: &mut N,
 ) -> Status
     requires { clients ≤ most_clients }
-    ensures { LoadDone W.World clients (sink_writes K.Sink out.old out.new) result }
+    ensures { LoadDone W.World (wire_calls N.Watched wire.old wire.new) clients
+        (sink_writes K.Sink out.old out.new) result }
 {
     let Ok(report) = play_load::<W, N>(alloc, clients, wire) else {
         return Status::Memory;
@@ -48,7 +51,9 @@ fn play_load<W: World, N: Wire<W> + Events>(
     wire: &mut N,
 ) -> Result<Report, Memory>
     requires { clients ≤ most_clients }
-    ensures { IfOk result (IsReportOf W.World smallest_route (load_events clients)) }
+    ensures report { IfOk result (IsReportOf W.World smallest_route (load_events clients)) }
+    ensures counted { IfOk result (IsCountedBy W.World N.exact smallest_route
+        (N.counts wire.old) (N.counts wire.new)) }
 {
     let route = Route::smallest(alloc)?;
     let events = make(alloc, clients)?;

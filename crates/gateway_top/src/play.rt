@@ -2,11 +2,12 @@
 
 ghost use Rattle.std.specs.Prelude.{◌≤◌, ℕ, length, Some};
 ghost use Rattle.script.specs.Events.{AreEvents};
-ghost use Rattle.gateway_top.specs.Outcome.{IsRefusal, IsUnreadTold, Played, ScriptPlayed, ScriptDone};
-ghost use Rattle.gateway_top.specs.Outside.{file_reads, sink_writes};
+ghost use Rattle.gateway_top.specs.Outcome.{IsRefusal, Played, ScriptPlayed, ScriptDone};
+ghost use Rattle.gateway_config.specs.Outside.{file_reads, sink_writes};
+ghost use Rattle.gateway_top.specs.Outside.{wire_calls};
 
-use crate::say::{fault_line, say, script_line};
-use crate::status::Status;
+use crate::say::script_line;
+use gateway_config::{Status, say, unread};
 use gw_outside::{Events, FileGot, Files, Sink, Wire, write_all};
 use replay::{print, run};
 use route_config::{Route, target_names};
@@ -26,7 +27,7 @@ pub(crate) fn play_script<W: World, N: Wire<W> + Events, F: Files, K: Sink>(
     name: &Text,
     out: &mut K,
 ) -> Status
-    ensures { ScriptDone W.World route.now name.now
+    ensures { ScriptDone W.World (wire_calls N.Watched wire.old wire.new) route.now name.now
         (file_reads F.Files files.old files.new) (sink_writes K.Sink out.old out.new) result }
 {
     match files.read_all(alloc, name, SCRIPT_LIMIT) {
@@ -34,19 +35,6 @@ pub(crate) fn play_script<W: World, N: Wire<W> + Events, F: Files, K: Sink>(
         FileGot::Longer => refuse(alloc, out, 0),
         FileGot::Failed => unread(alloc, out, name),
         FileGot::Memory => Status::Memory,
-    }
-}
-
-/// Tells that the file of a name could not be read.
-pub(crate) fn unread<K: Sink>(alloc: Global, out: &mut K, name: &Text) -> Status
-    ensures { IsUnreadTold name.now (sink_writes K.Sink out.old out.new) result }
-{
-    match fault_line(alloc, name) {
-        Ok(line) => {
-            say(out, line.as_slice());
-            Status::ReadFault
-        }
-        Err(_) => Status::Memory,
     }
 }
 
@@ -59,8 +47,8 @@ fn play_text<W: World, N: Wire<W> + Events, K: Sink>(
     out: &mut K,
 ) -> Status
     requires { length text.now ≤ 16777216 }
-    ensures { ScriptPlayed W.World route.now (Some text.now)
-        (sink_writes K.Sink out.old out.new) result }
+    ensures { ScriptPlayed W.World (wire_calls N.Watched wire.old wire.new) route.now
+        (Some text.now) (sink_writes K.Sink out.old out.new) result }
 {
     let Ok(names) = target_names(alloc, route) else {
         return Status::Memory;
@@ -95,7 +83,8 @@ fn play<W: World, N: Wire<W> + Events, K: Sink>(
     out: &mut K,
 ) -> Status
     requires { (targets : ℕ) × AreEvents targets events.now }
-    ensures { Played W.World route.now events.now (sink_writes K.Sink out.old out.new) result }
+    ensures { Played W.World (wire_calls N.Watched wire.old wire.new) route.now events.now
+        (sink_writes K.Sink out.old out.new) result }
 {
     let Ok(report) = run(alloc, route, events, wire) else {
         return Status::Memory;

@@ -5,7 +5,7 @@ ghost use Rattle.std.specs.Option.{option_copied, option_map};
 ghost use Rattle.script.specs.Events.{most_clients};
 ghost use Rattle.gateway_top.specs.Command.{check_of, replay_of, load_of};
 
-use crate::numbers::number_in;
+use gateway_config::number_in;
 use script::MOST_CLIENTS;
 use z_types::Text;
 

@@ -17,4 +17,4 @@ counts_of backend = record {
 
 -- nothing is made to happen; calls fail where they are listed
 abbrev pub never_steady : Happened
-never_steady = record { steady = false; of_target = λ target. nothing_happens }
+never_steady = record { steady = false; lent = 0; of_target = λ target. nothing_happens }

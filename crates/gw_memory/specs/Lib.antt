@@ -1,4 +1,3 @@
-pub mod Calls
 pub mod Planned
 pub mod Named
 pub mod Moments

@@ -6,20 +6,8 @@ use Rattle.gw_outside.specs.declared.sources.Got.{Got}
 use Rattle.gw_outside.specs.declared.sources.Got.TheVariants as give
 use Rattle.gw_outside.specs.declared.sinks.Took.{Took}
 use Rattle.gw_outside.specs.declared.sinks.Took.TheVariants as took
-use Rattle.gw_memory.specs.declared.calls.Calls.{Calls}
-use Rattle.gw_memory.specs.Calls.{next_call, is_to_fail}
-
--- no call was made; those of these numbers are to fail
-abbrev pub new_calls : List ℕ → Calls
-new_calls failing = record { failing = failing; made = 0 }
-
--- the next call is to fail
-abbrev pub fails_next : Calls → Bool
-fails_next calls = is_to_fail calls.failing (next_call calls.made)
-
--- one call more was made
-abbrev pub after_call : Calls → Calls
-after_call calls = record calls { made = next_call calls.made }
+use Rattle.planned_calls.specs.declared.calls.Calls.{Calls}
+use Rattle.planned_calls.specs.Planned.{fails_next}
 
 -- ---- reads
 

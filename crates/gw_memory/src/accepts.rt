@@ -6,11 +6,11 @@ ghost use Rattle.std.specs.VecDeque.{deque_len};
 ghost use Rattle.std.proofs.Props.{props};
 ghost use Rattle.z_types.specs.Counts.{Rose, one_more};
 ghost use Rattle.gw_outside.specs.Accepts.{AcceptFits, IsNewConnection, out_after};
-ghost use Rattle.gw_memory.specs.Planned.{new_calls, fails_next, after_call};
+ghost use Rattle.planned_calls.specs.Planned.{new_calls, fails_next, after_call};
 ghost use Rattle.gw_memory.specs.Accepts.{AreUntouched, HandsOut, is_failed_accept};
 
-use crate::calls::Calls;
 use gw_outside::{Accept, Accepted, Sink, Source};
+use planned_calls::Calls;
 use std::alloc::Global;
 use std::collections::VecDeque;
 use z_types::{List, Memory};

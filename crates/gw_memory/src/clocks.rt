@@ -1,7 +1,7 @@
 //! A clock in memory.
 
 ghost use Rattle.std.specs.Prelude.{◌≡◌};
-ghost use Rattle.gw_memory.specs.Calls.{next_call};
+ghost use Rattle.planned_calls.specs.Calls.{next_call};
 ghost use Rattle.gw_memory.specs.Moments.{moment_after};
 
 use gw_outside::Clock;

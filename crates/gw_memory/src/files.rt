@@ -2,13 +2,14 @@
 
 ghost use Rattle.std.specs.Prelude.{◌≡◌, ◌≢◌, ◌≤◌, ℕ, List, Some};
 ghost use Rattle.z_types.specs.Counts.{Rose, one_more};
-ghost use Rattle.gw_memory.specs.Planned.{new_calls, after_call, read_fails, is_failed_read, IsPlannedRead};
+ghost use Rattle.planned_calls.specs.Planned.{new_calls, after_call};
+ghost use Rattle.gw_memory.specs.Planned.{read_fails, is_failed_read, IsPlannedRead};
 ghost use Rattle.std.specs.Option.{option_copied};
 ghost use Rattle.gw_outside.specs.Files.{FileFits};
 ghost use Rattle.gw_memory.specs.Named.{file_named, octets_named};
 
-use crate::calls::Calls;
 use gw_outside::{FileGot, Files};
+use planned_calls::Calls;
 use std::alloc::Global;
 use z_types::{List, Text, copy};
 

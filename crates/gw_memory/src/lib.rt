@@ -3,7 +3,6 @@
 #![tactic(auto)]
 
 mod accepts;
-mod calls;
 mod clocks;
 mod files;
 mod sessions;

@@ -12,11 +12,11 @@ ghost use Rattle.gw_outside.specs.Happened.{AreSame, AreLess};
 ghost use Rattle.gw_outside.specs.Sessions.{IfSession, IsNewSession, OpenHappens, OpenCounts, LookCounts, Fits, IsWorlds, pending_from, pending_after, made_after, is_search, open_counted, start_counted, heard_counted};
 ghost use Rattle.gw_outside.specs.Targets.{AnswersAs};
 ghost use Rattle.gw_memory.specs.FakeCounts.{counts_of, never_steady};
-ghost use Rattle.gw_memory.specs.Planned.{new_calls, fails_next, after_call};
+ghost use Rattle.planned_calls.specs.Planned.{new_calls, fails_next, after_call};
 ghost use Rattle.gw_memory.specs.FakeSessions.{pending_of, made_in, Answers, IsHeardOf, IsHeardScan, AreHeard};
 
-use crate::calls::Calls;
 use gw_outside::{Backend, Began, Heard, Opening, TargetAnswer, Targets, Watched};
+use planned_calls::Calls;
 use std::alloc::Global;
 use std::mem;
 use z_types::{Address, Ask, Item, List, Memory, Oid, ScanAsk, SetKey, Sitting, Text, World, copy};

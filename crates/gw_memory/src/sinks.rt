@@ -3,10 +3,11 @@
 ghost use Rattle.std.specs.Prelude.{◌≡◌, ◌≤◌, ◌<◌, [], Some, length, min};
 ghost use Rattle.z_types.specs.Counts.{Rose, one_more};
 ghost use Rattle.gw_outside.specs.Sinks.{TookFits};
-ghost use Rattle.gw_memory.specs.Planned.{new_calls, fails_next, after_call, is_failed_write, IsPlannedWrite};
+ghost use Rattle.planned_calls.specs.Planned.{new_calls, fails_next, after_call};
+ghost use Rattle.gw_memory.specs.Planned.{is_failed_write, IsPlannedWrite};
 
-use crate::calls::Calls;
 use gw_outside::{Sink, Took};
+use planned_calls::Calls;
 use std::alloc::Global;
 use z_types::{List, Text};
 

@@ -3,10 +3,11 @@
 ghost use Rattle.std.specs.Prelude.{◌≡◌, ◌↔◌, ◌+◌, ◌^◌, ◌<◌, ◌≤◌, IsTrue, [], Some, drop, length, min, take};
 ghost use Rattle.z_types.specs.Counts.{Rose, one_more};
 ghost use Rattle.gw_outside.specs.Sources.{GotFits, given_after};
-ghost use Rattle.gw_memory.specs.Planned.{new_calls, fails_next, after_call, FillsWhole};
+ghost use Rattle.planned_calls.specs.Planned.{new_calls, fails_next, after_call};
+ghost use Rattle.gw_memory.specs.Planned.{FillsWhole};
 
-use crate::calls::Calls;
 use gw_outside::{Got, Source};
+use planned_calls::Calls;
 use z_types::{List, Text};
 
 /// A source of stated octets.

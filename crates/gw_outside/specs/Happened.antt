@@ -8,9 +8,10 @@ use Rattle.gw_outside.specs.declared.happenings.Happening.{Happening}
 use Rattle.gw_outside.specs.Counts.{Counts}
 use Rattle.gw_outside.specs.Peers.{NamedSet, Peer}
 
--- what was made to happen, by the number of the target; and whether nothing else does (links fail where they are cut alone, sets are deleted by Presents that are left alone, and replies come after the stated looks)
+-- what was made to happen, by the number of the target; whether nothing else does (links fail where they are cut alone, sets are deleted by Presents that are left alone, and replies come after the stated looks); and by which reference a wire is lent, where it is another's, so that its owner finds what became of it
 pub record Happened : Type 0 where
   pub steady : Bool
+  pub lent : ℕ
   pub of_target : ℕ → Happening
 
 -- nothing was
@@ -22,11 +23,13 @@ nothing_happens = record { presents = 0; delay = 0; cut = 0 }
 -- nothing changes
 pub record AreSame (old new : Happened) : Type 0 where
   pub steady : new.steady ≡ old.steady
+  pub lent : new.lent ≡ old.lent
   pub of_target : (target : ℕ) → new.of_target target ≡ old.of_target target
 
 -- this becomes of a target's; those of the others stay
 pub record IsMade (target : ℕ) (change : Happening → Happening) (old new : Happened) : Type 0 where
   pub steady : new.steady ≡ old.steady
+  pub lent : new.lent ≡ old.lent
   pub own : new.of_target target ≡ change (old.of_target target)
   pub others : (other : ℕ) → other ≢ target → new.of_target other ≡ old.of_target other
 
@@ -39,6 +42,7 @@ pub record AreCut (exact : Bool) (target dials : ℕ) (old new : Happened) : Typ
 -- at most some Presents less are left
 pub record AreLess (old new : Happened) : Type 0 where
   pub steady : new.steady ≡ old.steady
+  pub lent : new.lent ≡ old.lent
   pub presents : (target : ℕ) → (new.of_target target).presents ≤ (old.of_target target).presents
   pub delay : (target : ℕ) → (new.of_target target).delay ≡ (old.of_target target).delay
   pub cut : (target : ℕ) → (new.of_target target).cut ≡ (old.of_target target).cut

@@ -150,7 +150,7 @@ impl Watched for PlayedWire {
 
     ghost exact = { false };
 
-    ghost happened = { λ _. record { steady = false; of_target = λ _. nothing_happens } };
+    ghost happened = { λ _. record { steady = false; lent = 0; of_target = λ _. nothing_happens } };
 }
 
 impl Wire<TestWorld> for PlayedWire {

@@ -1,6 +1,8 @@
 //! Types that cross threads.
 
 use pool_core::Pool;
+use pool_index::IndexedPool;
+use pool_keys::Digest;
 use pool_locked::Counted;
 use pool_sets::{Door, Pooled, SetTable};
 use std::sync::Mutex;
@@ -22,6 +24,11 @@ pub fn sessions_cross<W: World + Send, S: Sitting<W> + Send>() {
 /// A pool may go to another thread where its sessions may.
 pub fn pools_cross<W: World + Send, S: Sitting<W> + Send>() {
     may_go::<Pool<W, S>>();
+}
+
+/// A pool by indexes may go to another thread where its sessions may.
+pub fn indexes_cross<W: World + Send, S: Sitting<W> + Send, D: Digest + Send>() {
+    may_go::<IndexedPool<W, S, D>>();
 }
 
 /// A pool behind a lock may be shared with another thread where it and its sessions may go to one.

@@ -4,4 +4,4 @@
 
 mod crossing;
 
-pub use crossing::{locks_cross, pools_cross, sessions_cross};
+pub use crossing::{indexes_cross, locks_cross, pools_cross, sessions_cross};

@@ -103,7 +103,7 @@ module _ {W S : Type 0} (w : world.Ghosts W) (t : sitting.Ghosts S W) (route : R
       → IsClientFed w t route most (fed before number) (has_ended before number) (client_or_new place)
   or_new_fed laws before number None off =
       fed_as [] (fed before number) false (has_ended before number) new_client (unnamed-fed before number off) (unnamed-ended before number off)
-      (new_fed w t route most laws (λ e. record { sets = tt; in_work = tt }))
+      (new_fed w t route most laws (λ e. record { sets = tt; in_work = tt; one_work = tt }))
   or_new_fed laws before number (Some client) h = h.1
 
   -- and may take what an event feeds it that may follow them

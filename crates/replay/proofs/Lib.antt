@@ -8,3 +8,14 @@ pub mod ClosingLemmas
 pub mod CostLemmas
 pub mod ReportLemmas
 pub mod SumReports
+pub mod TurnKeeps
+pub mod RunKeeps
+pub mod SitsLemmas
+pub mod TurnMoves
+pub mod MovesLemmas
+pub mod WireLemmas
+pub mod LentLemmas
+pub mod MarkLemmas
+pub mod FullLemmas
+pub mod TwiceLemmas
+pub mod UncausedLemmas

@@ -1,13 +1,14 @@
 -- what befalls a client's connection
-use Rattle.std.proofs.Common.{◌≡◌, ◌≢◌, ◌∙◌, ℕ, Bool, true, false, List, [], ◌∷◌, ◌++◌, Option, None, Some, IsSome, refl, sym, ap, subst}
+use Rattle.std.proofs.Common.{◌≡◌, ◌≢◌, ◌∙◌, ℕ, Bool, true, false, List, [], ◌∷◌, ◌++◌, Option, None, Some, Result, Ok, Err, IsSome, refl, sym, ap, subst}
 use Rattle.z_types.specs.declared.marks.End.{End}
+use Rattle.z_types.specs.declared.memory.Memory.{Memory as NoMemory}
 use Rattle.z_types.specs.declared.sitting.Sitting as sitting
 use Rattle.z_types.specs.declared.world.World as world
 use Rattle.route_config.specs.declared.route.Route.{Route}
 use Rattle.front_session.specs.Sessions.{new_session}
 use Rattle.front_conn.specs.declared.stepped.Stepped.{Stepped}
 use Rattle.front_conn.specs.declared.stepped.Stepped.TheVariants.{Idle, NotYet, Went, Memory}
-use Rattle.front_conn.specs.steps.Answering.{AnsweringState, Outside, WorksOn}
+use Rattle.front_conn.specs.steps.Answering.{AnsweringState, IsEndAfter, Outside, WorksOn}
 use Rattle.front_conn.specs.steps.Feeding.{fed_piece, without_out}
 use Rattle.front_conn.specs.steps.States.{ConnectionState, IsConnOf, IsStateOf, nothing_yet}
 use Rattle.front_conn.specs.steps.Steps.{StepsFrom, UnlessMemory}
@@ -40,11 +41,16 @@ module _ {W S : Type 0} (w : world.Ghosts W) (t : sitting.Ghosts S W) (exact : B
   input_kept None None old new Memory before behind h = tt
 
   -- a turn of a request in work is never idle
-  never_idle : (answer : Turned) (view : PackageView S) (old new : AnsweringState S) → WorksOn route answer view old new Idle → ⊥
-  never_idle turned.Went view old new h = let e = h.0 in cc
-  never_idle turned.NotYet view old new h = let e = h.0 in cc
-  never_idle turned.Done view old new h = h.answered
-  never_idle turned.Memory view old new h = let e = h.0 in cc
+  no_end : (done : Result (Option End) NoMemory) (end : Option End) → IsEndAfter done end Idle → ⊥
+  no_end (Ok ended) end after = let e = after.1 in cc
+  no_end (Err want) end after = let e = after.1 in cc
+
+  never_idle : (answer : Turned) (view : PackageView S) (old new : AnsweringState S) (end : Option End)
+      → WorksOn route answer view old new Idle end → ⊥
+  never_idle turned.Went view old new end h = let e = h.0 in cc
+  never_idle turned.NotYet view old new end h = let e = h.0 in cc
+  never_idle turned.Done view old new end h = no_end h.done end h.after
+  never_idle turned.Memory view old new end h = let e = h.0 in cc
 
   -- where the input has ended, an idle connection has
   pub closed_if_idle : (end : Option End) (in_work : Option (PackageView S)) (old new : ConnectionState S) (before behind : Outside S) → end ≡ old.end
@@ -52,7 +58,7 @@ module _ {W S : Type 0} (w : world.Ghosts W) (t : sitting.Ghosts S W) (exact : B
   closed_if_idle (Some end) in_work old new before behind e h whole =
       subst (λ (o : Option End). IsSome o) (e ∙ ap (λ (c : ConnectionState S). c.end) (sym h.1)) refl
   closed_if_idle None (Some view) old new before behind e h whole =
-      absurd (never_idle h.turns.turned h.turns.next _ _ h.turns.works)
+      absurd (never_idle h.turns.turned h.turns.next _ _ new.end h.turns.works)
   closed_if_idle None None old new before behind e h whole =
       let goes = h.0.0.goes_on in
       let same = ap (λ (c : ConnectionState S). c.has_ended) h.0.1 in cc

@@ -1,7 +1,8 @@
 -- what the events of a replay cost, one behind another
-use Rattle.std.proofs.Common.{◌≡◌, ◌∙◌, ◌<◌, ◌-◌, ℕ, suc, Bool, true, false, List, [], ◌∷◌, Option, None, Some, IfSome, inl, inr, length, get_or, slice_set, refl, sym, ap, subst, arith}
+use Rattle.std.proofs.Common.{◌≡◌, ◌∙◌, ◌<◌, ◌≤◌, ◌+◌, ◌-◌, ℕ, suc, Bool, true, false, List, [], ◌∷◌, Option, None, Some, IfSome, inl, inr, length, get_or, slice_set, refl, sym, ap, subst, arith}
 use Rattle.std.specs.List.{sum_by}
 use Rattle.std.proofs.lemmas.Bool.{cases_eq}
+use Rattle.std.proofs.lemmas.List.Sums.{get_or-le-sum_by, sum_by-set}
 use Rattle.std.proofs.lemmas.Option.{unwrap_or-slice_get}
 use Rattle.z_types.specs.declared.sitting.Sitting as sitting
 use Rattle.z_types.specs.declared.world.World as world
@@ -10,11 +11,14 @@ use Rattle.route_config.specs.declared.route.Route.{Route}
 use Rattle.front_conn.specs.steps.Answering.{Outside}
 use Rattle.front_conn.specs.steps.Feeding.{with_end}
 use Rattle.front_conn.specs.steps.States.{ConnectionState, IsConnOf}
-use Rattle.conn_costs.specs.steps.Conns.{counted_on, met_on, outside_counts, outside_meets}
+use Rattle.conn_costs.specs.steps.Conns.{PaysFor, counted_on, dues_on, met_on, outside_counts, outside_meets}
 use Rattle.conn_costs.specs.steps.Growth.{RisesAsMuch, RisesEnough}
 use Rattle.conn_costs.specs.steps.Laws.{IsCosted}
+use Rattle.conn_costs.specs.steps.Ledgers.{Cost, IsRaised}
 use Rattle.conn_costs.specs.steps.Numbers.{Caused, Number, in_counts, met_outside}
-use Rattle.conn_costs.proofs.GrowthLemmas.{as-place, enough-place}
+use Rattle.conn_costs.proofs.GrowthLemmas.{as-both, as-place, enough-both, enough-place}
+use Rattle.gw_outside.specs.Counts.{Counts}
+use Rattle.pool_sets.specs.Counts.{DoorCounts}
 use Rattle.leg.specs.Deeds.{BackendView}
 use Rattle.script.specs.declared.event.Event.{Event}
 use Rattle.script.specs.declared.event.Event.TheVariants.{Feed, End, Step, Run, Tick, Gone, Cut, Slow}
@@ -22,10 +26,98 @@ use Rattle.script.specs.Events.{IsEvent, client_of}
 use Rattle.replay.specs.Clients.{ClientState, client_at, client_or_new}
 use Rattle.replay.specs.Trace.{AreSteps, BefallsIf, HasRun, IsBefallen, IsClientStep, IsPlayed, PlaysFor, PlaysOf, Playing, Point, test_number, with_no_more}
 use Rattle.replay.specs.steps.Clients.{AreClientsOf}
-use Rattle.replay.specs.steps.Costs.{AreCosted, AreKept, IsKept, counted_at, met_at}
+use Rattle.replay.specs.steps.Costs.{AreCosted, AreKept, ArePaid, IsKept, counted_at, met_at, unused_at}
 use Rattle.replay.specs.steps.Laws.{CostLaws, Laws}
 use Rattle.replay.proofs.ClientLemmas.{client_at-other, client_at-set, client_within, or_new_fed}
 use Rattle.replay.proofs.StepLemmas.{known}
+
+-- ---- what is paid for
+
+abbrev no_cost : Cost
+no_cost = record { dials = 0; searches = 0; gones = 0; faults = 0; booked = 0; opens = 0 }
+
+none_raised : (door after : DoorCounts) (backend moved : Counts) → after ≡ door → moved ≡ backend → IsRaised no_cost door after backend moved
+none_raised door after backend moved e f =
+    subst (λ (d : DoorCounts). IsRaised no_cost door d backend moved) (sym e)
+    (subst (λ (b : Counts). IsRaised no_cost door door backend b) (sym f) (record {
+      searches = λ others h. h;
+      booked = λ others h. h;
+      opens = λ others h. h;
+      dials = λ others h. h;
+      gones = λ others h. h;
+      faults = λ others h. h;
+    }))
+
+abbrev cost_sum : Cost → Cost → Cost
+cost_sum one other = record {
+  dials = one.dials + other.dials;
+  searches = one.searches + other.searches;
+  gones = one.gones + other.gones;
+  faults = one.faults + other.faults;
+  booked = one.booked + other.booked;
+  opens = one.opens + other.opens;
+}
+
+both_raised : (one other : Cost) (door mid after : DoorCounts) (backend amid moved : Counts) → IsRaised one door mid backend amid
+    → IsRaised other mid after amid moved → IsRaised (cost_sum one other) door after backend moved
+both_raised one other door mid after backend amid moved f g = record {
+  searches = as-both 0 one.searches 0 other.searches backend.searches amid.searches moved.searches f.searches g.searches;
+  booked = as-both 0 one.booked 0 other.booked door.booked mid.booked after.booked f.booked g.booked;
+  opens = as-both 0 one.opens 0 other.opens door.opens mid.opens after.opens f.opens g.opens;
+  dials = enough-both 0 one.dials 0 other.dials backend.dials amid.dials moved.dials f.dials g.dials;
+  gones = enough-both 0 one.gones 0 other.gones backend.gones amid.gones moved.gones f.gones g.gones;
+  faults = enough-both 0 one.faults 0 other.faults backend.faults amid.faults moved.faults f.faults g.faults;
+}
+
+sum_paid : (opens dials faults opens' dials' faults' old mid new : ℕ) → opens + old ≤ dials + faults + mid → opens' + mid ≤ dials' + faults' + new
+    → opens + opens' + old ≤ dials + dials' + (faults + faults') + new
+sum_paid opens dials faults opens' dials' faults' old mid new f g = omega (arith, f, g)
+
+place_paid : (opens dials faults all next here there : ℕ) → here ≤ all → next + here ≡ all + there → opens + here ≤ dials + faults + there
+    → opens + all ≤ dials + faults + next
+place_paid opens dials faults all next here there few sums paid = omega (arith, few, sums, paid)
+
+module _ {S : Type 0} where
+  nothing_paid : (old new : Playing S) → new.clients ≡ old.clients → new.outside.door.counts ≡ old.outside.door.counts
+      → new.outside.backend.counts ≡ old.outside.backend.counts → ArePaid old new
+  nothing_paid old new e d c = record {
+    cost = no_cost;
+    raised = none_raised old.outside.door.counts new.outside.door.counts old.outside.backend.counts new.outside.backend.counts d c;
+    opens = (let same : sum_by unused_at new.clients ≡ sum_by unused_at old.clients = ap (sum_by unused_at) e in omega (arith, same));
+  }
+
+  paid_on : (old mid new : Playing S) → ArePaid old mid → ArePaid mid new → ArePaid old new
+  paid_on old mid new f g = record {
+    cost = cost_sum f.cost g.cost;
+    raised = both_raised f.cost g.cost old.outside.door.counts mid.outside.door.counts new.outside.door.counts
+        old.outside.backend.counts mid.outside.backend.counts new.outside.backend.counts f.raised g.raised;
+    opens = sum_paid f.cost.opens f.cost.dials f.cost.faults g.cost.opens g.cost.dials g.cost.faults
+        (sum_by unused_at old.clients) (sum_by unused_at mid.clients) (sum_by unused_at new.clients) f.opens g.opens;
+  }
+
+  unused_new : (here : Option (ClientState S)) → unused_at here ≡ (dues_on (client_or_new here).conn).unused
+  unused_new None = refl
+  unused_new (Some client) = refl
+
+  paid_at : (clients : List (Option (ClientState S))) (place : ℕ) (closed : Option (ClientState S)) (client : ClientState S) (before behind : Outside S)
+      → place < length clients → closed ≡ Some client → PaysFor (client_or_new (client_at clients place)).conn client.conn before behind
+      → ArePaid (record { clients = clients; outside = before }) (record { clients = slice_set clients place closed; outside = behind })
+  paid_at clients place closed client before behind within is h = record {
+    cost = h.cost;
+    raised = h.raised;
+    opens =
+        (let here : unused_at (get_or clients place None) ≡ (dues_on (client_or_new (client_at clients place)).conn).unused =
+        ap (λ (c : Option (ClientState S)). unused_at c) (sym (unwrap_or-slice_get clients place None)) ∙ unused_new (client_at clients place) in
+        let there : unused_at closed ≡ (dues_on client.conn).unused = ap (λ (c : Option (ClientState S)). unused_at c) is in
+        let few = get_or-le-sum_by unused_at clients place None within in
+        let sums = sum_by-set unused_at clients place closed None within in
+        let paid = h.paid.opens in
+        place_paid h.cost.opens h.cost.dials h.cost.faults (sum_by unused_at clients) (sum_by unused_at (slice_set clients place closed))
+        (unused_at (get_or clients place None)) (unused_at closed) few sums
+        (omega (arith, paid, here, there)));
+  }
+
+-- ---- all of it
 
 module _ {S : Type 0} (exact : Bool) (route : Route) where
   -- nothing costs nothing
@@ -34,6 +126,7 @@ module _ {S : Type 0} (exact : Bool) (route : Route) where
     kept = λ kept. kept;
     counted = λ kept number told others h. h;
     met = λ kind others h. h;
+    paid = nothing_paid old old refl refl refl;
   }
 
   -- and what is done one behind another
@@ -42,6 +135,7 @@ module _ {S : Type 0} (exact : Bool) (route : Route) where
     kept = λ kept. then.kept (first.kept kept);
     counted = λ kept number told others h. then.counted (first.kept kept) number told others (first.counted kept number told others h);
     met = λ kind others h. then.met kind others (first.met kind others h);
+    paid = paid_on old mid new first.paid then.paid;
   }
 
 -- ---- one client
@@ -162,6 +256,7 @@ module _ {W S : Type 0} (w : world.Ghosts W) (t : sitting.Ghosts S W) (exact : B
         (subst (λ (n : ℕ). RisesEnough n (met_at route.pool kind closed) (outside_meets kind before) (outside_meets kind behind)) (sym here)
         (subst (λ (n : ℕ). RisesEnough (met_on route.pool kind (client_or_new (client_at clients place)).conn) n (outside_meets kind before) (outside_meets kind behind)) (sym there)
         (h.met kind)));
+    paid = paid_at clients place closed client before behind within is h.paid;
   }
 
   -- where nobody is touched, and nothing is counted
@@ -182,6 +277,7 @@ module _ {W S : Type 0} (w : world.Ghosts W) (t : sitting.Ghosts S W) (exact : B
         (outside_meets kind old.outside) (outside_meets kind new.outside)) (sym e)
         (subst (λ (n : ℕ). RisesEnough (sum_by (met_at route.pool kind) old.clients) (sum_by (met_at route.pool kind) old.clients) (outside_meets kind old.outside) n)
         (sym same) (λ others h. h));
+    paid = nothing_paid old new e (ap (λ door. door.counts) d) c;
   }
 
   if_counts : (event : Event) (number : Option ℕ) (old new : BackendView) → BefallsIf exact event number old new → new.counts ≡ old.counts

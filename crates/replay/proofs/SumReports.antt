@@ -9,7 +9,9 @@ use Rattle.route_config.specs.declared.route.Class.{Class}
 use Rattle.route_config.specs.declared.route.PoolNumbers.{PoolNumbers}
 use Rattle.route_config.specs.declared.route.Route.{Route}
 use Rattle.front_conn.specs.declared.totals.Total.{Total}
-use Rattle.front_conn.specs.steps.Answering.{Outside}
+use Rattle.package.specs.steps.Packages.{PackageView}
+use Rattle.front_conn.specs.steps.Answering.{Outside, legs_in}
+use Rattle.conn_costs.specs.steps.Ledgers.{dues_in}
 use Rattle.front_conn.specs.steps.Totals.{totals_for}
 use Rattle.conn_costs.specs.steps.Conns.{AreTotalsOf, in_total, marks_of, met_on, outside_counts, outside_meets}
 use Rattle.conn_costs.specs.steps.Growth.{RisesAsMuch, RisesEnough}
@@ -22,10 +24,10 @@ use Rattle.replay.specs.declared.reports.ClientReport.{ClientReport}
 use Rattle.replay.specs.declared.reports.Report.{Report}
 use Rattle.replay.specs.Classes.{costless, costs_after, costs_of, costs_with, nameless, with_total}
 use Rattle.replay.specs.Clients.{AreNone, ClientState, client_at}
-use Rattle.replay.specs.Counts.{AreSums, HaveCauses, in_class, in_classes, met_for}
+use Rattle.replay.specs.Counts.{AreDialled, AreSums, HaveCauses, in_class, in_classes, met_for}
 use Rattle.replay.specs.Trace.{AreReported, IsReported, IsReportedBehind, costs_upto}
 use Rattle.replay.specs.steps.Clients.{AreEnded}
-use Rattle.replay.specs.steps.Costs.{AreCosted, AreKept, IsKept, counted_at, met_at}
+use Rattle.replay.specs.steps.Costs.{AreCosted, AreKept, IsKept, counted_at, met_at, unused_at}
 use Rattle.replay.proofs.CostLemmas.{names-costs_upto, names-costs_with}
 
 -- ---- a sum over a list, place by place
@@ -208,3 +210,43 @@ nobody_met pool kind clients none = none-sum (met_at pool kind) refl clients non
 
 pub nobody_kept : {S : Type 0} (route : Route) (clients : List (Option (ClientState S))) → AreNone clients → AreKept route clients
 nobody_kept route clients none place = subst (λ (c : Option _). IfSome c (IsKept route)) (sym (none place)) tt
+
+-- ---- what is not dialled yet
+
+zero-sum : {S : Type 0} (f : Option (ClientState S) → ℕ) (clients : List (Option (ClientState S))) → ((place : ℕ) → f (client_at clients place) ≡ 0)
+    → sum_by f clients ≡ 0
+zero-sum f [] none = refl
+zero-sum f (client ∷ clients) none =
+    let here : f client ≡ 0 = none 0 in
+    let rest = zero-sum f clients (λ place. none (suc place)) in
+    sum_by-cons f client clients ∙ omega (arith, here, rest)
+
+rest-unused : {S : Type 0} (route : Route) (here : Option (ClientState S)) → IfSome here (IsKept route) → IfSome here (λ client. IsSome client.conn.end)
+    → unused_at here ≡ 0
+rest-unused route None kept ended = refl
+rest-unused {S = S} route (Some client) kept ended =
+    ap (λ (v : Option (PackageView S)). (dues_in (legs_in v)).unused) (kept.rests ended)
+
+nobody-unused : {S : Type 0} (here : Option (ClientState S)) → here ≡ None → unused_at here ≡ 0
+nobody-unused here none = ap unused_at none
+
+dialled-sum : (named made failed old new : ℕ) → named + old ≤ made + failed + new → old ≡ 0 → new ≡ 0 → named ≤ made + failed
+dialled-sum named made failed old new paid none rest = omega (arith, paid, none, rest)
+
+-- the addresses that the door named were dialled, or failed
+pub dialled_reported : {S : Type 0} (exact : Bool) (route : Route) (start finish : List (Option (ClientState S))) (before behind : Outside S)
+    → AreNone start → AreEnded finish
+    → AreCosted exact route (record { clients = start; outside = before }) (record { clients = finish; outside = behind }) → AreDialled before behind
+dialled_reported exact route start finish before behind none ended h =
+    let kept = h.kept (nobody_kept route start none) in
+    let paid = h.paid in record {
+      opens = paid.cost.opens;
+      dials = paid.cost.dials;
+      faults = paid.cost.faults;
+      named = paid.raised.opens;
+      made = paid.raised.dials;
+      failed = paid.raised.faults;
+      paid = dialled-sum paid.cost.opens paid.cost.dials paid.cost.faults (sum_by unused_at start) (sum_by unused_at finish) paid.opens
+          (zero-sum unused_at start (λ place. nobody-unused (client_at start place) (none place)))
+          (zero-sum unused_at finish (λ place. rest-unused route (client_at finish place) (kept place) (ended place)));
+    }

@@ -1,5 +1,5 @@
 -- What the sums of a report count, and what its marks come of (this project's own)
-use Rattle.std.specs.Prelude.{ℕ, ◌*◌, Bool, List}
+use Rattle.std.specs.Prelude.{ℕ, ◌+◌, ◌*◌, ◌≤◌, Bool, List}
 use Rattle.std.specs.List.{sum_by}
 use Rattle.route_config.specs.declared.route.PoolNumbers.{PoolNumbers}
 use Rattle.front_conn.specs.steps.Answering.{Outside}
@@ -41,3 +41,15 @@ abbrev pub HaveCauses : {S : Type 0} → PoolNumbers → Report → (before behi
 HaveCauses pool report before behind =
     (kind : Caused)
     → RisesEnough 0 (met_for pool kind report.clients) (outside_meets kind before) (outside_meets kind behind)
+
+-- ---- the addresses that the door named
+
+-- each was dialled, or failed: as often as the door named one, the backend made a link or a call of it failed, at least
+pub record AreDialled {S : Type 0} (before behind : Outside S) : Type 0 where
+  pub opens : ℕ
+  pub dials : ℕ
+  pub faults : ℕ
+  pub named : RisesAsMuch 0 opens before.door.counts.opens behind.door.counts.opens
+  pub made : RisesEnough 0 dials before.backend.counts.dials behind.backend.counts.dials
+  pub failed : RisesEnough 0 faults before.backend.counts.faults behind.backend.counts.faults
+  pub paid : opens ≤ dials + faults

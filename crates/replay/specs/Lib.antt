@@ -4,4 +4,8 @@ pub mod Clients
 pub mod Classes
 pub mod Trace
 pub mod Counts
+pub mod Marks
+pub mod Wires
+pub mod Twice
+pub mod Uncaused
 pub mod steps

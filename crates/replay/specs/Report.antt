@@ -3,7 +3,7 @@ use Rattle.std.specs.Prelude.{◌≡◌, List, map}
 use Rattle.std.specs.List.{AllByRecursion}
 use Rattle.z_types.specs.declared.world.World as world
 use Rattle.route_config.specs.declared.route.Route.{Route}
-use Rattle.gateway_rules.specs.Answers.{Answers}
+use Rattle.sru_rules.specs.Answers.{Answers}
 use Rattle.gateway_rules.specs.Fair.{IsFair}
 use Rattle.script.specs.declared.event.Event.{Event}
 use Rattle.script.specs.Events.{fed, named}

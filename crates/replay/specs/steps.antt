@@ -4,3 +4,4 @@ pub mod Playing
 pub mod Closing
 pub mod Laws
 pub mod Costs
+pub mod Lent

@@ -1,5 +1,7 @@
 //! What a replay stands on.
 
+ghost use Rattle.replay.specs.Twice.{IsReadTwice};
+ghost use Rattle.replay.specs.Uncaused.{UncausedIsPlain};
 ghost use Rattle.replay.specs.steps.Laws.{CostLaws, Laws};
 
 use conn_costs::{
@@ -9,6 +11,7 @@ use front_conn::{
     ends_answered, stands_at_start, stands_when_ended, stands_when_fed, stands_when_written,
     stays_of_route,
 };
+use sru_rules::one_answer;
 use z_types::{Sitting, World};
 
 /// The laws of connections, together. It does nothing; what it ensures are the laws.
@@ -35,3 +38,18 @@ pub(crate) fn cost_laws<W: World, S: Sitting<W>>()
     marks_are_met::<W, S>();
     sums_at_rest::<W, S>();
 }
+
+/// Two replays that feed a client the same octets, with all its marks Plain, write it the same and end
+/// its connection the same.
+#[tactic(auto, using(crate::proofs::TwiceLemmas::twice))]
+pub fn read_twice<W: World>()
+    ensures { IsReadTwice W.World }
+{
+    one_answer::<W>();
+}
+
+/// Where no call failed, no look was in vain, no set was gone and the door was never full, every mark
+/// is Plain.
+pub fn uncaused_is_plain<W: World, S: Sitting<W>>()
+    ensures { UncausedIsPlain S }
+{}

@@ -14,6 +14,7 @@ mod reporting;
 mod reports;
 mod runs;
 
+pub use laws::{read_twice, uncaused_is_plain};
 pub use page::print;
 pub use reports::{ClassReport, ClientReport, Report};
 pub use runs::{run, run_over};

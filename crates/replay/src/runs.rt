@@ -1,10 +1,12 @@
 //! A whole replay.
 
-ghost use Rattle.std.specs.Prelude.{ℕ, IfOk};
+ghost use Rattle.std.specs.Prelude.{◌≡◌, ℕ, IfOk, OnOk};
 ghost use Rattle.script.specs.Events.{AreEvents};
-ghost use Rattle.replay.specs.Counts.{AreSums, HaveCauses};
+ghost use Rattle.replay.specs.Counts.{AreDialled, AreSums, HaveCauses};
+ghost use Rattle.replay.specs.Marks.{AreMarksOf};
 ghost use Rattle.replay.specs.Report.{IsReportOf};
 ghost use Rattle.replay.specs.Trace.{IsRunOf, outside_of};
+ghost use Rattle.replay.specs.Wires.{IsCountedBy};
 ghost use Rattle.replay.specs.steps.Clients.{AreNobody};
 
 use crate::Report;
@@ -32,11 +34,38 @@ pub fn run<W: World, N: Wire<W> + Events>(
     wire: &mut N,
 ) -> Result<Report, Memory>
     requires { (targets : ℕ) × AreEvents targets events.now }
-    ensures { IfOk result (IsReportOf W.World route.now events.now) }
+    // Each client was answered to the octets that it was fed.
+    ensures report { IfOk result (IsReportOf W.World route.now events.now) }
+
+    // The sums are what the wire counted, and the marks have their counted cause.
+    ensures counted { IfOk result (IsCountedBy W.World N.exact route.now
+        (N.counts wire.old) (N.counts wire.new)) }
 {
     let mut backend = ZBackend::new(alloc, LentWire::new(wire));
+    let report = run_with(alloc, route, events, &mut backend);
+    let LentWire { wire: lent } = backend.into_wire();
+    let _ = lent;
+    report
+}
+
+/// Plays the events of a script over the sessions of a backend, with a new pool.
+fn run_with<W: World, N: Wire<W> + Events>(
+    alloc: Global,
+    route: &Route,
+    events: &List<Event>,
+    backend: &mut ZBackend<N>,
+) -> Result<Report, Memory>
+    requires events { (targets : ℕ) × AreEvents targets events.now }
+    requires no_breach { backend.old.own.breaches ≡ 0 }
+    ensures report { IfOk result (IsReportOf W.World route.now events.now) }
+    ensures counted { IfOk result (IsCountedBy W.World N.exact route.now
+        (N.counts backend.old.wire) (N.counts backend.new.wire)) }
+    ensures lent { OnOk result
+        ((N.happened backend.new.wire).lent ≡ (N.happened backend.old.wire).lent) }
+{
+    let _ = route.parts();
     let mut door: IndexedPool<W, _> = IndexedPool::new(alloc, route)?;
-    run_over::<W, _, _>(alloc, route, events, &mut backend, &mut door)
+    run_over::<W, _, _>(alloc, route, events, backend, &mut door)
 }
 
 /// Plays the events of a script over one backend and one pool for all clients. The clock begins at 0.
@@ -60,6 +89,15 @@ pub fn run_over<W: World, B: Backend<W> + Events, D: Door<W, B::Session>>(
     ensures causes { IfOk result (λ report. HaveCauses route.now.pool report
         (outside_of D.Door B.Watched door.old backend.old)
         (outside_of D.Door B.Watched door.new backend.new)) }
+
+    // Each address that the door named was dialled, or failed.
+    ensures dialled { IfOk result (λ report. AreDialled
+        (outside_of D.Door B.Watched door.old backend.old)
+        (outside_of D.Door B.Watched door.new backend.new)) }
+
+    // The marks say as many looks as the pool is patient, and as many sessions as the door opens.
+    ensures marks { IfOk result (λ report. AreMarksOf route.now.pool
+        (D.counts door.old).most report.clients) }
 
     // The events were played, one behind another, and the report is of what came of it.
     ensures run { IfOk result (IsRunOf W.World B.Session.Sitting B.exact route.now events.now
@@ -93,6 +131,9 @@ fn play_all<W: World, B: Backend<W> + Events, D: Door<W, B::Session>>(
         (outside_of D.Door B.Watched door.old backend.old)
         (outside_of D.Door B.Watched door.new backend.new)) }
     ensures causes { IfOk result (λ report. HaveCauses route.now.pool report
+        (outside_of D.Door B.Watched door.old backend.old)
+        (outside_of D.Door B.Watched door.new backend.new)) }
+    ensures dialled { IfOk result (λ report. AreDialled
         (outside_of D.Door B.Watched door.old backend.old)
         (outside_of D.Door B.Watched door.new backend.new)) }
     ensures run { IfOk result (IsRunOf W.World B.Session.Sitting B.exact route.now events.now

@@ -1,1 +1,1 @@
-mod WorkingLemmas
+pub mod WorkingLemmas

@@ -3,7 +3,8 @@
 ghost use Rattle.std.specs.Prelude.{◌≤◌};
 
 use crate::octets::{
-    BAD_REPLY, CLOSE, INIT, INIT_REPLY, LIMIT_REPLY, PRESENT, PRESENT_REPLY, SEARCH, SEARCH_REPLY,
+    BAD_HEAD_REPLY, BAD_REPLY, CLOSE, INIT, INIT_REPLY, LIMIT_REPLY, PRESENT, PRESENT_REPLY,
+    SEARCH, SEARCH_REPLY,
 };
 use front_conn::{Served, serve_connection};
 use gw_memory::{FakeBackend, FakeSession, MemoryClock, MemorySink, MemorySource};
@@ -109,7 +110,7 @@ fn is_so(alloc: Global, case: &Case, most: usize) -> Result<bool, Memory>
 }
 
 /// Connections, to sinks that take each reply whole.
-const CASES: [Case; 15] = [
+const CASES: [Case; 17] = [
     WHOLE,
     Case {
         sent: &[],
@@ -131,8 +132,23 @@ const CASES: [Case; 15] = [
         ..WHOLE
     },
     Case {
-        sent: &[b"GET"],
+        sent: &[b"\xb6\xff"],
         written: &[BAD_REPLY],
+        marks: 0,
+        end: End::Malformed(0),
+        ..WHOLE
+    },
+    // a letter first: an HTTP connection
+    Case {
+        sent: &[b"GET"],
+        written: &[],
+        marks: 0,
+        end: End::Cut(3),
+        ..WHOLE
+    },
+    Case {
+        sent: &[b"GET\r\n\r\n", INIT],
+        written: &[BAD_HEAD_REPLY],
         marks: 0,
         end: End::Malformed(0),
         ..WHOLE

@@ -47,5 +47,9 @@ pub(crate) const CLOSE: &[u8] = &[0xbf, 0x30, 0x05, 0x9f, 0x81, 0x53, 0x01, 0x00
 /// The Close of a unit that is none.
 pub(crate) const BAD_REPLY: &[u8] = &[0xbf, 0x30, 0x05, 0x9f, 0x81, 0x53, 0x01, 0x06];
 
+/// The reply to a head that is none of HTTP.
+pub(crate) const BAD_HEAD_REPLY: &[u8] =
+    b"HTTP/1.1 400 Bad Request\r\nContent-Type: text/xml; charset=utf-8\r\nContent-Length: 0\r\nConnection: close\r\n\r\n";
+
 /// The Close of a unit beyond the most.
 pub(crate) const LIMIT_REPLY: &[u8] = &[0xbf, 0x30, 0x05, 0x9f, 0x81, 0x53, 0x01, 0x04];

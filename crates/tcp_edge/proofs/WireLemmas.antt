@@ -9,38 +9,22 @@ use Rattle.gw_outside.specs.declared.wires.Sent.{Sent}
 use Rattle.gw_outside.specs.declared.wires.Sent.TheVariants as sent
 use Rattle.gw_outside.specs.declared.wires.Looked.{Looked}
 use Rattle.gw_outside.specs.Counts.{Counts}
-use Rattle.gw_outside.specs.Happened.{Happened, AreSame, AreLess, IsAsked, at_address, sets_found}
+use Rattle.gw_outside.specs.Happened.{Happened, AreSame, AreLess, at_address, sets_found}
 use Rattle.gw_outside.specs.Peers.{NamedSet, Peer, TakesRequest}
-use Rattle.gw_outside.specs.Wires.{IsNewLink, IsNewPeer, IsSentTo, SendHappens, PeerTakes, SendFits, SendsSteadily, LooksSteadily}
+use Rattle.gw_outside.specs.Wires.{IsNewLink, IsNewPeer, SendHappens, PeerTakes, SendFits, SendsSteadily, LooksSteadily}
+use Rattle.test_wire.proofs.SteadyLemmas.{same, less, happens}
 use Rattle.tcp_edge.specs.Wires.{unsteady}
 
 -- ---- what happens to links
 
 pub same_unsteady : (a b : Happened) → AreSame a b → AreSame (unsteady a) (unsteady b)
-same_unsteady a b s = record { steady = refl; of_target = s.of_target }
+same_unsteady a b s = same false a b s
 
 pub same_self : (h : Happened) → AreSame h h
-same_self h = record { steady = refl; of_target = λ target. refl }
+same_self h = record { steady = refl; lent = refl; of_target = λ target. refl }
 
 less_self : (h : Happened) → AreLess h h
-less_self h = record { steady = refl; presents = λ target. omega arith; delay = λ target. refl; cut = λ target. refl }
-
-less_unsteady : (a b : Happened) → AreLess a b → AreLess (unsteady a) (unsteady b)
-less_unsteady a b l = record { steady = refl; presents = l.presents; delay = l.delay; cut = l.cut }
-
-asked_unsteady : (address : Address) (request : Request) (a b : Happened) → IsAsked address request a b → IsAsked address request (unsteady a) (unsteady b)
-asked_unsteady (Test target) request a b m = record { steady = refl; own = m.own; others = m.others }
-asked_unsteady (Tcp host port) request a b s = same_unsteady a b s
-
-sent_unsteady : (peer : Option Peer) (request : Request) (a b : Happened) → IsSentTo peer request a b → IsSentTo peer request (unsteady a) (unsteady b)
-sent_unsteady None request a b s = same_unsteady a b s
-sent_unsteady (Some peer) request a b s = asked_unsteady peer.address request a b s
-
-happens_unsteady : (unit : List ℕ) (peer : Option Peer) (a b : Happened) (answer : Sent) → SendHappens unit peer a b answer
-    → SendHappens unit peer (unsteady a) (unsteady b) answer
-happens_unsteady unit peer a b sent.Sent s = λ request is. sent_unsteady peer request a b (s request is)
-happens_unsteady unit peer a b sent.Failed s = same_unsteady a b s
-happens_unsteady unit peer a b sent.Memory s = tt
+less_self h = record { steady = refl; lent = refl; presents = λ target. omega arith; delay = λ target. refl; cut = λ target. refl }
 
 happens_untold : (unit : List ℕ) (h : Happened) (answer : Sent) → SendHappens unit None h h answer
 happens_untold unit h sent.Sent = λ request is. same_self h
@@ -88,8 +72,8 @@ module _ {K L : Type 0} (k : linked.Ghosts K) (l : linked.Ghosts L) where
       → SendsSteadily k unit old new a b answer → SendsSteadily l unit before after (unsteady a) (unsteady b) answer
   sends_unsteady unit old new before after a b answer p m n s = record {
     fails = λ e f. absurd cc;
-    happened = subst (λ peer. SendHappens unit peer (unsteady a) (unsteady b) answer) (sym p) (happens_unsteady unit (k.peer old) a b answer s.happened);
-    less = less_unsteady a b s.less;
+    happened = subst (λ peer. SendHappens unit peer (unsteady a) (unsteady b) answer) (sym p) (happens false a b unit (k.peer old) answer s.happened);
+    less = less false a b s.less;
     number = n ∙ s.number ∙ sym m;
     delays = λ e. absurd cc;
   }

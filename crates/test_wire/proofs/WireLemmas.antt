@@ -128,7 +128,7 @@ delays_taken happening own old new before after taken =
 -- what is kept of a target was made to happen
 pub made : (target : ℕ) (change : Happening → Happening) (old new : Table) → IsPut target (change (happening_of old target)) old new
     → IsMade target change (happened_in old) (happened_in new)
-made target change old new put = record { steady = refl; own = put.own; others = put.others }
+made target change old new put = record { steady = refl; lent = refl; own = put.own; others = put.others }
 
 pub made_if : {A E : Type 0} (result : Result A E) (target : ℕ) (change : Happening → Happening) (old new : Table)
     → OnOk result (IsPut target (change (happening_of old target)) old new)
@@ -151,6 +151,7 @@ cut_if (Err e) target dials old new put = tt
 pub same : (old new : Table) → new.entries ≡ old.entries → AreSame (happened_in old) (happened_in new)
 same old new e = record {
   steady = refl;
+  lent = refl;
   of_target = λ target. ap (λ entries. unwrap_or (lookup (is_at (nat_cmp target)) entries) nothing_happens) e;
 }
 
@@ -191,6 +192,7 @@ along P false own other req old new e m there elsewhere =
 pub asked_less : (own : ℕ) (req : Request) (old new : Happened) → IsMade own (λ happening. happening_after happening req) old new → AreLess old new
 asked_less own req old new m = record {
   steady = m.steady;
+  lent = m.lent;
   presents = λ other. along (λ was is. is.presents ≤ was.presents) (other == own) own other req old new refl m (less_after req) (λ happening. omega arith);
   delay = λ other. along (λ was is. is.delay ≡ was.delay) (other == own) own other req old new refl m (delay_after req) (λ happening. refl);
   cut = λ other. along (λ was is. is.cut ≡ was.cut) (other == own) own other req old new refl m (cut_after req) (λ happening. refl);
@@ -202,13 +204,14 @@ le_of a b e = omega arith
 pub same_less : (old new : Happened) → AreSame old new → AreLess old new
 same_less old new s = record {
   steady = s.steady;
+  lent = s.lent;
   presents = λ other. le_of (new.of_target other).presents (old.of_target other).presents (ap (λ happening. happening.presents) (s.of_target other));
   delay = λ other. ap (λ happening. happening.delay) (s.of_target other);
   cut = λ other. ap (λ happening. happening.cut) (s.of_target other);
 }
 
 pub as_many : (h : Happened) → AreLess h h
-as_many h = same_less h h (record { steady = refl; of_target = λ target. refl })
+as_many h = same_less h h (record { steady = refl; lent = refl; of_target = λ target. refl })
 
 module _ {L : Type 0} (l : linked.Ghosts L) (octets : List ℕ) (link_old link_new : L) (old new : Happened) where
   -- octets that are one request are sent steadily

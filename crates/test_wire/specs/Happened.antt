@@ -16,7 +16,7 @@ happening_of table target = unwrap_or (tree.get nat_cmp table target) nothing_ha
 
 -- nothing else happens to any link
 abbrev pub happened_in : Table → Happened
-happened_in table = record { steady = true; of_target = happening_of table }
+happened_in table = record { steady = true; lent = 0; of_target = happening_of table }
 
 -- this is kept of a target from now on, and of the others what was
 pub record IsPut (target : ℕ) (happening : Happening) (old new : Table) : Type 0 where

@@ -5,6 +5,7 @@
 mod happenings;
 mod links;
 mod owed;
+mod steady;
 mod wires;
 
 pub use links::TestLink;

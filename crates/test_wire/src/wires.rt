@@ -1,36 +1,29 @@
 //! The wire to the test targets.
 
-ghost use Rattle.std.specs.Prelude.{◌≡◌, ◌≤◌, false, true, drop, length, OnOk, OnErr};
-ghost use Rattle.z_types.specs.declared.address.Address.TheVariants as At;
-ghost use Rattle.z_types.specs.Counts.{one_more};
-ghost use Rattle.gw_outside.specs.Counts.{WireCounts, after, no_counts};
-ghost use Rattle.gw_outside.specs.Happened.{AreSame, AreLess, AreCut, IsAsked, IsMade, IsQuietWire, is_cut, sets_found};
-ghost use Rattle.gw_outside.specs.Peers.{TakesRequest};
-ghost use Rattle.gw_outside.specs.Replies as Said;
-ghost use Rattle.gw_outside.specs.Wires.{IfLink, IsNewLink, IsSameLink, IsReplyUnit, SendFits, LookFits, SendsSteadily, LooksSteadily, SendCounts, dial_counted, send_counted, look_counted};
+ghost use Rattle.std.specs.Prelude.{◌≡◌, ◌≤◌, ◌||◌, true, drop, length, OnOk, OnErr};
+ghost use Rattle.planned_calls.specs.Planned.{after_call, fails_next, new_calls};
+ghost use Rattle.gw_outside.specs.Counts.{WireCounts, no_counts};
+ghost use Rattle.gw_outside.specs.Happened.{AreSame, AreCut, IsMade, IsQuietWire, is_cut};
+ghost use Rattle.gw_outside.specs.Wires.{IfLink, IsNewLink, IsSameLink, SendFits, LookFits, SendsSteadily, LooksSteadily, SendCounts, dial_counted, look_counted};
 ghost use Rattle.test_wire.specs.Happened.{happening_of};
-ghost use Rattle.test_wire.specs.Links.{peer_of, HasTaken, SendTakes, FindsNext, HasArrived, brings_gone, has_not_sent, has_not_looked};
+ghost use Rattle.test_wire.specs.Links.{FindsNext, SendTakes, has_not_looked, has_not_sent};
+ghost use Rattle.test_wire.specs.Steady.{happened_in_all};
 ghost use Rattle.test_wire.specs.Wires.{counts_of, happened_of};
 
-use crate::happenings::Happenings;
 use crate::links::TestLink;
-use crate::owed::{Owed, next_reply};
-use bytes::BytesMut;
-use gw_outside::{Dialled, Events, Happening, Linked, Looked, Sent, Watched, Wire};
+use crate::steady::SteadyWire;
+use gw_outside::{Dialled, Events, Linked, Looked, Sent, Watched, Wire};
+use planned_calls::Calls;
 use std::alloc::Global;
-use test_target::{Peer, TestWorld};
-use z_read::read_unit;
-use z_types::{Address, Body, Memory, Reply, Request, World};
+use test_target::TestWorld;
+use z_types::{Address, List, Memory, World};
 
-/// A wire to the built-in test targets. It fails at every other address, and on links that are cut.
+/// A wire to the built-in test targets. It fails at every other address, on links that are cut, and at
+/// the dials and looks that are to fail.
 #[derive(Drop)]
 pub struct TestWire {
-    happenings: Happenings,
-    dials: u64,
-    searches: u64,
-    gones: u64,
-    faults: u64,
-    waits: u64,
+    links: SteadyWire,
+    calls: Calls,
 }
 
 impl TestWire {
@@ -39,74 +32,19 @@ impl TestWire {
         ensures counts { counts_of result ≡ no_counts }
         ensures quiet { IsQuietWire (counts_of result) (happened_of result) }
     {
+        TestWire::failing(alloc, List::new(alloc))
+    }
+
+    /// The same, of a wire whose dials and looks of these numbers fail, counted together from 1.
+    pub fn failing(alloc: Global, failing: List<u64>) -> TestWire
+        ensures counts { counts_of result ≡ no_counts }
+        ensures calls { result.calls ≡ new_calls failing }
+        ensures quiet { IsQuietWire (counts_of result) (happened_in_all result.links) }
+    {
         TestWire {
-            happenings: Happenings::new(alloc),
-            dials: 0,
-            searches: 0,
-            gones: 0,
-            faults: 0,
-            waits: 0,
+            links: SteadyWire::new(alloc),
+            calls: Calls::new(failing),
         }
-    }
-
-    /// Whether a link is cut.
-    fn is_cut(&self, link: &TestLink) -> bool
-        ensures { result ≡ is_cut
-            (happening_of self.now.happenings.table link.now.peer.target) link.now.number }
-    {
-        link.number <= self.happenings.of(link.peer.target).cut
-    }
-}
-
-impl TestWire {
-    /// Hands a request to the target's end of a link, and counts a Search.
-    fn hand(&mut self, alloc: Global, link: &mut TestLink, request: &Request) -> Sent
-        ensures peer { result ≡ Sent.Sent → TakesRequest ⟦<TestWorld as World>⟧ true (sets_found
-            (happening_of self.old.happenings.table link.old.peer.target) request.now
-            link.old.peer.sets.items) request.now
-            (peer_of link.old.peer link.old.owed.items)
-            (peer_of link.new.peer link.new.owed.items) }
-        ensures taken { result ≡ Sent.Sent → HasTaken
-            (happening_of self.old.happenings.table link.old.peer.target) request.now
-            link.old.peer link.new.peer link.old.owed.items link.new.owed.items }
-        ensures happened { result ≡ Sent.Sent → IsAsked (At.Test link.old.peer.target)
-            request.now (happened_of self.old) (happened_of self.new) }
-        ensures less { AreLess (happened_of self.old) (happened_of self.new) }
-        ensures arrived { link.new.arrived ≡ link.old.arrived }
-        ensures number { link.new.number ≡ link.old.number }
-        ensures sent { has_not_sent result ≡ false }
-        ensures counts { counts_of self.new
-            ≡ after (send_counted request.now result) (counts_of self.old) }
-    {
-        if let Err(_) = link.take(alloc, &mut self.happenings, request) {
-            return Sent::Memory;
-        }
-        if let Request::Search(_) = request {
-            self.searches = self.searches.saturating_add(1);
-        }
-        Sent::Sent
-    }
-
-    /// Puts a reply behind the octets that have arrived, and counts one that says that a set is gone.
-    fn arrive(&mut self, link: &mut TestLink, owed: &Owed) -> Looked
-        ensures arrived { HasArrived owed.now.octets
-            link.old.arrived.items link.new.arrived.items result }
-        ensures unit { IsReplyUnit owed.now.octets owed.now.reply }
-        ensures counts { counts_of self.new ≡ record (counts_of self.old) {
-          gones = one_more (brings_gone owed.now.reply result) self.old.gones;
-        } }
-        ensures peer { link.new.peer ≡ link.old.peer }
-        ensures owed { link.new.owed.items ≡ link.old.owed.items }
-        ensures number { link.new.number ≡ link.old.number }
-        ensures happenings { self.new.happenings ≡ self.old.happenings }
-    {
-        if let Err(_) = link.arrived.extend_from_slice(owed.octets()) {
-            return Looked::Memory;
-        }
-        if says_gone(owed.reply()) {
-            self.gones = self.gones.saturating_add(1);
-        }
-        Looked::Arrived
     }
 }
 
@@ -127,22 +65,19 @@ impl Wire<TestWorld> for TestWire {
     fn dial(&mut self, alloc: Global, address: &Address) -> Dialled<TestLink>
         ensures link { IfLink result (IsNewLink ⟦<TestWorld as World>⟧ ⟦<TestLink as Linked>⟧
             true address.now (counts_of self.new)) }
-        ensures fails { result ≡ Dialled.Failed → ¬ ⟦<TestWorld as World>⟧.told address.now }
+        ensures fails { result ≡ Dialled.Failed
+            → (happened_of self.old).steady ≡ true → ¬ ⟦<TestWorld as World>⟧.told address.now }
         ensures happened { AreSame (happened_of self.old) (happened_of self.new) }
         ensures counts { WireCounts true
             (dial_counted result) (counts_of self.old) (counts_of self.new) }
+        ensures planned { fails_next self.old.calls ≡ true → result ≡ Dialled.Failed }
+        ensures called { self.new.calls ≡ after_call self.old.calls }
     {
-        let Address::Test(target) = address else {
-            self.faults = self.faults.saturating_add(1);
+        if self.calls.next_fails() {
+            self.links.count_fault();
             return Dialled::Failed;
-        };
-        self.dials = self.dials.saturating_add(1);
-        Dialled::Link(TestLink {
-            peer: Peer::new(alloc, *target),
-            number: self.dials,
-            arrived: BytesMut::new(alloc),
-            owed: Vec::new(alloc),
-        })
+        }
+        self.links.dial(alloc, address)
     }
 
     fn send(&mut self, alloc: Global, link: &mut TestLink, unit: &[u8]) -> Sent
@@ -153,25 +88,17 @@ impl Wire<TestWorld> for TestWire {
             (happened_of self.old) (happened_of self.new) result }
         ensures counts { SendCounts true unit.now
             result (counts_of self.old) (counts_of self.new) }
-        ensures fails { has_not_sent result
-            ≡ is_cut (happening_of self.old.happenings.table link.old.peer.target) link.old.number }
-        ensures faults { self.new.faults ≡ one_more (has_not_sent result) self.old.faults }
+        ensures fails { has_not_sent result ≡ is_cut (happening_of
+            self.old.links.happenings.table link.old.peer.target) link.old.number }
         ensures taken { SendTakes unit.now
-            (happening_of self.old.happenings.table link.old.peer.target)
+            (happening_of self.old.links.happenings.table link.old.peer.target)
             link.old.peer link.new.peer link.old.owed.items link.new.owed.items result }
+        ensures called { self.new.calls ≡ self.old.calls }
     {
-        if self.is_cut(link) {
-            self.faults = self.faults.saturating_add(1);
-            return Sent::Failed;
-        }
-        match read_unit(alloc, unit) {
-            Ok(Some(request)) => self.hand(alloc, link, &request),
-            Ok(None) => Sent::Sent,
-            Err(_) => Sent::Memory,
-        }
+        self.links.send(alloc, link, unit)
     }
 
-    fn look(&mut self, _: Global, link: &mut TestLink) -> Looked
+    fn look(&mut self, alloc: Global, link: &mut TestLink) -> Looked
         ensures fits { LookFits
             (⟦<TestLink as Linked>⟧.peer link.old) (⟦<TestLink as Linked>⟧.peer link.new)
             link.old.arrived.items link.new.arrived.items result }
@@ -180,25 +107,20 @@ impl Wire<TestWorld> for TestWire {
         ensures counts { WireCounts true
             (look_counted (⟦<TestLink as Linked>⟧.peer link.old) result)
             (counts_of self.old) (counts_of self.new) }
-        ensures fails { has_not_looked result
-            ≡ is_cut (happening_of self.old.happenings.table link.old.peer.target) link.old.number }
+        ensures fails { has_not_looked result ≡ fails_next self.old.calls || is_cut (happening_of
+            self.old.links.happenings.table link.old.peer.target) link.old.number }
         ensures next { FindsNext link.old.owed.items link.new.owed.items result }
+        ensures called { self.new.calls ≡ after_call self.old.calls }
     {
-        if self.is_cut(link) {
-            self.faults = self.faults.saturating_add(1);
+        if self.calls.next_fails() {
+            self.links.count_fault();
             return Looked::Failed;
         }
-        match next_reply(&mut link.owed) {
-            Some(owed) => self.arrive(link, &owed),
-            None => {
-                self.waits = self.waits.saturating_add(1);
-                Looked::NotYet
-            }
-        }
+        self.links.look(alloc, link)
     }
 
     fn arrived<'a>(&self, link: &'a TestLink) -> &'a [u8] {
-        link.arrived.as_slice()
+        self.links.arrived(link)
     }
 
     fn consume(&mut self, link: &mut TestLink, count: usize)
@@ -207,78 +129,44 @@ impl Wire<TestWorld> for TestWire {
         ensures link { IsSameLink ⟦<TestLink as Linked>⟧ link.old link.new }
         ensures happened { AreSame (happened_of self.old) (happened_of self.new) }
         ensures counts { counts_of self.new ≡ counts_of self.old }
+        ensures called { self.new.calls ≡ self.old.calls }
     {
-        link.arrived.advance(count);
+        self.links.consume(link, count);
     }
 
     ghost exact_links = { λ e. e };
 }
 
-/// Whether a reply says of a Present's result set that it is gone.
-fn says_gone(reply: &Reply) -> bool
-    ensures { result ≡ Said.says_gone reply.now }
-{
-    match reply {
-        Reply::Present { body, .. } => match body {
-            Body::Diag(diag) => diag.is_gone(),
-            Body::Diags(diags) => diags.as_slice().first().is_some_and(|diag| diag.is_gone()),
-            Body::None | Body::Records(_) => false,
-        },
-        _ => false,
-    }
-}
-
 impl Events for TestWire {
-    #[tactic(auto, using(crate::proofs::WireLemmas::made_if))]
     fn gone(&mut self, target: u32, presents: u32) -> Result<(), Memory>
         ensures made { OnOk result (IsMade target
             (λ happening. record happening { presents = presents })
             (happened_of self.old) (happened_of self.new)) }
         ensures err { OnErr result (AreSame (happened_of self.old) (happened_of self.new)) }
         ensures counts { counts_of self.new ≡ counts_of self.old }
+        ensures called { self.new.calls ≡ self.old.calls }
     {
-        let happening = self.happenings.of(target);
-        self.happenings.put(
-            target,
-            Happening {
-                presents,
-                ..happening
-            },
-        )
+        self.links.gone(target, presents)
     }
 
-    #[tactic(auto, using(crate::proofs::WireLemmas::cut_if))]
     fn cut(&mut self, target: u32) -> Result<(), Memory>
-        ensures made { OnOk result (AreCut true target self.old.dials
+        ensures made { OnOk result (AreCut true target (counts_of self.old).dials
             (happened_of self.old) (happened_of self.new)) }
         ensures err { OnErr result (AreSame (happened_of self.old) (happened_of self.new)) }
         ensures counts { counts_of self.new ≡ counts_of self.old }
+        ensures called { self.new.calls ≡ self.old.calls }
     {
-        let happening = self.happenings.of(target);
-        self.happenings.put(
-            target,
-            Happening {
-                cut: self.dials,
-                ..happening
-            },
-        )
+        self.links.cut(target)
     }
 
-    #[tactic(auto, using(crate::proofs::WireLemmas::made_if))]
     fn slow(&mut self, target: u32, looks: u32) -> Result<(), Memory>
         ensures made { OnOk result (IsMade target
             (λ happening. record happening { delay = looks })
             (happened_of self.old) (happened_of self.new)) }
         ensures err { OnErr result (AreSame (happened_of self.old) (happened_of self.new)) }
         ensures counts { counts_of self.new ≡ counts_of self.old }
+        ensures called { self.new.calls ≡ self.old.calls }
     {
-        let happening = self.happenings.of(target);
-        self.happenings.put(
-            target,
-            Happening {
-                delay: looks,
-                ..happening
-            },
-        )
+        self.links.slow(target, looks)
     }
 }

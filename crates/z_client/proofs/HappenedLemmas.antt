@@ -12,14 +12,15 @@ use Rattle.gw_outside.specs.Wires.{SendHappens, IsSentTo, IsRequestUnit}
 use Rattle.z_client.specs.Units.{init_request}
 
 pub same_self : (h : Happened) → AreSame h h
-same_self h = record { steady = refl; of_target = λ target. refl }
+same_self h = record { steady = refl; lent = refl; of_target = λ target. refl }
 
 pub same_again : (a b c : Happened) → AreSame a b → AreSame b c → AreSame a c
-same_again a b c s t = record { steady = t.steady ∙ s.steady; of_target = λ target. t.of_target target ∙ s.of_target target }
+same_again a b c s t = record { steady = t.steady ∙ s.steady; lent = t.lent ∙ s.lent; of_target = λ target. t.of_target target ∙ s.of_target target }
 
 pub same_less : (a b c : Happened) → AreSame a b → AreLess b c → AreLess a c
 same_less a b c s l = record {
   steady = l.steady ∙ s.steady;
+  lent = l.lent ∙ s.lent;
   presents = λ target. subst (λ h. (c.of_target target).presents ≤ h.presents) (s.of_target target) (l.presents target);
   delay = λ target. subst (λ h. (c.of_target target).delay ≡ h.delay) (s.of_target target) (l.delay target);
   cut = λ target. subst (λ h. (c.of_target target).cut ≡ h.cut) (s.of_target target) (l.cut target);
@@ -32,7 +33,7 @@ module _ (a b : Happened) where
   made_same own target m (inr e) = m.others target (λ is. e.1 (sym is))
 
   address_same : (address : Address) → IsAsked address init_request a b → AreSame a b
-  address_same (Test own) s = record { steady = s.steady; of_target = λ target. made_same own target s (eqb_tells own target) }
+  address_same (Test own) s = record { steady = s.steady; lent = s.lent; of_target = λ target. made_same own target s (eqb_tells own target) }
   address_same (Tcp host port) s = s
 
   -- an Init leaves all that is to happen

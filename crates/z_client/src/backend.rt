@@ -59,6 +59,13 @@ impl<N> ZBackend<N> {
     {
         self.last.as_slice()
     }
+
+    /// The wire, where no more is asked over it.
+    pub fn into_wire(self) -> N
+        ensures { result ≡ self.wire }
+    {
+        self.wire
+    }
 }
 
 impl<N: Watched> Watched for ZBackend<N> {

@@ -1,15 +1,18 @@
--- For contracts alone: what a connection goes on with: its end, octets that begin no unit, or a
--- unit (ANSI/NISO Z39.50-2003, 4.2; X.690:2021, 8.1)
-use Rattle.std.specs.Prelude.{◌≡◌, ℕ, Bool, true, false, List, [], ◌∷◌, length, ◌==◌, ◌&&◌, if◌then◌else◌}
+-- For contracts alone: what a connection goes on with: its end, octets that begin no unit, a unit,
+-- or a head (ANSI/NISO Z39.50-2003, 4.2; X.690:2021, 8.1; RFC 9112, 2.1)
+use Rattle.std.specs.Prelude.{◌≡◌, ℕ, Bool, true, false, List, [], ◌∷◌, length, ◌==◌, ◌&&◌, if◌then◌else◌, Ok}
 use Rattle.std.specs.Char.{is_ascii_alphabetic}
 use Rattle.z_types.specs.declared.marks.End.{End}
 use Rattle.z_types.specs.declared.marks.End.TheVariants.{Finished, Cut}
 use Rattle.gateway_rules.specs.Answers.{IsOpen, IsBad}
 use Rattle.z_frame.specs.Framing.{Framing, IsGiven}
+use Rattle.sru_request.specs.Request.{IsHeadAnswer}
+use Rattle.sru_request.specs.declared.head.HeadGot.TheVariants.{NeedMore}
+use Rattle.front_http.specs.Seeking.{IsHeadOf}
 use Rattle.front_conn.specs.declared.ahead.Ahead.{Ahead}
-use Rattle.front_conn.specs.declared.ahead.Ahead.TheVariants.{Nothing, Ended, Bad, Whole}
+use Rattle.front_conn.specs.declared.ahead.Ahead.TheVariants.{Nothing, Ended, Bad, Whole, Head}
 
--- the first octet of a connection is an ASCII letter, so that it begins no unit
+-- the first octet of a connection is an ASCII letter, with which HTTP begins
 abbrev pub is_letter_first : (at octet : ℕ) → Bool
 is_letter_first at octet = (at == 0) && is_ascii_alphabetic octet
 
@@ -37,9 +40,17 @@ IsUnitAhead has_ended old new answer =
     (answer ≡ end_or_nothing has_ended (Cut (length old.rest))) × IsOpen old.rest
     × StaysGood old new
 
+-- octets that a letter stands at the start of: a part of a head, which more octets can complete; or
+-- a head
+abbrev pub IsHeadAhead : Bool → List ℕ → Ahead → Type 0
+IsHeadAhead has_ended octets (Head head) = IsHeadOf octets head
+IsHeadAhead has_ended octets answer =
+    (answer ≡ end_or_nothing has_ended (Cut (length octets))) × IsHeadAnswer octets (Ok NeedMore)
+
 -- by whether a letter stands first
 abbrev pub IsOctetAhead : Bool → Bool → Framing → Framing → Ahead → Type 0
-IsOctetAhead true has_ended old new answer = (answer ≡ Bad 0) × (old.end ≡ 0) × StaysGood old new
+IsOctetAhead true has_ended old new answer =
+    IsHeadAhead has_ended old.rest answer × StaysGood old new
 IsOctetAhead false has_ended old new answer = IsUnitAhead has_ended old new answer
 
 -- by the octets that stand there

@@ -11,7 +11,7 @@ use Rattle.front_conn.specs.Serving.{IsServed, Streams}
 use Rattle.front_conn.specs.steps.States.{ConnectionState, IsStateOf}
 use Rattle.front_conn.specs.steps.Steps.{NothingWaits}
 
--- a connection goes on, or has ended by a unit or by octets that begin none; by the end of its input only where this has come
+-- a connection goes on, or has ended by a unit, a head or octets that begin none; by the end of its input only where this has come
 abbrev pub EndsByOctets : Bool → Option End → Type 0
 EndsByOctets has_ended None = Unit {0}
 EndsByOctets has_ended (Some Closed) = Unit {0}
@@ -22,7 +22,7 @@ EndsByOctets has_ended (Some Limited) = Unit {0}
 EndsByOctets has_ended other = ⊥
 
 module _ {S : Type 0} where
-  -- there is nothing to do: the connection has ended; or nothing is in work, and no whole request, no bad unit and no end waits
+  -- there is nothing to do: the connection has ended; or nothing is in work, and no whole request, no head, no bad unit and no end waits
   abbrev pub IsIdleAt : Option End → ConnectionState S → Type 0
   IsIdleAt None state = (state.in_work ≡ None) × NothingWaits state
   IsIdleAt (Some end) state = Unit {0}

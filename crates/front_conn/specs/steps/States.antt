@@ -1,4 +1,4 @@
--- For contracts alone: where a connection stands in its session (ANSI/NISO Z39.50-2003, 4.2)
+-- For contracts alone: where a connection stands in its session (ANSI/NISO Z39.50-2003, 4.2), or in its GET (SRU 1.2)
 use Rattle.std.specs.Prelude.{◌≡◌, ℕ, ◌<◌, Bool, true, false, List, [], ◌∷◌, ◌++◌, length, All, Option, None, Some, IfSome, Ok}
 use Rattle.std.specs.List.{AllByRecursion}
 use Rattle.z_types.specs.declared.known_set.KnownSet.{KnownSet}
@@ -6,11 +6,12 @@ use Rattle.z_types.specs.declared.marks.Mark.{Mark}
 use Rattle.z_types.specs.declared.marks.End.{End}
 use Rattle.z_types.specs.declared.requests.Request.{Request}
 use Rattle.z_types.specs.declared.sitting.Sitting as sitting
+use Rattle.z_types.specs.declared.work.Work.{Work}
 use Rattle.z_types.specs.declared.world.World as world
 use Rattle.z_types.specs.Bounds.{within64}
 use Rattle.route_config.specs.declared.route.Route.{Route}
 use Rattle.gateway_rules.specs.Answers as kind
-use Rattle.gateway_rules.specs.Answers.{Answers, IsReceived, kind_of}
+use Rattle.gateway_rules.specs.Answers.{IsReceived, kind_of}
 use Rattle.gateway_rules.specs.Asking.{asked, works}
 use Rattle.gateway_rules.specs.Course.{Received, due, met, octets_of}
 use Rattle.gateway_rules.specs.Marks.{Cause}
@@ -20,12 +21,19 @@ use Rattle.gateway_rules.specs.Targets.{hits_of}
 use Rattle.front_session.specs.Admitting.{waits}
 use Rattle.front_session.specs.Sessions.{SessionState, Waiting, client_of, progress_of}
 use Rattle.package.specs.steps.Packages.{IsPackageOf, PackageView}
+use Rattle.sru_rules.specs.Answers.{Answers}
+use Rattle.front_sru.specs.Gets.{work_of}
+use Rattle.front_sru.specs.declared.state.SruStage.{SruStage}
+use Rattle.front_sru.specs.declared.state.SruStage.TheVariants.{Idle}
+use Rattle.front_http.specs.Gets.{StandsInGet}
 use Rattle.front_conn.specs.declared.totals.Total.{Total}
 
--- a connection: its session, the legs of the request in work, what the legs of its other requests counted, the marks, what is to
--- be written; the offset of the octets that were not taken, these octets, whether the input has ended; and how it ended, if it did
+-- a connection: its session, where its GET stands, the legs of the request in work, what the legs of its other requests counted,
+-- the marks, what is to be written; the offset of the octets that were not taken, these octets, whether the input has ended; and how
+-- it ended, if it did
 pub record ConnectionState (S : Type 0) : Type 0 where
   pub session : SessionState
+  pub stage : SruStage
   pub in_work : Option (PackageView S)
   pub totals : List Total
   pub marks : List Mark
@@ -39,6 +47,7 @@ pub record ConnectionState (S : Type 0) : Type 0 where
 abbrev pub nothing_yet : {S : Type 0} → SessionState → ConnectionState S
 nothing_yet session = record {
   session = session;
+  stage = Idle;
   in_work = None;
   totals = [];
   marks = [];
@@ -49,11 +58,20 @@ nothing_yet session = record {
   end = None;
 }
 
--- a package in work is of the work that a request waits for
-abbrev pub IsOneWork : {S : Type 0} → Option Waiting → Option (PackageView S) → Type 0
-IsOneWork waiting None = Unit {0}
-IsOneWork None (Some view) = ⊥
-IsOneWork (Some waiting) (Some view) = waiting.work ≡ view.work
+-- the session's request waits for this work
+abbrev pub IsWaitedFor : Option Waiting → Work → Type 0
+IsWaitedFor None job = ⊥
+IsWaitedFor (Some waiting) job = waiting.work ≡ job
+
+-- and so does its GET, where it stands in one
+abbrev pub IsWaitedAt : Route → Option Waiting → Work → SruStage → Type 0
+IsWaitedAt route waiting job Idle = IsWaitedFor waiting job
+IsWaitedAt route waiting job stage = work_of route stage ≡ Some job
+
+-- a package in work is of the work that waits
+abbrev pub IsOneWork : {S : Type 0} → Route → Option Waiting → SruStage → Option (PackageView S) → Type 0
+IsOneWork route waiting stage None = Unit {0}
+IsOneWork route waiting stage (Some view) = IsWaitedAt route waiting view.work stage
 
 -- ---- of one route
 
@@ -61,15 +79,16 @@ IsOneWork (Some waiting) (Some view) = waiting.work ≡ view.work
 abbrev pub HasLegsOf : Route → KnownSet → Type 0
 HasLegsOf route set = All (λ leg. leg < length route.legs) set.legs
 
--- the sets that are kept, and the package in work, are of the route
+-- the sets that are kept, and the package in work and the work that waits for it, are of the route
 pub record IsOfRoute {W S : Type 0} (w : world.Ghosts W) (t : sitting.Ghosts S W) (route : Route) (most : ℕ)
-    (known : List KnownSet) (works : Option (PackageView S)) : Type 0 where
-  pub sets : AllByRecursion (HasLegsOf route) known
+    (session : SessionState) (stage : SruStage) (works : Option (PackageView S)) : Type 0 where
+  pub sets : AllByRecursion (HasLegsOf route) session.sets
   pub in_work : IfSome works (IsPackageOf w t route most)
+  pub one_work : IsOneWork route session.waiting stage works
 
 -- a connection whose steps are all given the route, and doors that open so many sessions of a class at most
 abbrev pub IsConnOf : {W S : Type 0} → world.Ghosts W → sitting.Ghosts S W → Route → (most : ℕ) → ConnectionState S → Type 0
-IsConnOf w t route most state = state.end ≡ None → IsOfRoute w t route most state.session.sets state.in_work
+IsConnOf w t route most state = state.end ≡ None → IsOfRoute w t route most state.session state.stage state.in_work
 
 -- ---- in its session
 
@@ -102,7 +121,7 @@ MayCome false more = Unit {0}
 
 module _ {W S : Type 0} (w : world.Ghosts W) (route : Route) (fed written : List ℕ) (state : ConnectionState S) where
   -- no request is in work: all units that were taken were answered; their replies were written, in part before and the others
-  -- still to be
+  -- still to be. Of an HTTP connection none is taken.
   pub record Rests : Type 0 where
     pub units : List Received
     pub spelled : fed ≡ octets_of units ++ state.left
@@ -127,6 +146,19 @@ module _ {W S : Type 0} (w : world.Ghosts W) (route : Route) (fed written : List
     pub asks : asked w route (client_of before) request ≡ works view.work
     pub waits : state.session ≡ waits before request (record { request = request; work = view.work })
 
+  -- the octets begin with a GET, and the package is for the work that it waits for; nothing was written, and no mark listed
+  pub record WorksOnGet (view : PackageView S) : Type 0 where
+    pub kind : kind_of fed ≡ kind.letter
+    pub stands : StandsInGet w route fed state.stage
+    pub of_work : work_of route state.stage ≡ Some view.work
+    pub no_marks : state.marks ≡ []
+    pub unwritten : written ++ state.out ≡ []
+
+  -- the session's request is in work, or the GET
+  abbrev pub WorksAt : SruStage → PackageView S → Type 0
+  WorksAt Idle view = Works view
+  WorksAt stage view = WorksOnGet view
+
   -- the octets were answered whole, whatever may still come
   abbrev pub HasEnded : End → Type 0
   HasEnded end =
@@ -135,7 +167,7 @@ module _ {W S : Type 0} (w : world.Ghosts W) (route : Route) (fed written : List
   -- where a connection stands, or how it ended
   abbrev pub StandsOrEnded : Option End → Option (PackageView S) → Type 0
   StandsOrEnded None None = Rests
-  StandsOrEnded None (Some view) = Works view
+  StandsOrEnded None (Some view) = WorksAt state.stage view
   StandsOrEnded (Some end) in_work = HasEnded end
 
   -- of the octets that were fed, where so much was written before

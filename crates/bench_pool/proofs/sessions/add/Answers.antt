@@ -32,5 +32,5 @@ returns c =
     let count : 3 ≤ most_number = omega arith in
     let stands = ap (λ (k : SetKey). Some (k, 3)) (sym c.in_ok-key.ensures) in
     record {
-      kept = on_ok_weaker c.record_.result (λ recorded. subst (λ t. TableKept quiet.ghosts still.ghosts (at_table p t)) (sym recorded) (record_kept quiet.ghosts still.ghosts slot key 3 0 (at_table p room) lacks (record { small = small; count = count; stands = stands; right = λ told. absurd told }) roomy)) c.record_.ensures.ok;
+      kept = on_ok_weaker c.record_.result (λ recorded. subst (λ t. TableKept quiet.ghosts still.ghosts (at_table p t)) (sym recorded) (record_kept quiet.ghosts still.ghosts slot key 3 c.args.now (at_table p room) lacks (record { small = small; count = count; stands = stands; right = λ told. absurd told }) roomy)) c.record_.ensures.ok;
     }

@@ -8,7 +8,7 @@ use Rattle.front_conn.proofs.serving.read_on.Goals as goal
 
 pub returns-in-Failed-clause-goes : goal.returns-in-Failed-clause-goes
 returns-in-Failed-clause-goes g c = λ route start output at.
-    serving-unread g.W.World g.S.Sitting route start (source_view g.I.Source c.args.source.now) (source_view g.I.Source c.read.new.self)
+    serving-unread g.W.World g.S.Sitting route start c.head_is_refused.ensures.cut (source_view g.I.Source c.args.source.now) (source_view g.I.Source c.read.new.self)
     output c.args.conn.now c.requires.goes_on c.requires.rests c.requires.nothing_waits c.in-Failed.ensures.given
     (c.in-Failed.ensures.failed refl) at
 

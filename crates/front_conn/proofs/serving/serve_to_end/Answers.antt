@@ -14,7 +14,7 @@ loop-round-init g c =
       of = subst
           (λ (s : ConnectionState g.row.S.Denot).
           IsConnOf g.W.World g.S.Sitting c.args.route.now (g.D.Door.counts c.args.door.now).most s)
-          (sym c.requires.new) (λ e. record { sets = tt; in_work = tt });
+          (sym c.requires.new) (λ e. record { sets = tt; in_work = tt; one_work = tt });
       most = refl;
     }
 

@@ -6,9 +6,9 @@ use Rattle.replay.specs.steps.Clients.{AreClientsOf}
 use Rattle.replay.proofs.ClientLemmas.{nobody}
 use Rattle.replay.proofs.ReportLemmas.{is_right}
 use Rattle.front_conn.specs.steps.Answering.{Outside}
-use Rattle.replay.specs.Counts.{AreSums, HaveCauses}
+use Rattle.replay.specs.Counts.{AreDialled, AreSums, HaveCauses}
 use Rattle.replay.proofs.SumLemmas.{costed_on}
-use Rattle.replay.proofs.SumReports.{marks_reported, nobody_counted, nobody_kept, nobody_met, sums_reported}
+use Rattle.replay.proofs.SumReports.{dialled_reported, marks_reported, nobody_counted, nobody_kept, nobody_met, sums_reported}
 use Rattle.replay.proofs.runs.play_all.Goals as goal
 
 pub play-requires-clause-none : goal.play-requires-clause-none
@@ -78,6 +78,17 @@ returns-clause-causes g c =
     IfOk-weaker c.report.result (IsReported c.args.route.now c.close_all.new.clients) (λ report. HaveCauses c.args.route.now.pool report before behind)
     (λ report reported. marks_reported c.cost_laws.ensures.marks g.B.Watched.exact c.args.route.now c.args.clients.now c.close_all.new.clients report before behind
     (λ kind. nobody_met c.args.route.now.pool kind c.args.clients.now c.requires.nobody.none) reported
+    (costed_on g.B.Watched.exact c.args.route.now (record { clients = c.args.clients.now; outside = before })
+    (record { clients = c.play.new.clients; outside = outside_of g.D.Door g.B.Watched c.play.new.door c.play.new.backend })
+    (record { clients = c.close_all.new.clients; outside = behind }) c.in_ok-now.ensures.costed c.in_ok-close_all.ensures.costed)) c.report.ensures
+
+pub returns-clause-dialled : goal.returns-clause-dialled
+returns-clause-dialled g c =
+    let before : Outside g.row.B-Session.Denot = outside_of g.D.Door g.B.Watched c.args.door.now c.args.backend.now in
+    let behind : Outside g.row.B-Session.Denot = outside_of g.D.Door g.B.Watched c.close_all.new.door c.close_all.new.backend in
+    IfOk-weaker c.report.result (IsReported c.args.route.now c.close_all.new.clients) (λ report. AreDialled before behind)
+    (λ report reported. dialled_reported g.B.Watched.exact c.args.route.now c.args.clients.now c.close_all.new.clients before behind
+    c.requires.nobody.none c.in_ok-close_all.ensures.ended
     (costed_on g.B.Watched.exact c.args.route.now (record { clients = c.args.clients.now; outside = before })
     (record { clients = c.play.new.clients; outside = outside_of g.D.Door g.B.Watched c.play.new.door c.play.new.backend })
     (record { clients = c.close_all.new.clients; outside = behind }) c.in_ok-now.ensures.costed c.in_ok-close_all.ensures.costed)) c.report.ensures

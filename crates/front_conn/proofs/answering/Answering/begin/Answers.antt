@@ -14,18 +14,18 @@ start-requires-clause-there g c =
 
 pub returns-in-Write : goal.returns-in-Write
 returns-in-Write g c =
-    written-so g.W.World g.S.Sitting c.args.route.now c.args.at c.args.unit.now _ c.args.self.now _ _ c.make_totals.new.totals _ c.self.view_is
-    (not-err c.make_totals.result _ (sym c.is_err.ensures.value ∙ c.if-is_err.false) c.make_totals.ensures.ok) c.requires.idle
+    written-so g.W.World g.S.Sitting c.args.route.now c.args.at c.args.unit.now _ c.args.self.now _ _ c.make_totals.new.totals _ c.new.result c.self.view_is
+    (not-err c.make_totals.result _ (sym c.is_err.ensures.value ∙ c.if-is_err.false) c.make_totals.ensures.ok) c.requires.idle c.new.ensures
     c.in-Write.mark c.in-Write.end c.len-written.result c.list.result c.len-written.ensures c.in-Write.ensures c.list.ensures
 
 pub returns-in-Work : goal.returns-in-Work
 returns-in-Work g c =
-    works-so g.W.World g.S.Sitting c.args.route.now c.args.at c.args.unit.now _ c.args.self.now _ _ c.make_totals.new.totals _ c.self.view_is
-    (not-err c.make_totals.result _ (sym c.is_err.ensures.value ∙ c.if-is_err.false) c.make_totals.ensures.ok) c.requires.idle
+    works-so g.W.World g.S.Sitting c.args.route.now c.args.at c.args.unit.now _ c.args.self.now _ _ c.make_totals.new.totals _ c.new.result c.self.view_is
+    (not-err c.make_totals.result _ (sym c.is_err.ensures.value ∙ c.if-is_err.false) c.make_totals.ensures.ok) c.requires.idle c.new.ensures
     c.in-Work.work c.start.result c.in-Work.ensures c.start.ensures
 
 pub returns-in-Memory : goal.returns-in-Memory
 returns-in-Memory g c =
-    unbegun-so g.W.World g.S.Sitting c.args.route.now c.args.at c.args.unit.now _ c.args.self.now _ _ c.make_totals.new.totals _ c.self.view_is
-    (not-err c.make_totals.result _ (sym c.is_err.ensures.value ∙ c.if-is_err.false) c.make_totals.ensures.ok) c.requires.idle
+    unbegun-so g.W.World g.S.Sitting c.args.route.now c.args.at c.args.unit.now _ c.args.self.now _ _ c.make_totals.new.totals _ c.new.result c.self.view_is
+    (not-err c.make_totals.result _ (sym c.is_err.ensures.value ∙ c.if-is_err.false) c.make_totals.ensures.ok) c.requires.idle c.new.ensures
     _ c.in-Memory.ensures refl

@@ -1,7 +1,0 @@
-use Rattle.std.proofs.Common.{refl}
-use Rattle.z_types.specs.declared.address.Address.TheVariants.{Test}
-use Rattle.bench_pool.proofs.StillLemmas.{empty_kept}
-use Rattle.bench_pool.proofs.sessions.session_holding.Goals as goal
-
-pub fill-requires : goal.fill-requires
-fill-requires c = record { kept = empty_kept _ _ c.in_ok-new.field-0 (Test 0) c.in_ok-new.ensures refl }

@@ -1,0 +1,4 @@
+pub mod Seeking
+pub mod Heads
+pub mod Gets
+pub mod Laws

@@ -1,0 +1,71 @@
+//! The end of a head, looked for as its octets come (RFC 9112, 2.1 and 2.2).
+
+ghost use Rattle.std.specs.Prelude.{◌≡◌, is_some};
+ghost use Rattle.sru_request.specs.Head.{head_length};
+ghost use Rattle.front_http.specs.Seeking.{HasPassed, IsSought, ends_here};
+
+use sru_request::{Get, HeadFault, HeadGot, MOST_HEAD_OCTETS, read_head};
+use std::alloc::Global;
+
+/// Whether a line feed stands first, and an empty line behind it.
+fn ends_here(octets: &[u8]) -> bool
+    ensures { result ≡ ends_here octets.now }
+{
+    match octets {
+        [b'\n', b'\n', ..] => true,
+        [b'\n', b'\r', b'\n', ..] => true,
+        _ => false,
+    }
+}
+
+/// Whether a head ends in these octets.
+fn has_end(octets: &[u8]) -> bool
+    ensures { result ≡ is_some (head_length octets.now) }
+{
+    for index in 0..octets.len() {
+        if ends_here(&octets[index..]) {
+            return true;
+        }
+    }
+    false
+}
+
+/// The octets in which a head can end, where none ends in the first so many: the last two of these may
+/// be the front of an empty line.
+fn unpassed(octets: &[u8], passed: usize) -> &[u8]
+    requires { HasPassed octets.now passed }
+    ensures { is_some (head_length result.now) ≡ is_some (head_length octets.now) }
+{
+    if passed > 2 {
+        &octets[passed - 2..]
+    } else {
+        octets
+    }
+}
+
+/// The head that the octets of a connection begin with, once it has come, or why they begin with none.
+/// It is `None` exactly where more octets are needed. So many of them were looked through before, in
+/// which no head ends; and so it is told behind. So a head costs the same in whatever pieces it comes.
+pub fn seek_head(alloc: Global, octets: &[u8], passed: &mut usize) -> Option<Result<Get, HeadFault>>
+    requires { HasPassed octets.now passed.old }
+    ensures sought { IsSought octets.now result }
+    ensures passed { HasPassed octets.now passed.new }
+{
+    let ends = has_end(unpassed(octets, *passed));
+    if ends || octets.len() >= MOST_HEAD_OCTETS {
+        return read_whole(alloc, octets);
+    }
+    *passed = octets.len();
+    None
+}
+
+/// The head that octets begin with.
+fn read_whole(alloc: Global, octets: &[u8]) -> Option<Result<Get, HeadFault>>
+    ensures { IsSought octets.now result }
+{
+    match read_head(alloc, octets) {
+        Ok(HeadGot::NeedMore) => None,
+        Ok(HeadGot::Got(get, _)) => Some(Ok(get)),
+        Err(fault) => Some(Err(fault)),
+    }
+}

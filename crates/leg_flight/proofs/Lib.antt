@@ -1,0 +1,3 @@
+mod DoneLemmas
+mod SaidLemmas
+mod TurnLemmas

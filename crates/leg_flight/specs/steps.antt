@@ -1,0 +1,2 @@
+-- For contracts alone (this project's own)
+pub mod Flights

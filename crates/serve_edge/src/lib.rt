@@ -1,0 +1,13 @@
+//! Serving over the system: a listener, workers with sockets to targets, the system's files, clock and
+//! output, and the log.
+#![tactic(auto)]
+
+mod crossing;
+mod listening;
+mod serving;
+#[cfg(test)]
+mod tests;
+mod workers;
+
+pub use crate::crossing::sessions_cross;
+pub use crate::serving::serve;

@@ -1,0 +1,111 @@
+-- What jobs that were done add up to
+use Rattle.std.proofs.Common.{◌≡◌, ◌∙◌, suc, List, [], ◌∷◌, ◌++◌, length, map, reverse, arith, refl, sym, ap}
+use Rattle.std.proofs.Common.{◌⊎◌, inl, inr}
+use Rattle.std.specs.List.{AllByRecursion, AllZip}
+use Rattle.z_types.specs.declared.world.World as world
+use Rattle.route_config.specs.declared.route.Route.{Route}
+use Rattle.gw_outside.specs.declared.accepts.Accept as accept
+use Rattle.gw_outside.specs.declared.sinks.Sink as to
+use Rattle.gw_outside.specs.declared.sources.Source as from
+use Rattle.serve.specs.declared.working.Worked.{Worked}
+use Rattle.serve.specs.declared.working.Worked.TheVariants.{Ended, Failed, Memory}
+use Rattle.serve.specs.declared.working.Worker.{Worker}
+use Rattle.serve_threads.specs.Serving.{HasFailed, HasNoneLeft, HasServed, HaveServed, SomeZip, worker_view}
+use Rattle.serve_threads.specs.steps.Jobs.{IsDone, worse, worst_after}
+use Rattle.serve.proofs.WorkingLemmas.{worked-none}
+use Rattle.serve_threads.proofs.Lists.{all-reverse, some-reverse, zip-seen}
+
+-- ---- ends
+
+worse-ended : (worked other : Worked) → worse worked other ≡ Ended → (worked ≡ Ended) × (other ≡ Ended)
+worse-ended Ended other e = (refl, e)
+worse-ended Failed other e = absurd (let f = e in cc)
+worse-ended Memory Failed e = absurd (let f = e in cc)
+worse-ended Memory Ended e = absurd (let f = e in cc)
+worse-ended Memory Memory e = absurd (let f = e in cc)
+
+worse-failed : (worked other : Worked) → worse worked other ≡ Failed → (worked ≡ Failed) ⊎ (other ≡ Failed)
+worse-failed Ended other e = inr e
+worse-failed Failed other e = inl refl
+worse-failed Memory Failed e = inr refl
+worse-failed Memory Ended e = absurd (let f = e in cc)
+worse-failed Memory Memory e = absurd (let f = e in cc)
+
+worst-ended : (worked : Worked) (others : List Worked) → worst_after worked others ≡ Ended
+    → (worked ≡ Ended) × AllByRecursion (λ other. other ≡ Ended) others
+worst-ended worked [] e = (e, tt)
+worst-ended worked (other ∷ others) e =
+    let rest = worst-ended (worse worked other) others e in
+    let both = worse-ended worked other rest.0 in
+    (both.0, (both.1, rest.1))
+
+-- ---- jobs
+
+module _ {W A B C I K X : Type 0} (w : world.Ghosts W) (i : from.Ghosts I) (k : to.Ghosts K) (a : accept.Ghosts A I K) (route : Route)
+    (worker : X → Worker B A C) (worked : X → Worked) where
+  abbrev Did : X → X → Type 0
+  Did x y = IsDone w i k a route (worker x) (worker y) (worked y)
+
+  none-left : (xs ys : List X) → AllZip Did xs ys → AllByRecursion (λ other. other ≡ Ended) (map worked ys)
+      → AllByRecursion (HasNoneLeft a) (map worker ys)
+  none-left [] [] did ended = tt
+  none-left [] (y ∷ ys) did ended = absurd did
+  none-left (x ∷ xs) [] did ended = absurd did
+  none-left (x ∷ xs) (y ∷ ys) did ended = (did.0.ended ended.0, none-left xs ys did.1 ended.1)
+
+  long : (xs ys : List X) → AllZip Did xs ys → length (map worker xs) ≡ length (map worker ys)
+  long [] [] did = refl
+  long [] (y ∷ ys) did = absurd did
+  long (x ∷ xs) [] did = absurd did
+  long (x ∷ xs) (y ∷ ys) did = ap suc (long xs ys did.1)
+
+  failed-either : (before : Worked) (x y : X) (xs ys : List X) → Did x y → (before ≡ Failed) ⊎ (worked y ≡ Failed)
+      → (before ≡ Failed) ⊎ SomeZip (HasFailed a) (map worker (x ∷ xs)) (map worker (y ∷ ys))
+  failed-either before x y xs ys did (inl earlier) = inl earlier
+  failed-either before x y xs ys did (inr here) = inr (inl (did.failed here))
+
+  failed-rest : (before : Worked) (x y : X) (xs ys : List X) → Did x y
+      → (worse before (worked y) ≡ Failed) ⊎ SomeZip (HasFailed a) (map worker xs) (map worker ys)
+      → (before ≡ Failed) ⊎ SomeZip (HasFailed a) (map worker (x ∷ xs)) (map worker (y ∷ ys))
+  failed-rest before x y xs ys did (inl now) = failed-either before x y xs ys did (worse-failed before (worked y) now)
+  failed-rest before x y xs ys did (inr later) = inr (inr later)
+
+  one-failed : (before : Worked) (xs ys : List X) → AllZip Did xs ys → worst_after before (map worked ys) ≡ Failed
+      → (before ≡ Failed) ⊎ SomeZip (HasFailed a) (map worker xs) (map worker ys)
+  one-failed before [] [] did e = inl e
+  one-failed before [] (y ∷ ys) did e = absurd did
+  one-failed before (x ∷ xs) [] did e = absurd did
+  one-failed before (x ∷ xs) (y ∷ ys) did e =
+      failed-rest before x y xs ys did.0 (one-failed (worse before (worked y)) xs ys did.1 e)
+
+  not-ended : {R : Type 0} → (Ended ≡ Failed) ⊎ R → R
+  not-ended (inl e) = absurd (let f = e in cc)
+  not-ended (inr r) = r
+
+  -- workers that were moved into jobs, and back when these were done
+  pub have-served : (old new rest : List (Worker B A C)) (xs ys : List X) (worst : Worked) → reverse (map worker xs) ≡ old
+      → rest ≡ [] → new ≡ rest ++ reverse (map worker ys) → worst ≡ worst_after Ended (map worked ys) → AllZip Did xs ys
+      → HaveServed w i k a route old new worst
+  have-served old new rest xs ys worst before left after told did =
+      let e : new ≡ reverse (map worker ys) = rw (after, left) refl in record {
+        each = rw (← before, e)
+            (zip-seen Did (HasServed w i k a route) worker worker xs ys (λ x y one. one.served) did);
+        ended = λ all. rw e (all-reverse (HasNoneLeft a) (map worker ys)
+            (none-left xs ys did (worst-ended Ended (map worked ys) (sym told ∙ all)).1));
+        failed = λ one. rw (← before, e) (some-reverse (HasFailed a) (map worker xs) (map worker ys) (long xs ys did)
+            (not-ended (one-failed Ended xs ys did (sym told ∙ one))));
+      }
+
+module _ {W A B C I K : Type 0} (w : world.Ghosts W) (i : from.Ghosts I) (k : to.Ghosts K) (a : accept.Ghosts A I K) (route : Route) where
+  -- nothing was done
+  each-same : (workers : List (Worker B A C)) → AllZip (HasServed w i k a route) workers workers
+  each-same [] = tt
+  each-same (worker ∷ workers) =
+      (record { worked = worked-none w i k route (worker_view a worker); faults = omega arith }, each-same workers)
+
+  pub same-workers : (old new : List (Worker B A C)) → new ≡ old → HaveServed w i k a route old new Memory
+  same-workers old new e = rw e (record {
+    each = each-same old;
+    ended = λ f. absurd (let g = f in cc);
+    failed = λ f. absurd (let g = f in cc);
+  })

@@ -1,0 +1,25 @@
+use denote.Param.{param}
+use mir.Syntax.{of_param}
+use Rattle.std.proofs.Common.{refl, sym}
+use Rattle.std.proofs.lemmas.List.Elements.{length_all_zip}
+use Rattle.pool_keys.specs.contracts.digest.KeyDigest as key_digest
+use Rattle.pool_keys.specs.contracts.digest.KeyDigestDigest.TheImpl as digest
+use Rattle.pool_crossing.proofs.Crosses.{indexed_send, unseen_quiet}
+use Rattle.serve_top.proofs.calls.serve_over_pool.Goals as goal
+
+pub serve_all-requires-send-P : goal.serve_all-requires-send-P
+serve_all-requires-send-P g c κs within =
+    let f = indexed_send (param 1 g.row.W) (param 5 g.row.B-Session) key_digest.the_row g.W.World g.B.Session.Sitting digest.ghosts c.type_bounds.send-B-Session in
+    record { owned = f.owned; leaving = λ k x w. unseen_quiet (k (of_param 3)) x w }
+
+pub serve_all-requires-clause-told : goal.serve_all-requires-clause-told
+serve_all-requires-clause-told g c κs within = refl
+
+pub serve_all-requires-clause-new : goal.serve_all-requires-clause-new
+serve_all-requires-clause-new g c κs within = rw c.after-pool.ensures refl
+
+pub returns : goal.returns
+returns g c = record {
+  served = c.serve_all.ensures.served;
+  len = sym (length_all_zip _ _ _ c.serve_all.ensures.served.each);
+}

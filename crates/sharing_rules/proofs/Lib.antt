@@ -1,0 +1,10 @@
+pub mod TableUses
+pub mod RoomUses
+pub mod SearchUses
+pub mod PoolUses
+pub mod TakeUses
+pub mod PutUses
+mod PoolFacts
+pub mod TakenUses
+pub mod NumberUses
+mod NeededFacts

@@ -1,0 +1,5 @@
+use Rattle.sharing_rules.proofs.PutUses.{repeated}
+use Rattle.sharing_rules.proofs.laws.twice_is_once.Goals as goal
+
+pub returns : goal.returns
+returns g c = λ route class now at one before os kept. repeated g.W.World route class now at one before os kept

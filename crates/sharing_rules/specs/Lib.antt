@@ -1,0 +1,4 @@
+pub mod Uses
+pub mod Needed
+pub mod Orderly
+pub mod steps

@@ -1,0 +1,3 @@
+-- For contracts alone (this project's own)
+pub mod Shared
+pub mod Laws

@@ -1,0 +1,91 @@
+//! Workers with clients in memory, each of which sends an Init and a Search.
+
+ghost use Rattle.std.specs.Prelude.{IfOk};
+ghost use Rattle.gw_outside.specs.Accepts.{IsUntouched};
+
+use gw_memory::{FakeBackend, MemoryAccept, MemoryClock, MemorySink, MemorySource};
+use gw_outside::{Sink, Source};
+use serve::Worker;
+use std::alloc::Global;
+use test_target::TestWorld;
+use z_types::{End, List, Memory, Text};
+
+/// An Init, and a Search for the letter `a` as title.
+pub(crate) const SENT: &[u8] = b"\
+    \xb4\x13\x83\x02\x05\xe0\x84\x03\x01\xff\xfe\x85\x03\x10\x00\x00\x86\x03\x10\x00\x00\
+    \xb6\x3e\x8d\x01\x00\x8e\x01\x01\x8f\x01\x00\x90\x01\xff\x91\x01\x31\xb2\x0a\x9f\x69\x07Default\
+    \xb5\x21\xa1\x1f\x06\x07\x2a\x86\x48\xce\x13\x03\x01\xa0\x14\xbf\x66\x11\xbf\x2c\x0a\x30\x08\
+    \x9f\x78\x01\x01\x9f\x79\x01\x04\x9f\x2d\x01a";
+
+/// What they are answered: there are three hits.
+pub(crate) const ANSWERED: &[u8] = b"\
+    \xb5\x29\x83\x02\x05\xe0\x84\x03\x01\xc1\x02\x85\x03\x10\x00\x00\x86\x03\x10\x00\x00\x8c\x01\xff\
+    \x9f\x6e\x02mp\x9f\x6f\x07gateway\x9f\x70\x011\
+    \xb7\x0c\x97\x01\x03\x98\x01\x00\x99\x01\x01\x96\x01\xff";
+
+/// A worker over memory.
+pub(crate) type Memories = Worker<
+    FakeBackend<TestWorld>,
+    MemoryAccept<MemorySource, MemorySink>,
+    MemoryClock,
+>;
+
+/// The list of one number.
+pub(crate) fn one_number(alloc: Global, number: u64) -> Result<List<u64>, Memory> {
+    let mut list = List::new(alloc);
+    list.push(number)?;
+    Ok(list)
+}
+
+/// A client's connection, of which nothing was read or written.
+fn client(alloc: Global) -> Result<(MemorySource, MemorySink), Memory>
+    ensures untouched { IfOk result (λ new. IsUntouched
+        ⟦<MemorySource as Source>⟧ ⟦<MemorySink as Sink>⟧ new.0 new.1) }
+{
+    let source = MemorySource::new(Text::copy_of(alloc, SENT)?, List::new(alloc));
+    Ok((source, MemorySink::new(alloc, List::new(alloc))))
+}
+
+/// A worker for so many clients, whose accept of this number fails, 0 for none.
+pub(crate) fn worker(alloc: Global, clients: u32, failing: u64) -> Result<Memories, Memory> {
+    let mut connections: List<(MemorySource, MemorySink)> = List::new(alloc);
+    for _ in 0..clients {
+        connections.push(client(alloc)?)?;
+    }
+    let failing = one_number(alloc, failing)?;
+    Ok(Worker {
+        backend: FakeBackend::new(TestWorld, List::new(alloc)),
+        accept: MemoryAccept::new(alloc, connections, failing)?,
+        clock: MemoryClock::new(List::new(alloc)),
+        served: List::new(alloc),
+    })
+}
+
+/// So many workers for so many clients each; an accept of the last one fails, where its number is not 0.
+pub(crate) fn workers(
+    alloc: Global,
+    count: u32,
+    clients: u32,
+    failing: u64,
+) -> Result<Vec<Memories>, Memory> {
+    let mut workers = Vec::new(alloc);
+    for place in 0..count {
+        let failing = if place + 1 == count { failing } else { 0 };
+        workers.push(worker(alloc, clients, failing)?)?;
+    }
+    Ok(workers)
+}
+
+/// Whether a worker served so many clients, and each was answered.
+pub(crate) fn has_answered(worker: &Memories, clients: usize) -> bool {
+    let served = worker.served.as_slice();
+    let closed = worker.accept.closed();
+    served.len() == clients
+        && closed.len() == clients
+        && served
+            .iter()
+            .all(|came| came.end == End::Finished && came.marks.len() == 2)
+        && closed
+            .iter()
+            .all(|connection| connection.1.received() == ANSWERED)
+}

@@ -1,0 +1,197 @@
+//! The command over memory: how it ends, what it prints, and what its workers did.
+
+use crate::clients::{has_answered, one_number, workers};
+use gateway_config::Status;
+use gw_memory::{MemoryFiles, MemorySink};
+use route_config::SMALLEST_TEXT;
+use serve_top::top_serve;
+use std::alloc::Global;
+use std::sync::Wait;
+use std::test::Fail;
+use std::thread::Threads;
+use test_target::TestWorld;
+use z_types::{List, Memory, Text};
+
+/// The command: its words, the file `c`, how many workers it is handed and how many clients each has,
+/// the numbers of the accept, the read and the write that fail, 0 for none, how it ends, what it prints,
+/// and how many clients each worker served.
+#[derive(Clone, Copy)]
+struct Case<'a> {
+    words: &'a [&'a str],
+    config: &'a [u8],
+    workers: u32,
+    clients: u32,
+    failing: [u64; 3],
+    status: Status,
+    printed: &'a [u8],
+    served: usize,
+}
+
+/// Two workers with two clients each, where nothing fails.
+const SOUND: Case = Case {
+    words: &["serve", "c", "2100", "2"],
+    config: SMALLEST_TEXT,
+    workers: 2,
+    clients: 2,
+    failing: [0, 0, 0],
+    status: Status::Ok,
+    printed: b"served 4\n",
+    served: 2,
+};
+
+/// Words that are refused.
+const REFUSED: Case = Case {
+    status: Status::Words,
+    printed: b"usage: check CONFIG | replay CONFIG SCRIPT | load N | serve CONFIG PORT WORKERS\n",
+    served: 0,
+    ..SOUND
+};
+
+const CASES: [Case; 17] = [
+    SOUND,
+    Case {
+        words: &["serve", "c", "65535", "1"],
+        workers: 1,
+        clients: 4,
+        served: 4,
+        ..SOUND
+    },
+    Case {
+        words: &["serve", "c", "1", "64"],
+        workers: 64,
+        clients: 1,
+        printed: b"served 64\n",
+        served: 1,
+        ..SOUND
+    },
+    Case {
+        clients: 0,
+        printed: b"served 0\n",
+        served: 0,
+        ..SOUND
+    },
+    Case {
+        words: &[],
+        ..REFUSED
+    },
+    Case {
+        words: &["serve", "c", "2100"],
+        ..REFUSED
+    },
+    Case {
+        words: &["check", "c"],
+        ..REFUSED
+    },
+    Case {
+        words: &["serve", "c", "0", "2"],
+        ..REFUSED
+    },
+    Case {
+        words: &["serve", "c", "65536", "2"],
+        ..REFUSED
+    },
+    Case {
+        words: &["serve", "c", "02100", "2"],
+        ..REFUSED
+    },
+    Case {
+        words: &["serve", "c", "2100", "3"],
+        ..REFUSED
+    },
+    Case {
+        words: &["serve", "c", "2100", "0"],
+        workers: 0,
+        ..REFUSED
+    },
+    Case {
+        words: &["serve", "c", "2100", "65"],
+        workers: 65,
+        clients: 0,
+        ..REFUSED
+    },
+    Case {
+        config: b"",
+        status: Status::Config,
+        printed: b"config 2 target\n",
+        served: 0,
+        ..SOUND
+    },
+    Case {
+        failing: [0, 1, 0],
+        status: Status::ReadFault,
+        printed: b"read fault c\n",
+        served: 0,
+        ..SOUND
+    },
+    // the sink takes an octet at a write
+    Case {
+        failing: [0, 0, 3],
+        status: Status::WriteFault,
+        printed: b"se",
+        ..SOUND
+    },
+    // behind its last client
+    Case {
+        failing: [3, 0, 0],
+        status: Status::AcceptFault,
+        printed: b"accept fault\n",
+        ..SOUND
+    },
+];
+
+/// The words of a line.
+fn texts(alloc: Global, line: &[&str]) -> Result<Vec<Text>, Memory> {
+    let mut words = Vec::new(alloc);
+    for word in line {
+        words.push(Text::copy_of(alloc, word.as_bytes())?)?;
+    }
+    Ok(words)
+}
+
+/// The file `c` of a case.
+fn files(alloc: Global, case: &Case) -> Result<MemoryFiles, Memory> {
+    let mut files = List::new(alloc);
+    files.push((
+        Text::copy_of(alloc, b"c")?,
+        Text::copy_of(alloc, case.config)?,
+    ))?;
+    Ok(MemoryFiles::new(files, one_number(alloc, case.failing[1])?))
+}
+
+/// Whether the command ends, prints and serves as its case has it.
+fn is_so<R: Threads + Wait + Sync>(rt: &R, alloc: Global, case: &Case) -> Result<bool, Memory> {
+    let words = texts(alloc, case.words)?;
+    let mut files = files(alloc, case)?;
+    let mut out = MemorySink::taking(alloc, 1, one_number(alloc, case.failing[2])?);
+    let mut workers = workers(alloc, case.workers, case.clients, case.failing[0])?;
+    let status = top_serve::<_, TestWorld, _, _, _, _, _>(
+        rt,
+        alloc,
+        words.as_slice(),
+        &mut files,
+        &mut out,
+        &mut workers,
+    );
+    let all = workers
+        .iter()
+        .all(|worker| has_answered(worker, case.served));
+    Ok(
+        status == case.status
+            && out.received() == case.printed
+            && workers.len() == case.workers as usize
+            && all,
+    )
+}
+
+#[test]
+fn a_command_ends_prints_and_serves_as_its_case_has_it(rt: HostRuntime) -> Result<(), Fail> {
+    for case in &CASES {
+        assert!(rt;
+            is_so(&rt, rt.alloc(), case)?,
+            "{:?} {:?}",
+            case.words,
+            case.failing
+        );
+    }
+    Ok(())
+}

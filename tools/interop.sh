@@ -1,0 +1,137 @@
+#!/bin/bash
+# Serves real clients over real targets, and compares what they are answered with what the targets say when they are asked directly; then
+# targets and clients fail. Prints a row for each thing that is tried, and ends with 0 only where each came as it should.
+#
+#     tools/interop.sh [COMMAND [PORT]]
+#
+# COMMAND starts the gateway (./gateway), PORT is the first of three that are free (20990). It needs Debian's `yaz`, and `curl` for SRU,
+# which is left out where NO_SRU is set. The gate does not run it.
+here=$(CDPATH='' cd -- "$(dirname -- "$0")/.." && pwd) || exit 1
+gateway=${1:-$here/gateway}
+port=${2:-20990}
+ztest=$((port + 1))
+mute=$((port + 2))
+room=$(mktemp -d) || exit 1
+failed=0
+trap 'kill $(jobs -p) 2>/dev/null; rm -rf "$room"' EXIT
+
+cat >"$room/route.toml" <<END
+[[target]]
+name = "demo"
+address = "test:0"
+[[target]]
+name = "real"
+address = "tcp:127.0.0.1:$ztest"
+[[target]]
+name = "mute"
+address = "tcp:127.0.0.1:$mute"
+[[database]]
+name = "Demo"
+[[database.leg]]
+via = "demo"
+databases = ["Default"]
+[[database]]
+name = "Real"
+[[database.leg]]
+via = "real"
+databases = ["Default"]
+[[database]]
+name = "Both"
+[[database.leg]]
+via = "demo"
+databases = ["Default"]
+[[database.leg]]
+via = "real"
+databases = ["Default"]
+[[database]]
+name = "Mute"
+[[database.leg]]
+via = "mute"
+databases = ["Default"]
+[pool]
+patience = 20
+END
+
+# A row: what was tried, and whether it came so.
+row() {
+    if [ "$2" = 0 ]; then printf 'ok    %s\n' "$1"; else printf 'FAIL  %s\n' "$1"; failed=1; fi
+}
+
+# What yaz-client shows of commands on standard input, at a port.
+client() { { echo "open tcp:127.0.0.1:$1"; cat; echo quit; } | timeout 60 yaz-client 2>&1; }
+
+# Whether what yaz-client shows of commands at the gateway has a text.
+shows() {
+    client "$port" <"$room/commands" >"$room/shown"
+    grep -qF -- "$2" "$room/shown"
+    row "$1" $?
+}
+commands() { printf '%s\n' "$@" >"$room/commands"; }
+
+hits() { sed -n 's/^Number of hits: \([0-9]*\).*/\1/p'; }
+# The fields of records in MARC, without what names the database they came from.
+fields() { grep -E '^[0-9]{3} '; }
+
+start_target() { yaz-ztest "@:$ztest" >"$room/target" 2>&1 & target=$!; sleep 1; }
+# A target forks a process for each link.
+stop_target() { pkill -P "$target"; kill "$target"; wait "$target" 2>/dev/null; }
+
+start_target
+# A target that accepts and says nothing.
+timeout 600 python3 -c "
+import socket, time
+s = socket.socket(); s.setsockopt(socket.SOL_SOCKET, socket.SO_REUSEADDR, 1)
+s.bind(('127.0.0.1', $mute)); s.listen(9); kept = []
+while True: kept.append(s.accept())" &
+"$gateway" serve "$room/route.toml" "$port" 8 2>"$room/log" >"$room/out" &
+for _ in $(seq 300); do grep -q '^listening' "$room/log" && break; sleep 1; done
+
+commands 'base Demo' 'find @attr 1=4 a' 'format xml' 'show 2+1'
+shows 'a built-in target: hits' 'Number of hits: 3'
+shows 'a built-in target: a record in the middle' '<r>0.Default.12</r>'
+commands 'base Demo' 'scan @attr 1=4 b'
+shows 'a scan' '* b (10)'
+commands 'base Demo' 'find @attr 1=4 a' 'find @attr 1=4 b' 'find @and @set 1 @set 2'
+shows 'result sets as operands' 'setno 3'
+commands 'base Nothing' 'find a'
+shows 'a database that is none' '[235] Database does not exist'
+commands 'base Demo' 'find @attr 1=4 a' 'delete 1'
+shows 'a request that is not served' 'Reason: protocolError'
+
+for query in '@attr 1=4 a' 'computer' '@and a b' '@attr 1=1003 c'; do
+    directly=$(client "$ztest" <<<"find $query" | hits)
+    here=$(printf 'base Real\nfind %s\n' "$query" | client "$port" | hits)
+    [ -n "$here" ] && [ "$here" = "$directly" ]
+    row "a real target: as many hits ($query: $here)" $?
+done
+printf 'find computer\nshow 1+1\n' | client "$ztest" | fields >"$room/directly"
+printf 'base Real\nfind computer\nshow 1+1\n' | client "$port" | fields >"$room/here"
+[ -s "$room/here" ] && cmp -s "$room/directly" "$room/here"
+row 'a real target: the same record' $?
+commands 'base Both' 'find @attr 1=4 a' 'format xml' 'show 1+1'
+shows 'two targets as one' '[Both]'
+if [ -z "$NO_SRU" ]; then
+    got=$(curl -s -m 10 "http://127.0.0.1:$port/Demo?operation=searchRetrieve&version=1.2&query=dc.title%3Da&maximumRecords=1")
+    case $got in *numberOfRecords*3*) row 'SRU over the same port' 0 ;; *) row 'SRU over the same port' 1 ;; esac
+fi
+
+commands 'base Mute' 'find a'
+shows 'a target that never answers' '[2] Temporary system error'
+stop_target
+# A search that no one made before: the hits of others are still shared.
+commands 'base Real' 'find @attr 1=4 z'
+shows 'a target that is gone' '[109] Database unavailable'
+commands 'base Demo' 'find @attr 1=4 a'
+shows 'another target meanwhile' 'Number of hits: 3'
+start_target
+commands 'base Real' 'find @attr 1=4 z'
+shows 'the target is back' 'Number of hits: '
+for _ in $(seq 100); do (exec 3<>"/dev/tcp/127.0.0.1/$port" && printf '\264\023' >&3) 2>/dev/null; done
+commands 'base Demo' 'find @attr 1=4 a'
+shows 'after 100 clients that connect and vanish' 'Number of hits: 3'
+(exec 3<>"/dev/tcp/127.0.0.1/$port"; printf '\264\023\203\002\005\340\204\003\001\377\376\205\003\020\000\000\206\003\020\000\000' >&3
+ for _ in $(seq 5); do head -c 1 <&3 >/dev/null; sleep 1; done) &
+shows 'beside a client that reads an octet a second' 'Number of hits: 3'
+grep -q 'target .* cannot be dialled' "$room/log"
+row 'the log names the target that was gone' $?
+exit "$failed"
