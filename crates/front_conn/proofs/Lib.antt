@@ -1,8 +1,8 @@
 mod WorkLemmas
 mod SetLemmas
-mod StateLemmas
+pub mod StateLemmas
 mod FeedLemmas
-mod EndLemmas
+pub mod EndLemmas
 mod AheadLemmas
 mod UnitLemmas
 mod TurnLemmas
@@ -15,5 +15,3 @@ mod GetLemmas
 mod HeadKeeps
 mod StepLemmas
 mod TurnedLemmas
-mod WrittenLemmas
-mod ServingLemmas

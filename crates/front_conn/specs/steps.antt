@@ -5,4 +5,3 @@ pub mod Answering
 pub mod Ahead
 pub mod Steps
 pub mod Feeding
-pub mod Serving

@@ -7,7 +7,6 @@ mod answering;
 mod conn;
 mod ends;
 mod laws;
-mod serving;
 mod stepped;
 mod totals;
 
@@ -16,6 +15,5 @@ pub use laws::{
     ends_answered, stands_at_start, stands_when_ended, stands_when_fed, stands_when_written,
     stays_of_route,
 };
-pub use serving::{Served, serve_connection};
 pub use stepped::Stepped;
 pub use totals::Total;

@@ -1,3 +1,2 @@
-mod DoneLemmas
 mod SaidLemmas
 mod TurnLemmas

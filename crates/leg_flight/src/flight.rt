@@ -7,12 +7,13 @@ ghost use Rattle.leg.specs.Turns.{IsLegOf};
 ghost use Rattle.package.specs.steps.Packages.{asked_of};
 ghost use Rattle.leg_flight.specs.steps.Flights.{Gives, IsPoll};
 
-use crate::rounds::{all_done, turn_all};
+use crate::rounds::turn_all;
 use crate::said::take_answers;
 use futures::Future;
 use futures::task::{Context, Poll};
 use gw_outside::{Backend, Clock};
 use leg::{Account, Leg, LegAnswer};
+use package::all_done;
 use pool_sets::Door;
 use route_config::Route;
 use std::alloc::Global;

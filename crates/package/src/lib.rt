@@ -21,4 +21,4 @@ pub use laws::{
 };
 pub use outcomes::plain_outcome;
 pub use package::Package;
-pub use turning::Round;
+pub use turning::{Round, all_done, turn_each};

@@ -1,1 +1,3 @@
+mod WrittenLemmas
+mod ServingLemmas
 pub mod WorkingLemmas

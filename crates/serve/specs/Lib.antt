@@ -1,1 +1,3 @@
+pub mod steps
+pub mod Serving
 pub mod Working

@@ -7,8 +7,8 @@ use Rattle.gw_outside.specs.declared.accepts.Accepted.TheVariants.{Connection}
 use Rattle.gw_outside.specs.declared.sinks.Sink as to
 use Rattle.gw_outside.specs.declared.sources.Source as from
 use Rattle.gw_outside.specs.Accepts.{IsNewConnection}
-use Rattle.front_conn.specs.Serving.{IsServed, streams}
-use Rattle.front_conn.specs.declared.serving.Served.{Served}
+use Rattle.serve.specs.Serving.{IsServed, streams}
+use Rattle.serve.specs.declared.serving.Served.{Served}
 
 -- what came of a worker's connections so far; and of its acceptor, where it tells them, how many connections are left, those that
 -- were handed back, and how many are out

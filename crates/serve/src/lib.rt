@@ -1,7 +1,9 @@
-//! A worker: accepts connections one after another and serves each, over a door to the pool that all
-//! workers share.
+//! A connection served to its end, over a source and a sink; and a worker, which accepts connections one
+//! after another and serves each, over a door to the pool that all workers share.
 #![tactic(auto)]
 
+mod serving;
 mod working;
 
+pub use serving::{Served, serve_connection};
 pub use working::{Worked, Worker, work};

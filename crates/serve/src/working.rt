@@ -4,7 +4,7 @@ ghost use Rattle.std.specs.Prelude.{◌≡◌, ◌≤◌};
 ghost use Rattle.z_types.specs.Counts.{Rose};
 ghost use Rattle.serve.specs.Working.{HasWorked, IsNoneLeft};
 
-use front_conn::{Served, serve_connection};
+use crate::{Served, serve_connection};
 use gw_outside::{Accept, Accepted, Backend, Clock};
 use pool_sets::Door;
 use route_config::Route;

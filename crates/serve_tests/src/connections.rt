@@ -6,10 +6,10 @@ use crate::octets::{
     BAD_HEAD_REPLY, BAD_REPLY, CLOSE, INIT, INIT_REPLY, LIMIT_REPLY, PRESENT, PRESENT_REPLY,
     SEARCH, SEARCH_REPLY,
 };
-use front_conn::{Served, serve_connection};
 use gw_memory::{FakeBackend, FakeSession, MemoryClock, MemorySink, MemorySource};
 use pool_core::Pool;
 use route_config::{Route, RouteParts};
+use serve::{Served, serve_connection};
 use std::alloc::Global;
 use std::test::Fail;
 use test_target::TestWorld;

@@ -2,7 +2,7 @@ use Rattle.std.proofs.Common.{◌∙◌, ℕ, ◌-◌, List, [], ◌∷◌, ◌+
 use Rattle.std.specs.Prelude.{option_map}
 use Rattle.gw_outside.specs.declared.accepts.Accepted.TheVariants.{Connection}
 use Rattle.gw_outside.specs.Accepts.{AcceptFits}
-use Rattle.front_conn.specs.declared.serving.Served.{Served}
+use Rattle.serve.specs.declared.serving.Served.{Served}
 use Rattle.serve.specs.Working.{WorkerView}
 use Rattle.serve.proofs.WorkingLemmas.{ended-same, failed-same, worked-more, worked-none, worked-same}
 use Rattle.serve.proofs.working.serve_all.Goals as goal

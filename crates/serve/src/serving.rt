@@ -3,12 +3,12 @@
 ghost use Rattle.std.specs.Prelude.{◌≡◌, ℕ, None};
 ghost use Rattle.route_config.specs.declared.route.Route.{Route};
 ghost use Rattle.front_session.specs.Sessions.{new_session};
-ghost use Rattle.front_conn.specs.Serving.{IsServed, SinkView, SourceView, Streams, sink_view, source_view, streams};
-ghost use Rattle.front_conn.specs.steps.Serving.{GoesOn, IsIdle, IsServing, IsWrittenOut};
+ghost use Rattle.serve.specs.Serving.{IsServed, SinkView, SourceView, Streams, sink_view, source_view, streams};
+ghost use Rattle.serve.specs.steps.Serving.{GoesOn, IsIdle, IsServing, IsWrittenOut};
 ghost use Rattle.front_conn.specs.steps.States.{IsConnOf, nothing_yet};
 ghost use Rattle.front_conn.specs.steps.Steps.{NothingWaits};
 
-use crate::{
+use front_conn::{
     Conn, Stepped, stands_at_start, stands_when_ended, stands_when_fed, stands_when_written,
     stays_of_route,
 };

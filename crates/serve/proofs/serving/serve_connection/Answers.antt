@@ -1,7 +1,7 @@
 use Rattle.std.proofs.Common.{List, ◌∙◌, ap, sym, subst}
 use Rattle.z_types.specs.declared.marks.Mark.{Mark}
-use Rattle.front_conn.specs.Serving.{IsServed, streams}
-use Rattle.front_conn.proofs.serving.serve_connection.Goals as goal
+use Rattle.serve.specs.Serving.{IsServed, streams}
+use Rattle.serve.proofs.serving.serve_connection.Goals as goal
 
 pub returns-clause-served : goal.returns-clause-served
 returns-clause-served g c =

@@ -1,9 +1,9 @@
 use Rattle.std.proofs.Common.{Option, sym, subst}
 use Rattle.z_types.specs.declared.marks.End.{End}
-use Rattle.front_conn.specs.Serving.{source_view}
-use Rattle.front_conn.specs.steps.Serving.{IsIdleAt}
-use Rattle.front_conn.proofs.ServingLemmas.{serving-ended}
-use Rattle.front_conn.proofs.serving.end_or_read.Goals as goal
+use Rattle.serve.specs.Serving.{source_view}
+use Rattle.serve.specs.steps.Serving.{IsIdleAt}
+use Rattle.serve.proofs.ServingLemmas.{serving-ended}
+use Rattle.serve.proofs.serving.end_or_read.Goals as goal
 
 pub returns-in-Some-clause-goes : goal.returns-in-Some-clause-goes
 returns-in-Some-clause-goes g c = λ route start output at.

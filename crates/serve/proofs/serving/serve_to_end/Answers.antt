@@ -1,10 +1,10 @@
 use Rattle.std.proofs.Common.{◌≡◌, ◌∙◌, Option, None, refl, sym, subst}
 use Rattle.z_types.specs.declared.marks.End.{End}
-use Rattle.front_conn.specs.Serving.{Streams, streams}
-use Rattle.front_conn.specs.steps.Serving.{GoesOn, IsWrittenOut}
+use Rattle.serve.specs.Serving.{Streams, streams}
+use Rattle.serve.specs.steps.Serving.{GoesOn, IsWrittenOut}
 use Rattle.front_conn.specs.steps.States.{ConnectionState, IsConnOf}
-use Rattle.front_conn.proofs.ServingLemmas.{serving-memory, serving-starts}
-use Rattle.front_conn.proofs.serving.serve_to_end.Goals as goal
+use Rattle.serve.proofs.ServingLemmas.{serving-memory, serving-starts}
+use Rattle.serve.proofs.serving.serve_to_end.Goals as goal
 
 pub loop-round-init : goal.loop-round-init
 loop-round-init g c =

@@ -1,10 +1,10 @@
 use Rattle.std.proofs.Common.{sym, subst, refl, take}
 use Rattle.z_types.specs.declared.marks.End.TheVariants as how
-use Rattle.front_conn.specs.Serving.{IsServed, source_view}
-use Rattle.front_conn.specs.steps.Serving.{IsWrittenOut}
+use Rattle.serve.specs.Serving.{IsServed, source_view}
+use Rattle.serve.specs.steps.Serving.{IsWrittenOut}
 use Rattle.front_conn.specs.steps.States.{ConnectionState}
-use Rattle.front_conn.proofs.ServingLemmas.{serving-fed, serving-unfed, serving-unread}
-use Rattle.front_conn.proofs.serving.read_on.Goals as goal
+use Rattle.serve.proofs.ServingLemmas.{serving-fed, serving-unfed, serving-unread}
+use Rattle.serve.proofs.serving.read_on.Goals as goal
 
 pub returns-in-Failed-clause-goes : goal.returns-in-Failed-clause-goes
 returns-in-Failed-clause-goes g c = λ route start output at.

@@ -1,8 +1,8 @@
 use Rattle.std.proofs.Common.{◌≡◌}
-use Rattle.front_conn.specs.Serving.{streams}
-use Rattle.front_conn.specs.steps.Serving.{IsWrittenOut}
+use Rattle.serve.specs.Serving.{streams}
+use Rattle.serve.specs.steps.Serving.{IsWrittenOut}
 use Rattle.front_conn.specs.steps.States.{IsConnOf}
-use Rattle.front_conn.proofs.serving.serve_to_end.Given as goal
+use Rattle.serve.proofs.serving.serve_to_end.Given as goal
 
 abbrev pub invariant-loop-round : goal.invariant-loop-round
 invariant-loop-round g l = record {

@@ -7,7 +7,7 @@ use Rattle.route_config.specs.declared.route.Route.{Route}
 use Rattle.gw_outside.specs.Sinks.{appended}
 use Rattle.gw_outside.specs.Sources.{HasEnded}
 use Rattle.gateway_rules.specs.Fair.{IsFair}
-use Rattle.front_conn.specs.Serving.{IsServed, Streams}
+use Rattle.serve.specs.Serving.{IsServed, Streams}
 use Rattle.front_conn.specs.steps.States.{ConnectionState, IsStateOf}
 use Rattle.front_conn.specs.steps.Steps.{NothingWaits}
 

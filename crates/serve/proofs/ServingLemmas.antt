@@ -16,7 +16,7 @@ use Rattle.gw_outside.specs.Sources.{HasEnded}
 use Rattle.leg.specs.declared.answers.Turned.{Turned}
 use Rattle.leg.specs.declared.answers.Turned.TheVariants as turned
 use Rattle.package.specs.steps.Packages.{PackageView}
-use Rattle.front_conn.specs.Serving.{AreInFront, IsCaused, IsServed, SinkView, SourceView, Streams}
+use Rattle.serve.specs.Serving.{AreInFront, IsCaused, IsServed, SinkView, SourceView, Streams}
 use Rattle.front_conn.specs.declared.stepped.Stepped.TheVariants.{Idle, NotYet, Went, Memory}
 use Rattle.front_sru.specs.Gets.{IsEnded, work_of}
 use Rattle.front_sru.specs.declared.begun.Begun as sru_begun
@@ -29,10 +29,10 @@ use Rattle.package.specs.steps.Ends.{outcome_in}
 use Rattle.front_conn.specs.declared.stepped.Stepped.{Stepped}
 use Rattle.front_conn.specs.steps.Answering.{AnsweringState, EndsAt, EndsByUnit, EndsWork, IsEndAfter, IsKeptBehindGet, Outside, WorksOn, get_served}
 use Rattle.front_conn.specs.steps.Feeding.{StandsAtStart, StandsWhenEnded, StandsWhenFed, StandsWhenWritten, fed_piece, with_end, with_piece, without_out}
-use Rattle.front_conn.specs.steps.Serving.{EndsByOctets, IsIdle, IsIdleAt, IsServing, IsWrittenOut}
+use Rattle.serve.specs.steps.Serving.{EndsByOctets, IsIdle, IsIdleAt, IsServing, IsWrittenOut}
 use Rattle.front_conn.specs.steps.States.{ConnectionState, nothing_yet}
 use Rattle.front_conn.specs.steps.Steps.{EndsAtRest, EndsByRest, IsStepped, KeepsState, NothingWaits, StepsFrom, TakesHead, TakesUnit, answering_of}
-use Rattle.front_conn.proofs.WrittenLemmas.{end-written, idle-answered, written-in_front}
+use Rattle.serve.proofs.WrittenLemmas.{end-written, idle-answered, written-in_front}
 use Rattle.front_session.specs.Sessions.{new_session}
 
 -- ---- octets behind others

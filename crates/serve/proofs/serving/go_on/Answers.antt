@@ -1,10 +1,10 @@
 use Rattle.std.proofs.Common.{◌∙◌, sym, subst}
-use Rattle.front_conn.specs.Serving.{sink_view, source_view, streams}
+use Rattle.serve.specs.Serving.{sink_view, source_view, streams}
 use Rattle.front_conn.specs.steps.Answering.{Outside}
-use Rattle.front_conn.specs.steps.Serving.{IsIdle, IsWrittenOut}
+use Rattle.serve.specs.steps.Serving.{IsIdle, IsWrittenOut}
 use Rattle.front_conn.specs.steps.States.{ConnectionState}
-use Rattle.front_conn.proofs.ServingLemmas.{serving-memory, serving-stepped, step-idle, step-memory, step-not_yet, step-went}
-use Rattle.front_conn.proofs.serving.go_on.Goals as goal
+use Rattle.serve.proofs.ServingLemmas.{serving-memory, serving-stepped, step-idle, step-memory, step-not_yet, step-went}
+use Rattle.serve.proofs.serving.go_on.Goals as goal
 
 pub returns-in-Memory-clause-goes : goal.returns-in-Memory-clause-goes
 returns-in-Memory-clause-goes g c = λ start at.

@@ -1,9 +1,9 @@
 use Rattle.std.proofs.Common.{sym, subst}
-use Rattle.front_conn.specs.Serving.{sink_view}
-use Rattle.front_conn.specs.steps.Serving.{IsWrittenOut}
+use Rattle.serve.specs.Serving.{sink_view}
+use Rattle.serve.specs.steps.Serving.{IsWrittenOut}
 use Rattle.front_conn.specs.steps.States.{ConnectionState, IsConnOf}
-use Rattle.front_conn.proofs.ServingLemmas.{serving-unwritten, serving-written}
-use Rattle.front_conn.proofs.serving.write_out.Goals as goal
+use Rattle.serve.proofs.ServingLemmas.{serving-unwritten, serving-written}
+use Rattle.serve.proofs.serving.write_out.Goals as goal
 
 pub returns-then-not-write_all-clause-goes : goal.returns-then-not-write_all-clause-goes
 returns-then-not-write_all-clause-goes g c = λ route start input serving.

@@ -28,8 +28,8 @@ use Rattle.gateway_rules.proofs.OneEnding.{extent-filled}
 use Rattle.gateway_rules.proofs.Runs.{rest-ends}
 use Rattle.front_session.specs.Sessions.{SessionState}
 use Rattle.package.specs.steps.Packages.{PackageView}
-use Rattle.front_conn.specs.Serving.{AreAnswers, AreInFront, AreWritten}
-use Rattle.front_conn.specs.steps.Serving.{EndsByOctets}
+use Rattle.serve.specs.Serving.{AreAnswers, AreInFront, AreWritten}
+use Rattle.serve.specs.steps.Serving.{EndsByOctets}
 use Rattle.front_conn.specs.steps.States.{BeginsWithUnits, ConnectionState, HasAnswered, HasEnded, IsStateOf, MayCome, Rests, StandsOrEnded, Works, WorksAt, WorksOnGet}
 use Rattle.front_conn.specs.steps.Steps.{AreUnfinished, BeginsWithLetter, IsUnfinished, NothingWaits}
 
