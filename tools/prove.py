@@ -21,7 +21,8 @@ def say(text):
 def libraries_of():
     """What crates.txt says: by the name of a crate, those of the repository that it names."""
     rows = [row.partition("#")[0].partition(":") for row in (TOP / "crates.txt").read_text().splitlines()]
-    named = {name.strip(): words.split() for name, _, words in rows if name.strip()}
+    # (a name may be followed by what its tests may do)
+    named = {name.split()[0]: words.split() for name, _, words in rows if name.strip()}
     return {name: [it for it in words if it in named] for name, words in named.items()}
 
 
