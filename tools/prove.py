@@ -18,11 +18,15 @@ def say(text):
     print(f"gateway: {text}", file=sys.stderr, flush=True)
 
 
+def name_of(row):
+    """The crate that a row of crates.txt names: a name, that may be followed by what its tests may do."""
+    return row.partition(":")[0].partition(" ")[0]
+
+
 def libraries_of():
     """What crates.txt says: by the name of a crate, those of the repository that it names."""
     rows = [row.partition("#")[0].partition(":") for row in (TOP / "crates.txt").read_text().splitlines()]
-    # (a name may be followed by what its tests may do)
-    named = {name.split()[0]: words.split() for name, _, words in rows if name.strip()}
+    named = {name_of(name): words.split() for name, _, words in rows if name.strip()}
     return {name: [it for it in words if it in named] for name, words in named.items()}
 
 
@@ -80,7 +84,7 @@ class Work:
         link(self.folder, self.room / "crates" / crate, ["out", "must-fail", "data"])
         for row in ("HANDLES", "crates.txt"):
             kept = (TOP / row).read_text().splitlines()
-            (self.room / row).write_text("".join(f"{it}\n" for it in kept if row == "HANDLES" or it.partition(":")[0] in {crate, *below}))
+            (self.room / row).write_text("".join(f"{it}\n" for it in kept if row == "HANDLES" or name_of(it) in {crate, *below}))
         if (self.folder / "out").is_dir():
             os.rename(self.folder / "out", self.room / "crates" / crate / "out")
         self.log = ROOMS / f"{crate}.log"
