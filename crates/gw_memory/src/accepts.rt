@@ -13,7 +13,7 @@ use gw_outside::{Accept, Accepted, Sink, Source};
 use planned_calls::Calls;
 use std::alloc::Global;
 use std::collections::VecDeque;
-use z_types::{List, Memory};
+use z_types::{End, List, Mark, Memory};
 
 /// An acceptor of stated connections, each a source and a sink of which nothing was read or written. It
 /// has room for all that are handed back.
@@ -104,7 +104,7 @@ impl<I: Source, O: Sink> Accept for MemoryAccept<I, O> {
         }
     }
 
-    fn close(&mut self, input: I, output: O)
+    fn close(&mut self, input: I, output: O, _marks: &[Mark], _end: End)
         requires { IfSome (Some
             (self.old.total - (deque_len self.old.waiting + vec_len self.old.closed)))
             (λ count. 0 < count) }

@@ -7,7 +7,7 @@ use crate::*;
 use gw_outside::{Accept, Accepted, Clock, FileGot, Files, Got, Sink, Source, Took, write_all};
 use std::alloc::Global;
 use std::test::Fail;
-use z_types::{List, Memory, Text};
+use z_types::{End, List, Memory, Text};
 
 /// The list of these numbers.
 fn numbers(alloc: Global, items: &[u64]) -> Result<List<u64>, Memory> {
@@ -119,7 +119,7 @@ fn next_octet(accept: &mut MemoryAccept<MemorySource, MemorySink>) -> u8 {
         Accepted::Connection(mut input, output) => {
             let mut octet = [b'?'];
             let _ = input.read(&mut octet);
-            accept.close(input, output);
+            accept.close(input, output, &[], End::Closed);
             octet[0]
         }
         Accepted::Ended => b'.',

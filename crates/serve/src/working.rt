@@ -118,7 +118,7 @@ fn serve_all<W: World, B: Backend<W>, D: Door<W, B::Session>, A: Accept, C: Cloc
             Accepted::Connection(mut source, mut sink) => {
                 let (from, to) = (&mut source, &mut sink);
                 let came = serve_connection(alloc, route, door, from, to, backend, clock);
-                accept.close(source, sink);
+                accept.close(source, sink, came.marks.as_slice(), came.end);
                 served.push_reserved(came);
             }
             Accepted::Ended => return Worked::Ended,

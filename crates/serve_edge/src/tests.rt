@@ -19,7 +19,7 @@ use std::thread::Threads;
 use std::{thread, time};
 use tcp_edge::{EdgeWire, SocketAccept, SocketSource, SystemClock, WriterSink};
 use z_client::ZBackend;
-use z_types::{List, Memory, Text};
+use z_types::{End, List, Mark, Memory, Text};
 
 /// An Init, and a Search for the letter `a` as title (ANSI/NISO Z39.50-2003, appendix A).
 const SENT: &[u8] = b"\
@@ -64,8 +64,14 @@ impl<'a, R: time::Clock, L: Log> Accept for Few<'a, R, L> {
         self.inner.accept()
     }
 
-    fn close(&mut self, input: SocketSource, output: WriterSink<TcpStream>) {
-        self.inner.close(input, output);
+    fn close(
+        &mut self,
+        input: SocketSource,
+        output: WriterSink<TcpStream>,
+        marks: &[Mark],
+        end: End,
+    ) {
+        self.inner.close(input, output, marks, end);
     }
 }
 

@@ -13,6 +13,7 @@ use std::net::{SocketAddr, TcpListener, TcpStream};
 use std::sync::atomic::{AtomicU64, Ordering};
 use std::time;
 use std::time::Duration;
+use z_types::{End, Mark};
 
 /// How long a client may send nothing: 15 minutes.
 const SILENT_SECONDS: u64 = 900;
@@ -110,10 +111,20 @@ impl<'a, R: time::Clock, L: Log> SocketAccept<'a, R, L> {
         }
     }
 
-    /// Logs a connection that has ended.
-    fn tell_end(&self, number: u64, lasted: u64, read: u64, written: u64) {
+    /// Logs a connection that has ended: how, what it lasted and moved, and its requests, with those among
+    /// them whose mark is not Plain by the kind of their mark.
+    fn tell_end(&self, input: &SocketSource, written: u64, marks: &[Mark], end: End) {
+        let lasted = seconds(self.runtime).saturating_sub(input.begun());
         info!(self.log;
-            "connection {number} ended after {lasted} seconds, {read} octets in, {written} out"
+            "connection {} ended after {lasted} seconds, {} octets in, {written} out, {} requests \
+             ({} Link, {} Silent, {} Gone, {} Full), {end:?}",
+            input.number(),
+            input.octets(),
+            marks.len(),
+            count_of(marks, |mark| matches!(mark, Mark::Link)),
+            count_of(marks, |mark| matches!(mark, Mark::Silent(_))),
+            count_of(marks, |mark| matches!(mark, Mark::Gone)),
+            count_of(marks, |mark| matches!(mark, Mark::Full(_))),
         );
     }
 
@@ -151,11 +162,21 @@ impl<R: time::Clock, L: Log> Accept for SocketAccept<'_, R, L> {
         self.count_fault()
     }
 
-    fn close(&mut self, mut input: SocketSource, output: WriterSink<TcpStream>) {
+    fn close(
+        &mut self,
+        mut input: SocketSource,
+        output: WriterSink<TcpStream>,
+        marks: &[Mark],
+        end: End,
+    ) {
         input.end();
-        let lasted = seconds(self.runtime).saturating_sub(input.begun());
-        self.tell_end(input.number(), lasted, input.octets(), output.octets());
+        self.tell_end(&input, output.octets(), marks, end);
     }
+}
+
+/// How many of the marks are of a kind.
+fn count_of(marks: &[Mark], is_so: fn(&Mark) -> bool) -> usize {
+    marks.iter().filter(|mark| is_so(mark)).count()
 }
 
 /// A connection's two halves, of which each call waits no longer than a client may let it.

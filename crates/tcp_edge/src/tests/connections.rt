@@ -14,6 +14,7 @@ use std::sync::atomic::{AtomicU64, Ordering};
 use std::test::Fail;
 use std::time::Duration;
 use std::{thread, time};
+use z_types::{End, Mark};
 
 /// An acceptor of a listener on loopback, and its address.
 fn accepting<'a, L: Log>(
@@ -61,7 +62,7 @@ fn serve_next<R: time::Clock, L: Log>(acceptor: &mut SocketAccept<'_, R, L>, cli
             return false;
         };
         let end = serve(&mut source, &mut sink);
-        acceptor.close(source, sink);
+        acceptor.close(source, sink, &[], End::Closed);
         if end != Got::End {
             return false;
         }
@@ -133,7 +134,10 @@ fn a_connection_is_logged_by_its_number(rt: HostRuntime) -> std::result::Result<
     let accepted = AtomicU64::new(6);
     let (mut acceptor, address) = accepting(&rt, &log, &accepted)?;
     let client = sender(&rt, address)?;
-    assert!(rt; serve_next(&mut acceptor, 1));
+    let (mut source, mut sink) = next(&mut acceptor).ok_or("none")?;
+    assert!(rt; serve(&mut source, &mut sink) == Got::End);
+    let marks = [Mark::Plain, Mark::Link, Mark::Silent(2), Mark::Link];
+    acceptor.close(source, sink, &marks, End::Finished);
     drop(acceptor);
     let lines = log.into_lines();
     let [begun, ended] = lines.as_slice() else {
@@ -142,7 +146,8 @@ fn a_connection_is_logged_by_its_number(rt: HostRuntime) -> std::result::Result<
     let from = format!(in rt.alloc(); "connection 7 from {}", own_address(&client)?)?;
     assert!(rt; begun.as_str().ends_with(from.as_str()));
     assert!(rt; ended.as_str().contains("connection 7 ended after "));
-    assert!(rt; ended.as_str().ends_with(" seconds, 15 octets in, 15 out"));
+    let told = "15 octets in, 15 out, 4 requests (2 Link, 1 Silent, 0 Gone, 0 Full), Finished";
+    assert!(rt; ended.as_str().ends_with(told));
     Ok(())
 }
 
@@ -204,7 +209,7 @@ fn a_client_reads_the_last_reply_though_it_sent_more(
     client.write_all(&[b'x'; 9000])?;
     let (source, mut sink) = next(&mut acceptor).ok_or("none")?;
     assert!(rt; write_all(&mut sink, b"refused"));
-    acceptor.close(source, sink);
+    acceptor.close(source, sink, &[], End::Closed);
     let mut answer = Vec::new(rt.alloc());
     client.read_to_end(&mut answer)?;
     assert!(rt; answer.as_slice() == b"refused".as_slice());
@@ -230,7 +235,7 @@ fn a_port_can_be_listened_on_again_at_once(rt: HostRuntime) -> std::result::Resu
     let (mut acceptor, address) = accepting(&rt, &Discard, &accepted)?;
     let mut client = TcpStream::connect(&rt, address)?;
     let (source, sink) = next(&mut acceptor).ok_or("none")?;
-    acceptor.close(source, sink);
+    acceptor.close(source, sink, &[], End::Closed);
     assert!(rt; client.read(&mut [0u8; 1])? == 0);
     drop(client);
     drop(acceptor);
