@@ -4,13 +4,15 @@
 #
 #     tools/interop.sh [COMMAND [PORT]]
 #
-# COMMAND starts the gateway (./gateway), PORT is the first of three that are free (20990). It needs Debian's `yaz`, and `curl` for SRU,
-# which is left out where NO_SRU is set. The gate does not run it.
+# COMMAND starts the gateway (./gateway), PORT is the first of five that are free (20990). It needs Debian's `yaz`, `idzebra-2.0`,
+# `libnet-z3950-zoom-perl` and `curl`. The gate does not run it.
 here=$(CDPATH='' cd -- "$(dirname -- "$0")/.." && pwd) || exit 1
 gateway=${1:-$here/gateway}
 port=${2:-20990}
 ztest=$((port + 1))
 mute=$((port + 2))
+zebra=$((port + 3))
+half=$((port + 4))
 room=$(mktemp -d) || exit 1
 failed=0
 trap 'kill $(jobs -p) 2>/dev/null; rm -rf "$room"' EXIT
@@ -25,6 +27,12 @@ address = "tcp:127.0.0.1:$ztest"
 [[target]]
 name = "mute"
 address = "tcp:127.0.0.1:$mute"
+[[target]]
+name = "zebra"
+address = "tcp:127.0.0.1:$zebra"
+[[target]]
+name = "half"
+address = "tcp:127.0.0.1:$half"
 [[database]]
 name = "Demo"
 [[database.leg]]
@@ -48,6 +56,16 @@ name = "Mute"
 [[database.leg]]
 via = "mute"
 databases = ["Default"]
+[[database]]
+name = "Zebra"
+[[database.leg]]
+via = "zebra"
+databases = ["Default"]
+[[database]]
+name = "Half"
+[[database.leg]]
+via = "half"
+databases = ["Default"]
 [pool]
 patience = 20
 END
@@ -68,6 +86,15 @@ shows() {
 }
 commands() { printf '%s\n' "$@" >"$room/commands"; }
 
+# Whether what a command prints has a text.
+tells() {
+    what=$1 text=$2
+    shift 2
+    timeout 60 "$@" >"$room/shown" 2>&1
+    grep -qF -- "$text" "$room/shown"
+    row "$what" $?
+}
+
 hits() { sed -n 's/^Number of hits: \([0-9]*\).*/\1/p'; }
 # The fields of records in MARC, without what names the database they came from.
 fields() { grep -E '^[0-9]{3} '; }
@@ -77,11 +104,24 @@ start_target() { yaz-ztest "@:$ztest" >"$room/target" 2>&1 & target=$!; sleep 1;
 stop_target() { pkill -P "$target"; kill "$target"; wait "$target" 2>/dev/null; }
 
 start_target
-# A target that accepts and says nothing.
+# The example of geological maps of Zebra.
+cp -r /usr/share/doc/idzebra-2.0/examples/gils "$room/gils" || exit 1
+(cd "$room/gils" && zebraidx -c zebra.cfg init && zebraidx -c zebra.cfg update records) >"$room/indexed" 2>&1 || exit 1
+(cd "$room/gils" && exec zebrasrv -c zebra.cfg -v none "@:$zebra") &
+# A target that accepts and says nothing, and one that accepts an Init and breaks off in its reply to the next request.
 timeout 600 python3 -c "
-import socket, time
-s = socket.socket(); s.setsockopt(socket.SOL_SOCKET, socket.SO_REUSEADDR, 1)
-s.bind(('127.0.0.1', $mute)); s.listen(9); kept = []
+import socket, threading
+def listening(port):
+    s = socket.socket(); s.setsockopt(socket.SOL_SOCKET, socket.SO_REUSEADDR, 1)
+    s.bind(('127.0.0.1', port)); s.listen(9)
+    return s
+def breaks_off(s):
+    accepts = bytes.fromhex('b516830205e0840301c102850310000086031000008c01ff')
+    while True:
+        link = s.accept()[0]
+        link.recv(4096); link.sendall(accepts); link.recv(4096); link.sendall(bytes.fromhex('b70c9701')); link.close()
+threading.Thread(target=breaks_off, args=(listening($half),), daemon=True).start()
+s = listening($mute); kept = []
 while True: kept.append(s.accept())" &
 "$gateway" serve "$room/route.toml" "$port" 8 2>"$room/log" >"$room/out" &
 for _ in $(seq 300); do grep -q '^listening' "$room/log" && break; sleep 1; done
@@ -110,13 +150,47 @@ printf 'base Real\nfind computer\nshow 1+1\n' | client "$port" | fields >"$room/
 row 'a real target: the same record' $?
 commands 'base Both' 'find @attr 1=4 a' 'format xml' 'show 1+1'
 shows 'two targets as one' '[Both]'
-if [ -z "$NO_SRU" ]; then
-    got=$(curl -s -m 10 "http://127.0.0.1:$port/Demo?operation=searchRetrieve&version=1.2&query=dc.title%3Da&maximumRecords=1")
-    case $got in *numberOfRecords*3*) row 'SRU over the same port' 0 ;; *) row 'SRU over the same port' 1 ;; esac
-fi
+
+for query in '@attr 1=4 surficial' 'geology' '@or map water' '@and maine @attr 1=4 map' 'nothingofthekind'; do
+    directly=$(client "$zebra" <<<"find $query" | hits)
+    here=$(printf 'base Zebra\nfind %s\n' "$query" | client "$port" | hits)
+    [ -n "$here" ] && [ "$here" = "$directly" ]
+    row "zebrasrv: as many hits ($query: $here)" $?
+done
+# Records as lines, without the names of the databases that they came from.
+maps() { sed -n '/^<gils>/,/^<\/gils>/p' | sed 's/^\(<\/gils>\)\[[A-Za-z]*\]/\1/'; }
+printf 'find geology\nformat xml\nshow 1+3\n' | client "$zebra" | maps >"$room/directly"
+printf 'base Zebra\nfind geology\nformat xml\nshow 1+3\n' | client "$port" | maps >"$room/here"
+[ -s "$room/here" ] && cmp -s "$room/directly" "$room/here"
+row 'zebrasrv: the same records' $?
+# Terms as they are searched for: yaz-client prints how a target spells them for display, which Zebra does in capitals.
+entries() { grep -E '^[* ] .* \([0-9]+\)$' | tr '[:upper:]' '[:lower:]'; }
+client "$zebra" <<<'scan @attr 1=4 map' | entries >"$room/directly"
+printf 'base Zebra\nscan @attr 1=4 map\n' | client "$port" | entries >"$room/here"
+[ -s "$room/here" ] && cmp -s "$room/directly" "$room/here"
+row 'zebrasrv: the same entries of a scan' $?
+
+tells 'zoomsh: hits' '3 hits' zoomsh 'set preferredRecordSyntax xml' "connect 127.0.0.1:$port/Demo" 'search @attr 1=4 a' quit
+tells 'zoomsh: a record' '0.Default.12' zoomsh 'set preferredRecordSyntax xml' "connect 127.0.0.1:$port/Demo" 'search @attr 1=4 a' 'show 1 1' quit
+tells "ZOOM in Perl: hits and a record" '3 <r>0.Default.20</r>' perl -MZOOM -e '
+    my $link = ZOOM::Connection->new($ARGV[0]);
+    $link->option(preferredRecordSyntax => "xml");
+    my $set = $link->search_pqf(q(@attr 1=4 a));
+    print $set->size, " ", $set->record(2)->raw' "127.0.0.1:$port/Demo"
+sru="http://127.0.0.1:$port/Demo?operation=searchRetrieve&version=1.2"
+tells 'curl: hits over the same port' '<zs:numberOfRecords>3<' curl -s -m 10 "$sru&query=dc.title%3Da&maximumRecords=1"
+tells 'curl: hits of zebrasrv' '<zs:numberOfRecords>1<' curl -s -m 10 "${sru/Demo/Zebra}&query=dc.title%3Dsurficial&maximumRecords=1"
+tells 'yaz-client over SRU' 'Number of hits: 3' yaz-client <<END
+open http://127.0.0.1:$port/Demo
+sru get 1.2
+find dc.title=a
+quit
+END
 
 commands 'base Mute' 'find a'
 shows 'a target that never answers' '[2] Temporary system error'
+commands 'base Half' 'find a'
+shows 'a target that breaks off in its reply' '[109] Database unavailable'
 stop_target
 # A search that no one made before: the hits of others are still shared.
 commands 'base Real' 'find @attr 1=4 z'
