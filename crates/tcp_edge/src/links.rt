@@ -3,7 +3,7 @@
 ghost use Rattle.std.specs.Prelude.{◌≡◌, ◌≢◌, ◌≤◌, [], None, IfOk, length};
 ghost use Rattle.gw_outside.specs.Wires.{LookFits};
 
-use crate::waits::may_give;
+use crate::waits::Awaited;
 use bytes::BytesMut;
 use gw_outside::{Linked, Looked};
 use std::alloc::Global;
@@ -13,7 +13,7 @@ use std::time::Duration;
 use std::{str, time};
 use test_wire::TestLink;
 
-/// How long a look waits at most.
+/// How long a look waits at most, for its own link or for another that is awaited.
 const LOOK_MILLISECONDS: i32 = 20;
 
 /// How long a read waits at most that finds nothing though something was to be had.
@@ -81,13 +81,13 @@ impl TcpLink {
     }
 
     /// Looks once. That the target closed is an error.
-    pub(crate) fn look(&mut self) -> Result<Looked>
+    pub(crate) fn look(&mut self, awaited: &mut Awaited) -> Result<Looked>
         ensures fits { IfOk result
             (LookFits None None self.old.arrived.items self.new.arrived.items) }
         ensures ok { IfOk result (λ looked. looked ≢ Looked.Failed) }
         ensures number { self.new.number ≡ self.old.number }
     {
-        if !may_give(&self.stream, LOOK_MILLISECONDS) {
+        if !awaited.may_give(&self.stream, LOOK_MILLISECONDS) {
             return Ok(Looked::NotYet);
         }
         let mut piece = [0u8; PIECE];

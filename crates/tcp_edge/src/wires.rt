@@ -11,6 +11,7 @@ ghost use Rattle.tcp_edge.specs.Wires.{counts_in, happened_at};
 
 use crate::links::{EdgeLink, TcpLink, connect};
 use crate::tally::Tally;
+use crate::waits::Awaited;
 use gw_outside::{Dialled, Linked, Looked, Sent, Watched, Wire};
 use log::{Log, warn};
 use std::alloc::Global;
@@ -28,6 +29,7 @@ pub struct EdgeWire<'a, R: Net + time::Clock, L: Log> {
     log: &'a L,
     test: TestWire,
     tally: Tally,
+    awaited: Awaited,
 }
 
 impl<'a, R: Net<Stream = TcpStream> + time::Clock, L: Log> EdgeWire<'a, R, L> {
@@ -40,6 +42,7 @@ impl<'a, R: Net<Stream = TcpStream> + time::Clock, L: Log> EdgeWire<'a, R, L> {
             log,
             test: TestWire::new(alloc),
             tally: Tally::new(),
+            awaited: Awaited::new(),
         }
     }
 
@@ -167,11 +170,13 @@ impl<'a, R: Net<Stream = TcpStream> + time::Clock, L: Log> EdgeWire<'a, R, L> {
     }
 
     /// Looks at a link with a target at a host.
-    fn look_host(&self, link: &mut TcpLink) -> Looked
+    fn look_host(&mut self, link: &mut TcpLink) -> Looked
         ensures fits { LookFits None None link.old.arrived.items link.new.arrived.items result }
         ensures number { link.new.number ≡ link.old.number }
+        ensures test { self.new.test ≡ self.old.test }
+        ensures tally { self.new.tally ≡ self.old.tally }
     {
-        match link.look() {
+        match link.look(&mut self.awaited) {
             Ok(looked) => looked,
             Err(error) => {
                 self.tell_failed(link.address, error);

@@ -102,6 +102,27 @@ fn a_look_waits_a_while_and_no_longer(rt: HostRuntime) -> Result<(), Fail> {
 }
 
 #[test]
+fn looks_at_several_links_wait_for_all_of_them_at_once(rt: HostRuntime) -> Result<(), Fail> {
+    let alloc = rt.alloc();
+    let (_silent, mut wire, mut link) = linked(&rt, &Discard)?;
+    let (listener, address) = listening(&rt)?;
+    let target = at(alloc, b"localhost", address.port())?;
+    let mut other = dialled(&mut wire, alloc, &target).ok_or("none")?;
+    let (mut answering, _) = listener.accept()?;
+    let begun = Instant::now(&rt)?;
+    assert!(rt; wire.look(alloc, &mut link) == Looked::NotYet);
+    for _ in 0..20 {
+        assert!(rt; wire.look(alloc, &mut other) == Looked::NotYet);
+        assert!(rt; answering.write_all(b"one").is_ok());
+        assert!(rt; wire.look(alloc, &mut link) == Looked::NotYet);
+        assert!(rt; wire.look(alloc, &mut other) == Looked::Arrived);
+    }
+    // a wait for each look that found nothing would take 800 milliseconds
+    assert!(rt; begun.elapsed(&rt)? < Duration::from_millis(400));
+    Ok(())
+}
+
+#[test]
 fn a_target_that_closes_is_a_fault(rt: HostRuntime) -> Result<(), Fail> {
     let alloc = rt.alloc();
     let log = Memory::new(alloc);
