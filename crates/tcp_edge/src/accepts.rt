@@ -115,16 +115,13 @@ impl<'a, R: time::Clock, L: Log> SocketAccept<'a, R, L> {
     /// them whose mark is not Plain by the kind of their mark.
     fn tell_end(&self, input: &SocketSource, written: u64, marks: &[Mark], end: End) {
         let lasted = seconds(self.runtime).saturating_sub(input.begun());
+        let [link, silent, gone, full] = counts_of(marks);
         info!(self.log;
             "connection {} ended after {lasted} seconds, {} octets in, {written} out, {} requests \
-             ({} Link, {} Silent, {} Gone, {} Full), {end:?}",
+             ({link} Link, {silent} Silent, {gone} Gone, {full} Full), {end:?}",
             input.number(),
             input.octets(),
             marks.len(),
-            count_of(marks, |mark| matches!(mark, Mark::Link)),
-            count_of(marks, |mark| matches!(mark, Mark::Silent(_))),
-            count_of(marks, |mark| matches!(mark, Mark::Gone)),
-            count_of(marks, |mark| matches!(mark, Mark::Full(_))),
         );
     }
 
@@ -174,9 +171,20 @@ impl<R: time::Clock, L: Log> Accept for SocketAccept<'_, R, L> {
     }
 }
 
-/// How many of the marks are of a kind.
-fn count_of(marks: &[Mark], is_so: fn(&Mark) -> bool) -> usize {
-    marks.iter().filter(|mark| is_so(mark)).count()
+/// How many marks are Link, Silent, Gone and Full.
+fn counts_of(marks: &[Mark]) -> [usize; 4] {
+    let mut counts = [0usize; 4];
+    for mark in marks {
+        let place = match mark {
+            Mark::Plain => continue,
+            Mark::Link => 0,
+            Mark::Silent(_) => 1,
+            Mark::Gone => 2,
+            Mark::Full(_) => 3,
+        };
+        counts[place] = counts[place].saturating_add(1);
+    }
+    counts
 }
 
 /// A connection's two halves, of which each call waits no longer than a client may let it.

@@ -31,48 +31,44 @@ impl Awaited {
     /// Where another is awaited and this one is not, it is awaited from now on, and nothing waits.
     pub(crate) fn may_give(&mut self, stream: &TcpStream, milliseconds: i32) -> bool {
         let socket = stream.as_raw_fd();
-        if !gives(socket) {
-            if self.awaits_others(socket) {
-                return false;
-            }
-            wait(&self.sockets, milliseconds);
-            self.sockets = [NONE; MOST];
-            if !gives(socket) {
-                self.sockets[0] = socket;
-                return false;
-            }
+        if gives(socket) {
+            self.replace(socket, NONE);
+            return true;
         }
-        self.forget(socket);
-        true
-    }
-
-    /// Whether others were awaited and this one was not. It is awaited behind it, where there is a place.
-    fn awaits_others(&mut self, socket: i32) -> bool {
-        let mut others = false;
-        for place in &mut self.sockets {
-            if *place == socket {
-                return false;
-            }
-            if *place == NONE {
-                *place = socket;
-                return others;
-            }
-            others = true;
+        let is_new = self.awaits_others(socket);
+        if self.replace(NONE, socket) && is_new {
+            return false;
         }
+        wait(&self.sockets, milliseconds);
+        self.sockets = [NONE; MOST];
+        if gives(socket) {
+            return true;
+        }
+        self.sockets[0] = socket;
         false
     }
 
-    /// A socket is awaited no longer. The others keep no place empty between them.
-    fn forget(&mut self, socket: i32) {
-        let mut kept = [NONE; MOST];
-        let mut count = 0;
-        for place in self.sockets {
-            if place != socket && place != NONE {
-                kept[count] = place;
-                count += 1;
+    /// Whether others are awaited and this one is not.
+    fn awaits_others(&self, socket: i32) -> bool {
+        let mut others = false;
+        for place in &self.sockets {
+            if *place == socket {
+                return false;
+            }
+            others = others || *place != NONE;
+        }
+        others
+    }
+
+    /// Puts a socket in the first place of another, and answers whether there was one.
+    fn replace(&mut self, old: i32, new: i32) -> bool {
+        for place in &mut self.sockets {
+            if *place == old {
+                *place = new;
+                return true;
             }
         }
-        self.sockets = kept;
+        false
     }
 }
 
@@ -94,9 +90,6 @@ fn gives(socket: i32) -> bool {
 /// Waits until one of these sockets has something to give, at most so many milliseconds. A timeout of a
 /// socket's own is rounded up to the ticks of the system.
 fn wait(sockets: &[i32; MOST], milliseconds: i32) {
-    let mut all = [asked(NONE); MOST];
-    for (place, socket) in sockets.iter().enumerate() {
-        all[place].fd = *socket;
-    }
+    let mut all = sockets.map(asked);
     let _ = poll(&mut all, milliseconds);
 }
