@@ -1,0 +1,3 @@
+mod MarkWorks
+mod CourseWorks
+mod OneCourse

@@ -1,0 +1,116 @@
+-- Octets are units in one way, and where these have been answered a connection goes on.
+use Rattle.std.proofs.Common.{◌≡◌, ◌<◌, ◌+◌, ℕ, List, [], ◌∷◌, ◌++◌, length, Option, Some, None, refl, sym, ap, ◌∙◌, subst, append_assoc, append-nil, length-append, arith, inl, inr}
+use Rattle.std.specs.Prelude.{IfSome}
+use Rattle.std.specs.List.{AllByRecursion}
+use Rattle.std.proofs.lemmas.List.{append_cancel_left, append_cancel_right}
+use Rattle.z_ber.specs.Frames.{IsFrame}
+use Rattle.z_ber.specs.Header.{Begins, Opens}
+use Rattle.z_ber.proofs.LendLaws.{extent-one}
+use Rattle.unit_forms.specs.Reading.Units.{IsReading}
+use Rattle.route_config.specs.declared.route.Route.{Route}
+use Rattle.gateway_rules.specs.Answers.{IsReceived, RestLeadsTo}
+use Rattle.gateway_rules.specs.Course as at
+use Rattle.gateway_rules.specs.Course.{Course, Meeting, Received, after, course, followed, leads_to, met, octets_of, stands_at}
+use Rattle.gateway_rules.specs.State.{Progress}
+use Rattle.gateway_rules.proofs.OneEnding.{extent-filled, frame-filled}
+use Rattle.gateway_rules.proofs.OneReading.{reading-one}
+
+-- ---- units
+
+-- no frame begins another
+frame_begins_no_other : (a b x y : List ℕ) → IsFrame a → IsFrame b → a ++ x ≡ b ++ y → a ≡ b
+frame_begins_no_other a b x y p q e =
+    let one = extent-one 64 p.0.0 q.0.0 a b p.0.1 q.0.1 x y p.0.2 q.0.2 e in
+    append_cancel_right a b y (ap (λ h. a ++ h) (sym one.2) ∙ e)
+
+-- two units that octets begin with are one, and so is what follows them
+record AreOne (u v : Received) (left other : List ℕ) : Type 0 where
+  unit : u ≡ v
+  rest : left ≡ other
+
+first-one : (u v : Received) (left other : List ℕ) → IsReceived u → IsReceived v → u.octets ++ left ≡ v.octets ++ other
+    → AreOne u v left other
+first-one u v left other p q e =
+    let frame = frame_begins_no_other u.octets v.octets left other p.0 q.0 e in
+    let read : u.request ≡ v.request =
+    reading-one v.octets u.request v.request (subst (λ (h : List ℕ). IsReading h u.request) frame p.1) q.1 in
+    record {
+      unit = λ i. record { octets = frame i; request = read i };
+      rest = append_cancel_left v.octets left other (ap (λ h. h ++ left) (sym frame) ∙ e);
+    }
+
+-- the same, in front of other units
+split-one : (u v : Received) (us vs : List Received) (x y : List ℕ) → IsReceived u → IsReceived v
+    → octets_of (u ∷ us) ++ x ≡ octets_of (v ∷ vs) ++ y → AreOne u v (octets_of us ++ x) (octets_of vs ++ y)
+split-one u v us vs x y p q e =
+    first-one u v (octets_of us ++ x) (octets_of vs ++ y) p q
+    (sym (append_assoc u.octets (octets_of us) x) ∙ e ∙ append_assoc v.octets (octets_of vs) y)
+
+-- no unit is empty
+unit-filled : (unit : Received) → IsReceived unit → 0 < length unit.octets
+unit-filled unit p = extent-filled 63 unit.octets p.0.0.0 p.0.0.1 p.0.0.2
+
+more-filled : (unit : Received) (units : List Received) (rest : List ℕ) → IsReceived unit → rest ≡ octets_of (unit ∷ units) ++ rest → ⊥
+more-filled unit units rest p e = omega (
+  arith,
+  ap length e,
+  length-append (octets_of (unit ∷ units)) rest,
+  length-append unit.octets (octets_of units),
+  unit-filled unit p,
+)
+
+-- octets in front of the same rest are units in one way
+pub units-one : (us vs : List Received) (rest : List ℕ) → AllByRecursion IsReceived us → AllByRecursion IsReceived vs
+    → octets_of us ++ rest ≡ octets_of vs ++ rest → us ≡ vs
+units-one [] [] rest p q e = refl
+units-one [] (v ∷ vs) rest p q e = absurd (more-filled v vs rest q.0 e)
+units-one (u ∷ us) [] rest p q e = absurd (more-filled u us rest p.0 (sym e))
+units-one (u ∷ us) (v ∷ vs) rest p q e =
+    let one = split-one u v us vs rest rest p.0 q.0 e in
+    let behind = units-one us vs rest p.1 q.1 one.rest in
+    λ i. one.unit i ∷ behind i
+
+-- ---- a course
+
+-- no rest begins with a unit
+rest-begins_none : (offset : ℕ) (rest : List ℕ) (behind : Course) (frame more : List ℕ)
+    → RestLeadsTo offset rest behind → IsFrame frame → rest ≡ frame ++ more → ⊥
+rest-begins_none offset [] behind frame more r f e = frame-filled frame more f e
+rest-begins_none offset (octet ∷ rest) behind frame more (inl r) f e = r.0.0 (frame, more, f, e)
+rest-begins_none offset (octet ∷ rest) behind frame more (inr r) f e =
+    r.0 ([], (frame, more, f, append-nil (octet ∷ rest) ∙ e))
+
+-- a course that goes on from where another stands
+pub record GoesOnBy (whole first : Course) : Type 0 where
+  pub behind : Course
+  pub is : whole ≡ followed first (λ there. behind)
+
+-- a unit that a course stands behind is due
+one-more : (meeting : Meeting) (offset : ℕ) (more other d : Course) (there : Progress) (P : Progress → Type 0)
+    → (stands_at more ≡ Some there → IfSome (stands_at other) P → GoesOnBy (followed other (λ place. d)) more)
+    → stands_at (leads_to meeting offset more) ≡ Some there → IfSome (stands_at (leads_to meeting offset other)) P
+    → GoesOnBy (followed (leads_to meeting offset other) (λ place. d)) (leads_to meeting offset more)
+one-more at.bad offset more other d there P h stands rested = absurd cc
+one-more (at.beyond asks) offset more other d there P h stands rested = absurd cc
+one-more (at.closing close) offset more other d there P h stands rested = absurd cc
+one-more (at.due asks) offset more other d there P h stands rested =
+    let on = h stands rested in record { behind = on.behind; is = ap (at.answers asks) on.is }
+
+-- where units were taken and the session stands, the course of octets that begin with them goes on from there
+pub goes-on-by : (route : Route) (here there : Progress) (us vs : List Received) (x y : List ℕ) (d : Course)
+    → AllByRecursion IsReceived us → AllByRecursion IsReceived vs → octets_of us ++ x ≡ octets_of vs ++ y
+    → stands_at (course route here us) ≡ Some there
+    → IfSome (stands_at (course route here vs)) (λ place. RestLeadsTo place.at y d)
+    → GoesOnBy (followed (course route here vs) (λ place. d)) (course route here us)
+goes-on-by route here there [] vs x y d p q e stands rested = record { behind = followed (course route here vs) (λ place. d); is = refl }
+goes-on-by route here there (u ∷ us) [] x y d p q e stands rested =
+    absurd (rest-begins_none here.at y d u.octets (octets_of us ++ x) rested p.0.0
+    (sym e ∙ append_assoc u.octets (octets_of us) x))
+goes-on-by route here there (u ∷ us) (v ∷ vs) x y d p q e stands rested =
+    let one = split-one u v us vs x y p.0 q.0 e in
+    let rested_at_u = subst (λ (unit : Received). IfSome (stands_at (course route here (unit ∷ vs))) (λ place. RestLeadsTo place.at y d))
+    (sym one.unit) rested in
+    subst (λ (unit : Received). GoesOnBy (followed (course route here (unit ∷ vs)) (λ place. d)) (course route here (u ∷ us))) one.unit
+    (one-more (met route here u.request) here.at (course route (after here u) us) (course route (after here u) vs) d there
+    (λ place. RestLeadsTo place.at y d) (λ more last. goes-on-by route (after here u) there us vs x y d p.1 q.1 one.rest more last)
+    stands rested_at_u)

@@ -1,0 +1,7 @@
+//! Which works a connection of units begins: those of the requests of its course, in their order, no
+//! other and none twice.
+#![tactic(auto)]
+
+mod laws;
+
+pub use laws::marks_decide;
