@@ -1,3 +1,9 @@
 mod MarkWorks
 mod CourseWorks
 mod OneCourse
+mod SetWorks
+mod BegunLemmas
+mod UnitWorks
+mod RestWorks
+mod TurnWorks
+mod StepWorks

@@ -1,2 +1,3 @@
 -- For contracts alone, a file for each thing that they speak of (this project's own)
+pub mod Begun
 pub mod Laws

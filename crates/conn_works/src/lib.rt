@@ -4,4 +4,4 @@
 
 mod laws;
 
-pub use laws::marks_decide;
+pub use laws::{begins_none, begun_is_one, marks_decide, stays_begun, steps_begin};

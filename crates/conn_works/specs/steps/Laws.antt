@@ -1,15 +1,62 @@
--- For contracts alone: which works a connection begins (this project's own)
-use Rattle.std.specs.Prelude.{◌≡◌, List}
+-- For contracts alone: which works a connection begins (this project's own). What is said is of connections of units: a GET
+-- of HTTP begins a search and then a fetch, which `sru_rules` has, and of it nothing is said here
+use Rattle.std.specs.Prelude.{◌≡◌, ◌≢◌, ℕ, Bool, false, List, [], ◌++◌}
+use Rattle.z_types.specs.declared.sitting.Sitting as sitting
+use Rattle.z_types.specs.declared.work.Work.{Work}
 use Rattle.z_types.specs.declared.world.World as world
 use Rattle.route_config.specs.declared.route.Route.{Route}
+use Rattle.gateway_rules.specs.Answers.{kind_of, letter}
 use Rattle.gateway_rules.specs.Course.{Course}
+use Rattle.gateway_rules.specs.Fair.{IsFair}
 use Rattle.gateway_rules.specs.Marks.{Cause}
 use Rattle.gateway_rules.specs.Runs.{marks_of}
 use Rattle.gateway_rules.specs.State.{ClientState}
+use Rattle.front_session.specs.Sessions.{new_session}
+use Rattle.front_conn.specs.declared.stepped.Stepped.{Stepped}
+use Rattle.front_conn.specs.steps.Answering.{Outside}
+use Rattle.front_conn.specs.steps.Feeding.{with_end, with_piece, without_out}
+use Rattle.front_conn.specs.steps.States.{ConnectionState, IsStateOf, nothing_yet}
+use Rattle.front_conn.specs.steps.Steps.{IsStepped, KeepsState, UnlessMemory}
 use Rattle.conn_works.specs.Works.{works_of}
+use Rattle.conn_works.specs.steps.Begun.{HasBegun, begun_by}
 
 -- the works of a course follow from the marks of its causes
 abbrev pub MarksDecide : {W : Type 0} → world.Ghosts W → Type 0
 MarksDecide w =
     (route : Route) (client : ClientState) (whole : Course) (causes others : List Cause) → marks_of causes ≡ marks_of others
     → works_of w route client whole causes ≡ works_of w route client whole others
+
+-- no connection has begun two lists of works
+abbrev pub BegunIsOne : {W : Type 0} → world.Ghosts W → (S : Type 0) → Type 0
+BegunIsOne w S =
+    (route : Route) (fed : List ℕ) (state : ConnectionState S) (begun other : List Work)
+    → HasBegun w route fed state begun → HasBegun w route fed state other → begun ≡ other
+
+-- a new connection has begun none
+abbrev pub BeginsNone : {W : Type 0} → world.Ghosts W → (S : Type 0) → Type 0
+BeginsNone w S = (route : Route) → HasBegun w route [] (nothing_yet {S = S} new_session) []
+
+module _ {W S : Type 0} (w : world.Ghosts W) (t : sitting.Ghosts S W) where
+  -- behind a step that did not run out of memory, what was begun before it was begun, and then what it begins
+  abbrev pub StepsBegin : Type 0
+  StepsBegin =
+      (exact : Bool) (route : Route) (now : ℕ) (fed written : List ℕ) (old new : ConnectionState S) (answer : Stepped)
+      (before behind : Outside S) (begun : List Work)
+      → IsFair w route → kind_of fed ≢ letter → IsStateOf w route fed written old
+      → IsStepped w t exact route now old new answer before behind → UnlessMemory answer (KeepsState w route old new)
+      → HasBegun w route fed old begun
+      → UnlessMemory answer (HasBegun w route fed new (begun ++ begun_by old.in_work new.in_work))
+
+-- ---- between steps
+
+-- a piece that comes, the end of the input and what is written begin nothing
+pub record StaysBegun {W S : Type 0} (w : world.Ghosts W) (route : Route) (fed : List ℕ) (state : ConnectionState S)
+    (begun : List Work) : Type 0 where
+  pub fed_on : (piece : List ℕ) → state.has_ended ≡ false → HasBegun w route (fed ++ piece) (with_piece state piece) begun
+  pub ended : HasBegun w route fed (with_end state) begun
+  pub written : HasBegun w route fed (without_out state) begun
+
+abbrev pub StaysSoBegun : {W : Type 0} → world.Ghosts W → (S : Type 0) → Type 0
+StaysSoBegun w S =
+    (route : Route) (fed : List ℕ) (state : ConnectionState S) (begun : List Work)
+    → HasBegun w route fed state begun → StaysBegun w route fed state begun
