@@ -7,3 +7,4 @@ mod UnitWorks
 mod RestWorks
 mod TurnWorks
 mod StepWorks
+mod ThroughWorks

@@ -1,3 +1,4 @@
 -- For contracts alone, a file for each thing that they speak of (this project's own)
 pub mod Begun
+pub mod Through
 pub mod Laws

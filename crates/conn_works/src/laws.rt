@@ -1,8 +1,9 @@
 //! Which works a connection begins. These functions do nothing; what they ensure is the law. HTTP
 //! connections are left out: a GET begins a search and then a fetch, under one mark.
 
-ghost use Rattle.conn_works.specs.steps.Laws.{BegunIsOne, BeginsNone, MarksDecide, StaysSoBegun, StepsBegin};
+ghost use Rattle.conn_works.specs.steps.Laws.{BegunIsOne, BeginsNone, GoesBegin, MarksDecide, RunsBegin, StaysSoBegun, StepsBegin};
 
+use front_conn::{stands_at_start, stands_when_ended, stands_when_fed, stands_when_written};
 use z_types::{Sitting, World};
 
 /// The works of a course follow from the marks of its causes.
@@ -31,3 +32,22 @@ pub fn steps_begin<W: World, S: Sitting<W>>()
 pub fn stays_begun<W: World, S: Sitting<W>>()
     ensures { StaysSoBegun W.World S }
 {}
+
+/// Whatever a connection of units goes through on a fair route: what was begun behind it is what was
+/// begun before it, and then what its steps begin.
+pub fn goes_begin<W: World, S: Sitting<W>>()
+    ensures { GoesBegin W.World S.Sitting }
+{
+    stands_when_fed::<W, S>();
+    stands_when_ended::<W, S>();
+    stands_when_written::<W, S>();
+}
+
+/// Whatever a new connection of units goes through on a fair route, its steps have begun the works that
+/// its units ask, in their order, no other and none twice.
+pub fn runs_begin<W: World, S: Sitting<W>>()
+    ensures { RunsBegin W.World S.Sitting }
+{
+    stands_at_start::<W, S>();
+    goes_begin::<W, S>();
+}

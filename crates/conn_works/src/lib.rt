@@ -4,4 +4,6 @@
 
 mod laws;
 
-pub use laws::{begins_none, begun_is_one, marks_decide, stays_begun, steps_begin};
+pub use laws::{
+    begins_none, begun_is_one, goes_begin, marks_decide, runs_begin, stays_begun, steps_begin,
+};

@@ -19,6 +19,7 @@ use Rattle.front_conn.specs.steps.States.{ConnectionState, IsStateOf, nothing_ye
 use Rattle.front_conn.specs.steps.Steps.{IsStepped, KeepsState, UnlessMemory}
 use Rattle.conn_works.specs.Works.{works_of}
 use Rattle.conn_works.specs.steps.Begun.{HasBegun, begun_by}
+use Rattle.conn_works.specs.steps.Through.{GoesThrough, Point, at_first, begun_through, last_of}
 
 -- the works of a course follow from the marks of its causes
 abbrev pub MarksDecide : {W : Type 0} → world.Ghosts W → Type 0
@@ -60,3 +61,21 @@ abbrev pub StaysSoBegun : {W : Type 0} → world.Ghosts W → (S : Type 0) → T
 StaysSoBegun w S =
     (route : Route) (fed : List ℕ) (state : ConnectionState S) (begun : List Work)
     → HasBegun w route fed state begun → StaysBegun w route fed state begun
+
+-- ---- all that a connection goes through
+
+module _ {W S : Type 0} (w : world.Ghosts W) (t : sitting.Ghosts S W) where
+  -- from wherever it stands, what was begun there, and then what its steps begin
+  abbrev pub GoesBegin : Type 0
+  GoesBegin =
+      (exact : Bool) (route : Route) (start : Point S) (points : List (Point S)) (begun : List Work)
+      → IsFair w route → kind_of (last_of start points).fed ≢ letter → IsStateOf w route start.fed start.written start.state
+      → GoesThrough w t exact route start points → HasBegun w route start.fed start.state begun
+      → HasBegun w route (last_of start points).fed (last_of start points).state (begun ++ begun_through start points)
+
+  -- so from its start: the works that its steps begin, and no others, are those of its units
+  abbrev pub RunsBegin : Type 0
+  RunsBegin =
+      (exact : Bool) (route : Route) (points : List (Point S))
+      → IsFair w route → kind_of (last_of at_first points).fed ≢ letter → GoesThrough w t exact route at_first points
+      → HasBegun w route (last_of at_first points).fed (last_of at_first points).state (begun_through at_first points)
