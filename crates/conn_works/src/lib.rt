@@ -3,6 +3,8 @@
 #![tactic(auto)]
 
 mod laws;
+#[cfg(test)]
+mod tests;
 
 pub use laws::{
     begins_none, begun_is_one, goes_begin, marks_decide, runs_begin, stays_begun, steps_begin,

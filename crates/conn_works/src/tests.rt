@@ -1,0 +1,20 @@
+//! The laws of what connections begin, over targets in memory.
+
+use crate::{
+    begins_none, begun_is_one, goes_begin, marks_decide, runs_begin, stays_begun, steps_begin,
+};
+use gw_memory::FakeSession;
+use std::test::Fail;
+use test_target::TestWorld;
+
+#[test]
+fn the_laws_of_what_is_begun_hold_over_targets_in_memory(_: HostRuntime) -> Result<(), Fail> {
+    marks_decide::<TestWorld>();
+    begun_is_one::<TestWorld, FakeSession>();
+    begins_none::<TestWorld, FakeSession>();
+    steps_begin::<TestWorld, FakeSession>();
+    stays_begun::<TestWorld, FakeSession>();
+    goes_begin::<TestWorld, FakeSession>();
+    runs_begin::<TestWorld, FakeSession>();
+    Ok(())
+}
