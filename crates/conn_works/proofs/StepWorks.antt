@@ -18,7 +18,7 @@ use Rattle.front_conn.specs.steps.Steps.{EndsAtRest, EndsByRest, GoesAhead, IsSt
 use Rattle.front_conn.proofs.EndLemmas.{none-at_0}
 use Rattle.front_conn.proofs.StateLemmas.{rests-of}
 use Rattle.conn_works.specs.steps.Begun.{HasBegun, begun_by}
-use Rattle.conn_works.specs.steps.Laws.{StepsBegin}
+use Rattle.conn_works.specs.steps.Laws.{LacksAndBeginsNone, StepsBegin}
 use Rattle.conn_works.proofs.BegunLemmas.{begins-none, going-of, nothing-more, of-over}
 use Rattle.conn_works.proofs.RestWorks.{rest-begins}
 use Rattle.conn_works.proofs.TurnWorks.{turn-begins}
@@ -96,3 +96,18 @@ step-begins w t exact route now fed written old new NotYet before behind works f
 step-begins w t exact route now fed written old new Went before behind works fair other state s keeps h =
     had-begins w t exact route now fed written old new before behind works other Went (λ e. absurd cc) fair state s keeps h
 step-begins w t exact route now fed written old new Memory before behind works fair other state s keeps h = tt
+
+-- ---- a step without memory
+
+lacking-from : {W S : Type 0} (w : world.Ghosts W) (t : sitting.Ghosts S W) (exact : _) (route : Route) (now : ℕ)
+    (old new : ConnectionState S) (before behind : Outside S) (end : Option End) (in_work : Option (PackageView S))
+    → old.in_work ≡ in_work → StepsFrom w t exact route now end in_work old new Memory before behind
+    → begun_by old.in_work new.in_work ≡ []
+lacking-from w t exact route now old new before behind (Some end) in_work work s = let wrong = s.0 in absurd cc
+lacking-from {S = S} w t exact route now old new before behind None None work s =
+    ap (λ i. begun_by i new.in_work) work ∙ ap (λ (i : Option (PackageView S)). begun_by None i) s.0.unbegun.in_work
+lacking-from w t exact route now old new before behind None (Some view) work s = ap (λ i. begun_by i new.in_work) work
+
+pub lacking-begins : {W S : Type 0} (w : world.Ghosts W) (t : sitting.Ghosts S W) → LacksAndBeginsNone w t
+lacking-begins w t exact route now old new before behind s =
+    lacking-from w t exact route now old new before behind old.end old.in_work refl s

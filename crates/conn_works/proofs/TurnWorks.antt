@@ -30,9 +30,10 @@ use Rattle.front_conn.specs.steps.Answering.{AnsweringState, EndsAt, EndsWork, I
 use Rattle.front_conn.specs.steps.States.{ConnectionState, IsStateOf, Works, WorksAt, WorksOnGet}
 use Rattle.front_conn.specs.steps.Steps.{HasTurned, IsInputKept, answering_of}
 use Rattle.front_conn.proofs.StateLemmas.{stand_of, works-at}
-use Rattle.conn_works.specs.Works.{work_of, works_of}
+use Rattle.conn_works.specs.Works.{work_in, work_of, works_of}
 use Rattle.conn_works.specs.steps.Begun.{AreWorksBefore, HasBegun, begun_by}
-use Rattle.conn_works.proofs.BegunLemmas.{begun-of, nothing-more, of-going}
+use Rattle.conn_works.specs.steps.Laws.{IsLastOf, LastIsInWork}
+use Rattle.conn_works.proofs.BegunLemmas.{begun-of, going-of, nothing-more, of-going}
 use Rattle.conn_works.proofs.UnitWorks.{works-behind}
 
 -- ---- a request that is answered
@@ -80,6 +81,17 @@ module _ {W S : Type 0} (w : world.Ghosts W) (route : Route) (fed written : List
           works = works-with cause;
         };
       })
+
+  -- it is the last
+  pub last-in-work : IsLastOf works view.work
+  last-in-work =
+      let own = works_of w route new_client (course route at_the_start k.units) k.answered.causes in
+      record {
+        earlier = own;
+        is = begun-of w route old.left fed old.marks works all_units k.answered.causes h all-received k.spelled k.answered.of_marks
+            ∙ ap (works_of w route new_client (course route at_the_start all_units)) (sym (append-nil k.answered.causes))
+            ∙ works-all [] ∙ ap (λ due. own ++ work_in due) k.asks;
+      }
 
 -- ---- a turn
 
@@ -130,3 +142,17 @@ turn-begins w t exact route now fed written old new answer before behind works v
     nothing-more w route fed new works (begun_by old.in_work new.in_work) (ap (λ i. begun_by i new.in_work) is)
     (works-begins w route fed written old new works view turned.turns.next h turned.input turned.turns.turned answer had other
     (works-at w route fed written old view goes is state) turned.turns.works)
+
+-- ---- the last
+
+last-at : {W S : Type 0} (w : world.Ghosts W) (route : Route) (fed written : List ℕ) (state : ConnectionState S) (works : List Work)
+    (view : PackageView S) (stage : SruStage) → kind_of fed ≢ kind.letter → AreWorksBefore w route state.left fed state.marks works
+    → WorksAt w route fed written state stage view → IsLastOf works view.work
+last-at w route fed written state works view Idle other h k = last-in-work w route fed written state state works view k h
+last-at w route fed written state works view (Searching retrieval) other h k = absurd (other k.kind)
+last-at w route fed written state works view (Fetching retrieval hits) other h k = absurd (other k.kind)
+
+pub last-is-in-work : {W : Type 0} (w : world.Ghosts W) (S : Type 0) → LastIsInWork w S
+last-is-in-work w S route fed written state view works other stands goes is h =
+    last-at w route fed written state works view state.stage other (going-of w route fed state works goes h)
+    (works-at w route fed written state view goes is stands)

@@ -1,7 +1,7 @@
 //! Which works a connection begins. These functions do nothing; what they ensure is the law. HTTP
 //! connections are left out: a GET begins a search and then a fetch, under one mark.
 
-ghost use Rattle.conn_works.specs.steps.Laws.{BegunIsOne, BeginsNone, GoesBegin, MarksDecide, RunsBegin, StaysSoBegun, StepsBegin};
+ghost use Rattle.conn_works.specs.steps.Laws.{BegunIsOne, BeginsNone, GoesBegin, LacksAndBeginsNone, LastIsInWork, MarksDecide, RunsBegin, StaysSoBegun, StepsBegin};
 
 use front_conn::{stands_at_start, stands_when_ended, stands_when_fed, stands_when_written};
 use z_types::{Sitting, World};
@@ -26,6 +26,16 @@ pub fn begins_none<W: World, S: Sitting<W>>()
 /// was begun before it, and then what the step begins.
 pub fn steps_begin<W: World, S: Sitting<W>>()
     ensures { StepsBegin W.World S.Sitting }
+{}
+
+/// A step without memory begins nothing.
+pub fn lacking_begins_none<W: World, S: Sitting<W>>()
+    ensures { LacksAndBeginsNone W.World S.Sitting }
+{}
+
+/// Where a request of a connection of units is in work, its work is the last that was begun.
+pub fn last_is_in_work<W: World, S: Sitting<W>>()
+    ensures { LastIsInWork W.World S }
 {}
 
 /// What comes, the end of the input and what is written begin nothing.

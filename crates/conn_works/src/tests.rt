@@ -1,7 +1,8 @@
 //! The laws of what connections begin, over targets in memory.
 
 use crate::{
-    begins_none, begun_is_one, goes_begin, marks_decide, runs_begin, stays_begun, steps_begin,
+    begins_none, begun_is_one, goes_begin, lacking_begins_none, last_is_in_work, marks_decide,
+    runs_begin, stays_begun, steps_begin,
 };
 use gw_memory::FakeSession;
 use std::test::Fail;
@@ -13,6 +14,8 @@ fn the_laws_of_what_is_begun_hold_over_targets_in_memory(_: HostRuntime) -> Resu
     begun_is_one::<TestWorld, FakeSession>();
     begins_none::<TestWorld, FakeSession>();
     steps_begin::<TestWorld, FakeSession>();
+    lacking_begins_none::<TestWorld, FakeSession>();
+    last_is_in_work::<TestWorld, FakeSession>();
     stays_begun::<TestWorld, FakeSession>();
     goes_begin::<TestWorld, FakeSession>();
     runs_begin::<TestWorld, FakeSession>();

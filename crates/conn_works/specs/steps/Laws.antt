@@ -1,6 +1,6 @@
 -- For contracts alone: which works a connection begins (this project's own). What is said is of connections of units: a GET
 -- of HTTP begins a search and then a fetch, which `sru_rules` has, and of it nothing is said here
-use Rattle.std.specs.Prelude.{◌≡◌, ◌≢◌, ℕ, Bool, false, List, [], ◌++◌}
+use Rattle.std.specs.Prelude.{◌≡◌, ◌≢◌, ℕ, Bool, false, List, [], ◌∷◌, ◌++◌, None, Some}
 use Rattle.z_types.specs.declared.sitting.Sitting as sitting
 use Rattle.z_types.specs.declared.work.Work.{Work}
 use Rattle.z_types.specs.declared.world.World as world
@@ -12,7 +12,9 @@ use Rattle.gateway_rules.specs.Marks.{Cause}
 use Rattle.gateway_rules.specs.Runs.{marks_of}
 use Rattle.gateway_rules.specs.State.{ClientState}
 use Rattle.front_session.specs.Sessions.{new_session}
+use Rattle.package.specs.steps.Packages.{PackageView}
 use Rattle.front_conn.specs.declared.stepped.Stepped.{Stepped}
+use Rattle.front_conn.specs.declared.stepped.Stepped.TheVariants.{Memory}
 use Rattle.front_conn.specs.steps.Answering.{Outside}
 use Rattle.front_conn.specs.steps.Feeding.{with_end, with_piece, without_out}
 use Rattle.front_conn.specs.steps.States.{ConnectionState, IsStateOf, nothing_yet}
@@ -47,6 +49,24 @@ module _ {W S : Type 0} (w : world.Ghosts W) (t : sitting.Ghosts S W) where
       → IsStepped w t exact route now old new answer before behind → UnlessMemory answer (KeepsState w route old new)
       → HasBegun w route fed old begun
       → UnlessMemory answer (HasBegun w route fed new (begun ++ begun_by old.in_work new.in_work))
+
+  -- a step that does begins nothing
+  abbrev pub LacksAndBeginsNone : Type 0
+  LacksAndBeginsNone =
+      (exact : Bool) (route : Route) (now : ℕ) (old new : ConnectionState S) (before behind : Outside S)
+      → IsStepped w t exact route now old new Memory before behind → begun_by old.in_work new.in_work ≡ []
+
+-- the last of works
+pub record IsLastOf (begun : List Work) (work : Work) : Type 0 where
+  pub earlier : List Work
+  pub is : begun ≡ earlier ++ work ∷ []
+
+-- where a request is in work, its work is the last that was begun
+abbrev pub LastIsInWork : {W : Type 0} → world.Ghosts W → (S : Type 0) → Type 0
+LastIsInWork w S =
+    (route : Route) (fed written : List ℕ) (state : ConnectionState S) (view : PackageView S) (begun : List Work)
+    → kind_of fed ≢ letter → IsStateOf w route fed written state → state.end ≡ None → state.in_work ≡ Some view
+    → HasBegun w route fed state begun → IsLastOf begun view.work
 
 -- ---- between steps
 
