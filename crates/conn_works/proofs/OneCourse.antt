@@ -1,10 +1,9 @@
 -- Octets are units in one way, and where these have been answered a connection goes on.
-use Rattle.std.proofs.Common.{◌≡◌, ◌<◌, ◌+◌, ℕ, List, [], ◌∷◌, ◌++◌, length, Option, Some, None, refl, sym, ap, ◌∙◌, subst, append_assoc, append-nil, length-append, arith, inl, inr}
+use Rattle.std.proofs.Common.{◌≡◌, ◌<◌, ℕ, List, [], ◌∷◌, ◌++◌, length, Some, refl, sym, ap, ◌∙◌, subst, append_assoc, append-nil, length-append, arith, inl, inr}
 use Rattle.std.specs.Prelude.{IfSome}
 use Rattle.std.specs.List.{AllByRecursion}
 use Rattle.std.proofs.lemmas.List.{append_cancel_left, append_cancel_right}
 use Rattle.z_ber.specs.Frames.{IsFrame}
-use Rattle.z_ber.specs.Header.{Begins, Opens}
 use Rattle.z_ber.proofs.LendLaws.{extent-one}
 use Rattle.unit_forms.specs.Reading.Units.{IsReading}
 use Rattle.route_config.specs.declared.route.Route.{Route}

@@ -1,5 +1,5 @@
 -- A connection that ends without a unit begins nothing by that.
-use Rattle.std.proofs.Common.{◌≡◌, ◌≢◌, ℕ, List, [], ◌∷◌, ◌++◌, length, Option, Some, None, refl, sym, ap, ◌∙◌, subst, append_assoc, append-nil}
+use Rattle.std.proofs.Common.{◌≡◌, ◌≢◌, ℕ, List, [], ◌++◌, Some, None, refl, sym, ap, ◌∙◌, subst, append_assoc, append-nil}
 use Rattle.z_types.specs.declared.marks.End.{End}
 use Rattle.z_types.specs.declared.marks.End.TheVariants.{Finished, Malformed}
 use Rattle.z_types.specs.declared.marks.Mark.{Mark}
@@ -17,9 +17,9 @@ use Rattle.gateway_rules.specs.Session as session
 use Rattle.gateway_rules.specs.Session.{IsServed, Run, Stop, run}
 use Rattle.gateway_rules.specs.State.{ClientState, Progress, at_the_start, new_client}
 use Rattle.gateway_rules.proofs.Composition.{run-followed}
-use Rattle.gateway_rules.proofs.Joined.{goes_on, joined}
+use Rattle.gateway_rules.proofs.Joined.{goes_on}
 use Rattle.sru_rules.specs.Answers.{Answers, AnswersAs}
-use Rattle.front_conn.specs.steps.States.{ConnectionState, MayCome, Rests}
+use Rattle.front_conn.specs.steps.States.{ConnectionState, Rests}
 use Rattle.front_conn.proofs.StateLemmas.{stand_of}
 use Rattle.conn_works.specs.Works.{works_of}
 use Rattle.conn_works.specs.steps.Begun.{AreWorksBefore, AreWorksIn}

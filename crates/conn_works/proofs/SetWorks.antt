@@ -1,5 +1,5 @@
 -- What a request is due by the hits that are kept is what it is due by those that the targets mean.
-use Rattle.std.proofs.Common.{◌≡◌, ℕ, Bool, true, false, List, [], ◌∷◌, Option, Some, None, refl, sym, ap, map}
+use Rattle.std.proofs.Common.{◌≡◌, ℕ, Bool, true, false, List, [], ◌∷◌, Option, Some, refl, sym, ap, map}
 use Rattle.std.specs.Prelude.{unwrap_or, option_map, find, cond}
 use Rattle.std.specs.List.{AllByRecursion}
 use Rattle.z_types.specs.Same.{is_same}

@@ -1,5 +1,5 @@
 -- What a step begins, by what it does.
-use Rattle.std.proofs.Common.{◌≡◌, ◌≢◌, ◌⊎◌, ℕ, List, [], ◌∷◌, ◌++◌, Option, Some, None, refl, sym, ap, ◌∙◌, subst, inl, inr}
+use Rattle.std.proofs.Common.{◌≡◌, ◌≢◌, ◌⊎◌, ℕ, List, [], ◌++◌, Option, Some, None, refl, sym, ap, ◌∙◌, subst, inl, inr}
 use Rattle.z_types.specs.declared.marks.End.{End}
 use Rattle.z_types.specs.declared.sitting.Sitting as sitting
 use Rattle.z_types.specs.declared.work.Work.{Work}
@@ -13,8 +13,8 @@ use Rattle.package.specs.steps.Packages.{PackageView}
 use Rattle.front_conn.specs.declared.stepped.Stepped.{Stepped}
 use Rattle.front_conn.specs.declared.stepped.Stepped.TheVariants.{Idle, NotYet, Went, Memory}
 use Rattle.front_conn.specs.steps.Answering.{Outside}
-use Rattle.front_conn.specs.steps.States.{ConnectionState, HasEnded, IsStateOf, Rests, StandsOrEnded}
-use Rattle.front_conn.specs.steps.Steps.{EndsAtRest, EndsByRest, GoesAhead, IsStepped, KeepsState, StepsFrom, TakesHead, TakesUnit, UnlessMemory}
+use Rattle.front_conn.specs.steps.States.{ConnectionState, IsStateOf, Rests, StandsOrEnded}
+use Rattle.front_conn.specs.steps.Steps.{EndsAtRest, EndsByRest, GoesAhead, IsStepped, KeepsState, StepsFrom, TakesHead, TakesUnit}
 use Rattle.front_conn.proofs.EndLemmas.{none-at_0}
 use Rattle.front_conn.proofs.StateLemmas.{rests-of}
 use Rattle.conn_works.specs.steps.Begun.{HasBegun, begun_by}

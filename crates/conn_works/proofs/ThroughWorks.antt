@@ -1,5 +1,5 @@
 -- All that a connection goes through begins what its steps begin.
-use Rattle.std.proofs.Common.{◌≡◌, ◌≢◌, ◌⊎◌, ℕ, Bool, List, [], ◌∷◌, ◌++◌, Option, Some, None, refl, sym, ap, ◌∙◌, subst, append_assoc, append-nil, inl, inr}
+use Rattle.std.proofs.Common.{◌≡◌, ◌≢◌, ℕ, Bool, List, [], ◌∷◌, ◌++◌, Option, Some, None, refl, sym, ap, ◌∙◌, subst, append_assoc, append-nil, inl, inr}
 use Rattle.z_types.specs.declared.marks.End.{End}
 use Rattle.z_types.specs.declared.sitting.Sitting as sitting
 use Rattle.z_types.specs.declared.work.Work.{Work}
@@ -13,7 +13,7 @@ use Rattle.front_conn.specs.steps.Feeding.{StandsWhenEnded, StandsWhenFed, Stand
 use Rattle.front_conn.specs.steps.States.{ConnectionState, IsStateOf}
 use Rattle.conn_works.specs.steps.Begun.{HasBegun, begun_by}
 use Rattle.conn_works.specs.steps.Laws.{GoesBegin}
-use Rattle.conn_works.specs.steps.Through.{EndsInput, GoesOn, GoesThrough, IsFed, IsWritten, Point, TakesStep, begun_through, last_of}
+use Rattle.conn_works.specs.steps.Through.{GoesOn, GoesThrough, Point, TakesStep, begun_through, last_of}
 use Rattle.conn_works.proofs.BegunLemmas.{begins-none, nothing-more, stays-begun}
 use Rattle.conn_works.proofs.StepWorks.{had-begins}
 

@@ -1,9 +1,8 @@
 -- The turns of a request in work, and its answer, begin nothing more.
-use Rattle.std.proofs.Common.{◌≡◌, ◌≢◌, ℕ, List, [], ◌∷◌, ◌++◌, Option, Some, None, Result, Ok, Err, refl, sym, ap, ◌∙◌, subst, append-nil}
+use Rattle.std.proofs.Common.{◌≡◌, ◌≢◌, ℕ, List, [], ◌∷◌, ◌++◌, Option, Some, None, Result, Ok, Err, sym, ap, ◌∙◌, append-nil}
 use Rattle.std.proofs.lemmas.List.{map-append}
 use Rattle.std.specs.List.{AllByRecursion}
 use Rattle.z_types.specs.declared.marks.End.{End}
-use Rattle.z_types.specs.declared.marks.Mark.{Mark}
 use Rattle.z_types.specs.declared.memory.Memory.{Memory as NoMemory}
 use Rattle.z_types.specs.declared.sitting.Sitting as sitting
 use Rattle.z_types.specs.declared.work.Work.{Work}
@@ -12,12 +11,11 @@ use Rattle.route_config.specs.declared.route.Route.{Route}
 use Rattle.gateway_rules.specs.Answers as kind
 use Rattle.gateway_rules.specs.Answers.{IsReceived, kind_of}
 use Rattle.gateway_rules.specs.Course as at
-use Rattle.gateway_rules.specs.Course.{Course, Meeting, Received, after, course, leads_to, met, octets_of}
+use Rattle.gateway_rules.specs.Course.{Course, Meeting, Received, after, course, leads_to, octets_of}
 use Rattle.gateway_rules.specs.Marks.{Cause}
-use Rattle.gateway_rules.specs.Runs.{marks_of}
 use Rattle.gateway_rules.specs.State.{at_the_start, new_client}
 use Rattle.gateway_rules.proofs.Runs.{all-append}
-use Rattle.front_session.specs.Sessions.{SessionState, client_of}
+use Rattle.front_session.specs.Sessions.{client_of}
 use Rattle.front_sru.specs.declared.state.SruStage.{SruStage}
 use Rattle.front_sru.specs.declared.state.SruStage.TheVariants.{Idle, Searching, Fetching}
 use Rattle.leg.specs.declared.answers.Turned.{Turned}
@@ -27,7 +25,7 @@ use Rattle.package.specs.steps.Packages.{PackageView}
 use Rattle.front_conn.specs.declared.stepped.Stepped.{Stepped}
 use Rattle.front_conn.specs.declared.stepped.Stepped.TheVariants.{Memory}
 use Rattle.front_conn.specs.steps.Answering.{AnsweringState, EndsAt, EndsWork, IsEndAfter, Outside, WorksOn}
-use Rattle.front_conn.specs.steps.States.{ConnectionState, IsStateOf, Works, WorksAt, WorksOnGet}
+use Rattle.front_conn.specs.steps.States.{ConnectionState, IsStateOf, Works, WorksAt}
 use Rattle.front_conn.specs.steps.Steps.{HasTurned, IsInputKept, answering_of}
 use Rattle.front_conn.proofs.StateLemmas.{stand_of, works-at}
 use Rattle.conn_works.specs.Works.{work_in, work_of, works_of}

@@ -9,16 +9,15 @@ use Rattle.z_types.specs.declared.marks.End.TheVariants.{Closed, Malformed, Limi
 use Rattle.z_types.specs.declared.marks.Mark.{Mark}
 use Rattle.z_types.specs.declared.marks.Mark.TheVariants.{Plain}
 use Rattle.z_types.specs.declared.requests.Request.{Request}
-use Rattle.z_types.specs.declared.requests.Request.TheVariants as request
 use Rattle.z_types.specs.declared.work.Work.{Work}
 use Rattle.z_types.specs.declared.world.World as world
 use Rattle.route_config.specs.declared.route.Route.{Route}
 use Rattle.gateway_rules.specs.Answers as kind
 use Rattle.gateway_rules.specs.Answers.{IsConnection, IsCourseOf, IsReceived, Kind, kind_of}
 use Rattle.gateway_rules.specs.Asking as asking
-use Rattle.gateway_rules.specs.Asking.{Asking, asked, asked_with}
+use Rattle.gateway_rules.specs.Asking.{Asking, asked_with}
 use Rattle.gateway_rules.specs.Course as at
-use Rattle.gateway_rules.specs.Course.{Course, Meeting, Received, after, course, followed, leads_to, met, octets_of, stands_at}
+use Rattle.gateway_rules.specs.Course.{Course, Meeting, Received, after, course, leads_to, met, octets_of, stands_at}
 use Rattle.gateway_rules.specs.Marks.{Cause, plain}
 use Rattle.gateway_rules.specs.Runs.{marks_of}
 use Rattle.gateway_rules.specs.Session as session
@@ -37,8 +36,8 @@ use Rattle.front_conn.specs.steps.States.{ConnectionState, HasAnswered, Rests}
 use Rattle.front_conn.specs.steps.Steps.{TakesUnit, answering_of}
 use Rattle.front_conn.proofs.StateLemmas.{kind-more, met-at, spelled-snoc, stand_of}
 use Rattle.conn_works.specs.Works.{work_in, work_of, works_of}
-use Rattle.conn_works.specs.steps.Begun.{AreWorksBefore, AreWorksIn, AreWorksOf, HasBegun, begun_by}
-use Rattle.conn_works.proofs.BegunLemmas.{begun-of, filled-kind, nothing-more, of-going, of-over}
+use Rattle.conn_works.specs.steps.Begun.{AreWorksBefore, AreWorksOf, HasBegun, begun_by}
+use Rattle.conn_works.proofs.BegunLemmas.{begun-of, filled-kind, of-going, of-over}
 use Rattle.conn_works.proofs.CourseWorks.{over-followed, standing-stands, stands-followed, works-append}
 use Rattle.conn_works.proofs.SetWorks.{asked-meant}
 
