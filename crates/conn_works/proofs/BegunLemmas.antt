@@ -94,6 +94,12 @@ module _ {W S : Type 0} (w : world.Ghosts W) (route : Route) (fed : List ℕ) (s
       → HasBegun w route fed state begun
   of-over begun end over h = subst (λ (e : Option End). HasBegunBy w route fed state begun e) (sym over) h
 
+  pub ended-whole : (end : End) (begun : List Work) → state.end ≡ Some end → HasBegun w route fed state begun
+      → AreWorksIn w route fed state.marks begun
+  ended-whole end begun over h =
+      let all = subst (λ (e : Option End). HasBegunBy w route fed state begun e) over h in
+      subst (λ (o : List ℕ). AreWorksIn w route o state.marks begun) (append-nil fed) (all [] (none-comes state.has_ended))
+
   -- a step that begins nothing
   pub nothing-more : (begun works : List Work) → works ≡ [] → HasBegun w route fed state begun → HasBegun w route fed state (begun ++ works)
   nothing-more begun works none h =

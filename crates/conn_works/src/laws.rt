@@ -1,7 +1,7 @@
 //! Which works a connection begins. These functions do nothing; what they ensure is the law. HTTP
 //! connections are left out: a GET begins a search and then a fetch, under one mark.
 
-ghost use Rattle.conn_works.specs.steps.Laws.{BegunIsOne, BeginsNone, GoesBegin, LacksAndBeginsNone, LastIsInWork, MarksDecide, RunsBegin, StaysSoBegun, StepsBegin};
+ghost use Rattle.conn_works.specs.steps.Laws.{BegunIsOne, BeginsNone, EndedIsWhole, GoesBegin, LacksAndBeginsNone, LastIsInWork, MarksDecide, RunsBegin, StaysSoBegun, StepsBegin};
 
 use front_conn::{stands_at_start, stands_when_ended, stands_when_fed, stands_when_written};
 use z_types::{Sitting, World};
@@ -36,6 +36,11 @@ pub fn lacking_begins_none<W: World, S: Sitting<W>>()
 /// Where a request of a connection of units is in work, its work is the last that was begun.
 pub fn last_is_in_work<W: World, S: Sitting<W>>()
     ensures { LastIsInWork W.World S }
+{}
+
+/// Where a connection of units has ended, it has begun the works of the course of all its octets.
+pub fn ended_is_whole<W: World, S: Sitting<W>>()
+    ensures { EndedIsWhole W.World S }
 {}
 
 /// What comes, the end of the input and what is written begin nothing.

@@ -1,6 +1,7 @@
 -- For contracts alone: which works a connection begins (this project's own). What is said is of connections of units: a GET
 -- of HTTP begins a search and then a fetch, which `sru_rules` has, and of it nothing is said here
 use Rattle.std.specs.Prelude.{◌≡◌, ◌≢◌, ℕ, Bool, false, List, [], ◌∷◌, ◌++◌, None, Some}
+use Rattle.z_types.specs.declared.marks.End.{End}
 use Rattle.z_types.specs.declared.sitting.Sitting as sitting
 use Rattle.z_types.specs.declared.work.Work.{Work}
 use Rattle.z_types.specs.declared.world.World as world
@@ -20,7 +21,7 @@ use Rattle.front_conn.specs.steps.Feeding.{with_end, with_piece, without_out}
 use Rattle.front_conn.specs.steps.States.{ConnectionState, IsStateOf, nothing_yet}
 use Rattle.front_conn.specs.steps.Steps.{IsStepped, KeepsState, UnlessMemory}
 use Rattle.conn_works.specs.Works.{works_of}
-use Rattle.conn_works.specs.steps.Begun.{HasBegun, begun_by}
+use Rattle.conn_works.specs.steps.Begun.{AreWorksIn, HasBegun, begun_by}
 use Rattle.conn_works.specs.steps.Through.{GoesThrough, Point, at_first, begun_through, last_of}
 
 -- the works of a course follow from the marks of its causes
@@ -67,6 +68,12 @@ LastIsInWork w S =
     (route : Route) (fed written : List ℕ) (state : ConnectionState S) (view : PackageView S) (begun : List Work)
     → kind_of fed ≢ letter → IsStateOf w route fed written state → state.end ≡ None → state.in_work ≡ Some view
     → HasBegun w route fed state begun → IsLastOf begun view.work
+
+-- what a connection has begun that has ended are the works of the course of all its octets
+abbrev pub EndedIsWhole : {W : Type 0} → world.Ghosts W → (S : Type 0) → Type 0
+EndedIsWhole w S =
+    (route : Route) (fed : List ℕ) (state : ConnectionState S) (end : End) (begun : List Work)
+    → state.end ≡ Some end → HasBegun w route fed state begun → AreWorksIn w route fed state.marks begun
 
 -- ---- between steps
 
