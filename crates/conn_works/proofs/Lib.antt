@@ -8,3 +8,5 @@ mod RestWorks
 mod TurnWorks
 mod StepWorks
 mod ThroughWorks
+mod GrowthLemmas
+mod SinceWorks

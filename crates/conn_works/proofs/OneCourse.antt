@@ -69,6 +69,33 @@ units-one (u ∷ us) (v ∷ vs) rest p q e =
     let behind = units-one us vs rest p.1 q.1 one.rest in
     λ i. one.unit i ∷ behind i
 
+-- units that were taken, in front of units that were taken later and the same rest
+pub record IsFront (us vs : List Received) (taken rest : List ℕ) : Type 0 where
+  pub more : List Received
+  pub is : vs ≡ us ++ more
+  pub each : AllByRecursion IsReceived more
+  pub spelled : taken ++ rest ≡ octets_of more ++ rest
+
+longer : (unit : Received) (units : List Received) (taken rest : List ℕ) → IsReceived unit
+    → octets_of (unit ∷ units) ++ (taken ++ rest) ≡ rest → ⊥
+longer unit units taken rest p e = omega (
+  arith,
+  ap length e,
+  length-append (octets_of (unit ∷ units)) (taken ++ rest),
+  length-append unit.octets (octets_of units),
+  length-append taken rest,
+  unit-filled unit p,
+)
+
+pub front-of : (us vs : List Received) (taken rest : List ℕ) → AllByRecursion IsReceived us → AllByRecursion IsReceived vs
+    → octets_of us ++ (taken ++ rest) ≡ octets_of vs ++ rest → IsFront us vs taken rest
+front-of [] vs taken rest p q e = record { more = vs; is = refl; each = q; spelled = e }
+front-of (u ∷ us) [] taken rest p q e = absurd (longer u us taken rest p.0 e)
+front-of (u ∷ us) (v ∷ vs) taken rest p q e =
+    let one = split-one u v us vs (taken ++ rest) rest p.0 q.0 e in
+    let front = front-of us vs taken rest p.1 q.1 one.rest in
+    record { more = front.more; is = λ i. sym one.unit i ∷ front.is i; each = front.each; spelled = front.spelled }
+
 -- ---- a course
 
 -- no rest begins with a unit

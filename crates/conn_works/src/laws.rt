@@ -1,7 +1,7 @@
 //! Which works a connection begins. These functions do nothing; what they ensure is the law. HTTP
 //! connections are left out: a GET begins a search and then a fetch, under one mark.
 
-ghost use Rattle.conn_works.specs.steps.Laws.{BegunIsOne, BeginsNone, EndedIsWhole, GoesBegin, LacksAndBeginsNone, LastIsInWork, MarksDecide, RunsBegin, StaysSoBegun, StepsBegin};
+ghost use Rattle.conn_works.specs.steps.Laws.{BegunIsOne, BeginsNone, EndedIsWhole, GoesBegin, LacksAndBeginsNone, LastIsInWork, MarksDecide, RestsThenBegins, RunsBegin, StaysSoBegun, StepsBegin};
 
 use front_conn::{stands_at_start, stands_when_ended, stands_when_fed, stands_when_written};
 use z_types::{Sitting, World};
@@ -64,5 +64,13 @@ pub fn runs_begin<W: World, S: Sitting<W>>()
     ensures { RunsBegin W.World S.Sitting }
 {
     stands_at_start::<W, S>();
+    goes_begin::<W, S>();
+}
+
+/// From where a connection of units rests on a fair route to where it has not ended: the works that its
+/// steps begin are those that the units which they take ask, in their order, no other and none twice.
+pub fn rests_then_begins<W: World, S: Sitting<W>>()
+    ensures { RestsThenBegins W.World S.Sitting }
+{
     goes_begin::<W, S>();
 }

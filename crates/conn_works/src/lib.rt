@@ -8,5 +8,5 @@ mod tests;
 
 pub use laws::{
     begins_none, begun_is_one, ended_is_whole, goes_begin, lacking_begins_none, last_is_in_work,
-    marks_decide, runs_begin, stays_begun, steps_begin,
+    marks_decide, rests_then_begins, runs_begin, stays_begun, steps_begin,
 };

@@ -2,7 +2,7 @@
 
 use crate::{
     begins_none, begun_is_one, ended_is_whole, goes_begin, lacking_begins_none, last_is_in_work,
-    marks_decide, runs_begin, stays_begun, steps_begin,
+    marks_decide, rests_then_begins, runs_begin, stays_begun, steps_begin,
 };
 use gw_memory::FakeSession;
 use std::test::Fail;
@@ -19,6 +19,7 @@ fn the_laws_of_what_is_begun_hold_over_targets_in_memory(_: HostRuntime) -> Resu
     ended_is_whole::<TestWorld, FakeSession>();
     stays_begun::<TestWorld, FakeSession>();
     goes_begin::<TestWorld, FakeSession>();
+    rests_then_begins::<TestWorld, FakeSession>();
     runs_begin::<TestWorld, FakeSession>();
     Ok(())
 }

@@ -22,7 +22,7 @@ use Rattle.front_conn.specs.steps.States.{ConnectionState, IsStateOf, nothing_ye
 use Rattle.front_conn.specs.steps.Steps.{IsStepped, KeepsState, UnlessMemory}
 use Rattle.conn_works.specs.Works.{works_of}
 use Rattle.conn_works.specs.steps.Begun.{AreWorksIn, HasBegun, begun_by}
-use Rattle.conn_works.specs.steps.Through.{GoesThrough, Point, at_first, begun_through, last_of}
+use Rattle.conn_works.specs.steps.Through.{AreWorksSince, GoesThrough, Point, at_first, begun_through, last_of}
 
 -- the works of a course follow from the marks of its causes
 abbrev pub MarksDecide : {W : Type 0} → world.Ghosts W → Type 0
@@ -106,3 +106,11 @@ module _ {W S : Type 0} (w : world.Ghosts W) (t : sitting.Ghosts S W) where
       (exact : Bool) (route : Route) (points : List (Point S))
       → IsFair w route → kind_of (last_of at_first points).fed ≢ letter → GoesThrough w t exact route at_first points
       → HasBegun w route (last_of at_first points).fed (last_of at_first points).state (begun_through at_first points)
+
+  -- from where it rests to where it has not ended: the works that its steps begin are those of the units that they take
+  abbrev pub RestsThenBegins : Type 0
+  RestsThenBegins =
+      (exact : Bool) (route : Route) (start : Point S) (points : List (Point S))
+      → IsFair w route → kind_of (last_of start points).fed ≢ letter → IsStateOf w route start.fed start.written start.state
+      → start.state.end ≡ None → start.state.in_work ≡ None → GoesThrough w t exact route start points
+      → (last_of start points).state.end ≡ None → AreWorksSince w route start (last_of start points) (begun_through start points)

@@ -1,17 +1,24 @@
 -- For contracts alone: what a connection goes through (this project's own): steps, pieces that come, the end of its input, and
 -- what is written to its client, one behind another
 use Rattle.std.specs.Prelude.{◌≡◌, ◌≢◌, ◌⊎◌, ℕ, Bool, false, List, [], ◌∷◌, ◌++◌}
+use Rattle.std.specs.List.{AllByRecursion}
+use Rattle.z_types.specs.Bounds.{within64}
 use Rattle.z_types.specs.declared.sitting.Sitting as sitting
 use Rattle.z_types.specs.declared.work.Work.{Work}
 use Rattle.z_types.specs.declared.world.World as world
 use Rattle.route_config.specs.declared.route.Route.{Route}
-use Rattle.front_session.specs.Sessions.{new_session}
+use Rattle.gateway_rules.specs.Answers.{IsReceived}
+use Rattle.gateway_rules.specs.Course.{Received, course, octets_of}
+use Rattle.gateway_rules.specs.Marks.{Cause}
+use Rattle.gateway_rules.specs.Runs.{marks_of}
+use Rattle.front_session.specs.Sessions.{client_of, new_session, progress_of}
 use Rattle.front_conn.specs.declared.stepped.Stepped.{Stepped}
 use Rattle.front_conn.specs.declared.stepped.Stepped.TheVariants.{Memory}
 use Rattle.front_conn.specs.steps.Answering.{Outside}
 use Rattle.front_conn.specs.steps.Feeding.{with_end, with_piece, without_out}
 use Rattle.front_conn.specs.steps.States.{ConnectionState, nothing_yet}
 use Rattle.front_conn.specs.steps.Steps.{IsStepped, KeepsState}
+use Rattle.conn_works.specs.Works.{works_of}
 use Rattle.conn_works.specs.steps.Begun.{begun_by}
 
 -- a connection, the octets that it was fed, and those that were written
@@ -70,3 +77,20 @@ module _ {W S : Type 0} (w : world.Ghosts W) (t : sitting.Ghosts S W) (exact : B
   abbrev pub GoesThrough : Point S → List (Point S) → Type 0
   GoesThrough point [] = Unit {0}
   GoesThrough point (next ∷ points) = GoesOn point next × GoesThrough next points
+
+-- ---- since a connection rested
+
+-- the works of the units that were taken since: octets that came behind those that were not taken yet are these units and what
+-- is not taken now, and marks were listed for causes under which the client, as it was then, asks these works
+pub record AreWorksSince {W S : Type 0} (w : world.Ghosts W) (route : Route) (old new : Point S) (works : List Work) : Type 0 where
+  pub more : List ℕ
+  pub fed : new.fed ≡ old.fed ++ more
+  pub units : List Received
+  pub each : AllByRecursion IsReceived units
+  pub taken : old.state.left ++ more ≡ octets_of units ++ new.state.left
+  pub causes : List Cause
+  pub listed : new.state.marks ≡ old.state.marks ++ marks_of causes
+  pub at : ℕ
+  pub is_at : old.state.at ≡ within64 at
+  pub are : works
+      ≡ works_of w route (client_of old.state.session) (course route (progress_of at old.state.session) units) causes
