@@ -1,0 +1,5 @@
+pub mod RestLemmas
+pub mod BetweenLemmas
+pub mod PageLemmas
+pub mod RequestLemmas
+mod QuietFacts

@@ -1,0 +1,4 @@
+pub mod Between
+pub mod Quiet
+pub mod Pages
+pub mod Requests

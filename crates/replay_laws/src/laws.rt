@@ -1,0 +1,24 @@
+//! What holds of whole replays.
+
+ghost use Rattle.replay_laws.specs.Pages.{SumsLeaveMarks};
+ghost use Rattle.replay_laws.specs.Quiet.{QuietDisturbsNobody};
+ghost use Rattle.replay_laws.specs.Requests.{UncausedRequestIsPlain};
+
+use z_types::{Sitting, World};
+
+/// Where each client that took a step was run since, whenever links are cut or result sets deleted,
+/// no request is in work then.
+pub fn quiet_disturbs_nobody<W: World, S: Sitting<W>>()
+    ensures { QuietDisturbsNobody W.World S.Sitting }
+{}
+
+/// Over a wire that is exact, the sums of a report, and how many looks were in vain, bound the marks
+/// of each kind; and where they are less than any mark needs, every mark is Plain.
+pub fn sums_leave_marks<W: World>()
+    ensures { SumsLeaveMarks W.World }
+{}
+
+/// A request has the mark Plain where no leg of it counted a cause of another.
+pub fn uncaused_request_is_plain<W: World, S: Sitting<W>>()
+    ensures { UncausedRequestIsPlain W.World S.Sitting }
+{}
