@@ -1,3 +1,7 @@
 mod WrittenLemmas
 mod ServingLemmas
+mod LeftLemmas
+mod MarkLemmas
+mod RoundLemmas
+mod WorkedCosts
 pub mod WorkingLemmas

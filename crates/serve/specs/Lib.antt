@@ -1,3 +1,5 @@
 pub mod steps
 pub mod Serving
+pub mod Costs
+pub mod Runs
 pub mod Working

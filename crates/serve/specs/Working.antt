@@ -1,12 +1,15 @@
 -- What a worker does (this project's own): each connection that it takes is served and handed back, and what came of it is listed
 use Rattle.std.specs.Prelude.{◌≡◌, ℕ, ◌-◌, ◌≤◌, List, ◌++◌, length, Option, None, Some, option_map}
-use Rattle.std.specs.List.{AllZip}
+use Rattle.std.specs.List.{AllByRecursion, AllZip, sum_by}
 use Rattle.z_types.specs.declared.world.World as world
+use Rattle.route_config.specs.declared.route.PoolNumbers.{PoolNumbers}
 use Rattle.route_config.specs.declared.route.Route.{Route}
 use Rattle.gw_outside.specs.declared.accepts.Accepted.TheVariants.{Connection}
 use Rattle.gw_outside.specs.declared.sinks.Sink as to
 use Rattle.gw_outside.specs.declared.sources.Source as from
 use Rattle.gw_outside.specs.Accepts.{IsNewConnection}
+use Rattle.conn_costs.specs.steps.Numbers.{Caused}
+use Rattle.serve.specs.Costs.{AreMarksOf, AreMet, ArePaid, Tally, needed, undialled}
 use Rattle.serve.specs.Serving.{IsServed, streams}
 use Rattle.serve.specs.declared.serving.Served.{Served}
 
@@ -46,3 +49,26 @@ module _ {W I K : Type 0} (w : world.Ghosts W) (i : from.Ghosts I) (k : to.Ghost
     pub each : AllZip (IsListed old.left) connections others
     pub taken : AreTaken (length others) old.left new.left
     pub out : new.out ≡ old.out
+
+-- ---- what its connections cost
+
+-- how often the causes of their marks of a kind were met, at least
+abbrev pub needed_by : PoolNumbers → List Served → Caused → ℕ
+needed_by pool served kind = sum_by (λ (one : Served). needed pool one.marks kind) served
+
+-- how many addresses they may leave undialled
+abbrev pub undialled_by : List Served → ℕ
+undialled_by served = sum_by (λ (one : Served). undialled one.end) served
+
+-- all their marks say as many looks as the pool is patient, and as many sessions as the door opens
+abbrev pub AreAllMarksOf : PoolNumbers → (most : ℕ) → List Served → Type 0
+AreAllMarksOf pool most served = AllByRecursion (λ (one : Served). AreMarksOf pool most one.marks) served
+
+-- Connections were listed behind those before, and that is what they cost: no mark of theirs is invented, over all of them, and what they
+-- searched and were named is paid for.
+pub record HaveCost (pool : PoolNumbers) (old new : List Served) (before behind : Tally) : Type 0 where
+  pub others : List Served
+  pub served : new ≡ old ++ others
+  pub causes : AreMet (needed_by pool others) before behind
+  pub marks : AreAllMarksOf pool before.door.most others
+  pub paid : ArePaid (undialled_by others) before behind

@@ -3,11 +3,18 @@
 ghost use Rattle.std.specs.Prelude.{◌≡◌, ℕ, None};
 ghost use Rattle.route_config.specs.declared.route.Route.{Route};
 ghost use Rattle.front_session.specs.Sessions.{new_session};
+ghost use Rattle.serve.specs.Costs.{AreMarksOf, ArePaid, HaveCauses, tally_of, undialled};
 ghost use Rattle.serve.specs.Serving.{IsServed, SinkView, SourceView, Streams, sink_view, source_view, streams};
+ghost use Rattle.serve.specs.Runs.{GoesFrom, IsCalm, IsRun, outside_of};
+ghost use Rattle.serve.specs.steps.Rounds.{IsRound, IsWritten};
 ghost use Rattle.serve.specs.steps.Serving.{GoesOn, IsIdle, IsServing, IsWrittenOut};
 ghost use Rattle.front_conn.specs.steps.States.{IsConnOf, nothing_yet};
 ghost use Rattle.front_conn.specs.steps.Steps.{NothingWaits};
 
+use conn_costs::{
+    costs_nothing, marks_are_met, pays_on, starts_costless, steps_cost, steps_meet, steps_owe_few,
+    steps_pay,
+};
 use front_conn::{
     Conn, Stepped, stands_at_start, stands_when_ended, stands_when_fed, stands_when_written,
     stays_of_route,
@@ -57,6 +64,24 @@ pub fn serve_connection<
     ensures served { IsServed W.World route.now
         (streams I.Source K.Sink source.old sink.old) (streams I.Source K.Sink source.new sink.new)
         result.marks result.end }
+
+    // It took its steps, one behind another, and what was out for it was given up.
+    ensures run { IsRun W.World B.Session.Sitting B.exact route.now result.marks
+        (outside_of D.Door B.Watched door.old backend.old)
+        (outside_of D.Door B.Watched door.new backend.new) }
+
+    // Each mark that is not Plain has its cause, counted by the door and the backend.
+    ensures causes { HaveCauses route.now.pool result.marks
+        (tally_of D.Door B.Watched door.old backend.old)
+        (tally_of D.Door B.Watched door.new backend.new) }
+
+    // It says as many looks as the pool is patient, or as many sessions as the door opens.
+    ensures marks { AreMarksOf route.now.pool (D.counts door.old).most result.marks }
+
+    // Each search is paid for, and each address that the door named.
+    ensures paid { ArePaid (undialled result.end)
+        (tally_of D.Door B.Watched door.old backend.old)
+        (tally_of D.Door B.Watched door.new backend.new) }
     ensures most { (D.counts door.new).most ≡ (D.counts door.old).most }
 {
     let mut conn = Conn::new(alloc);
@@ -91,9 +116,29 @@ fn serve_to_end<
     ensures served { IsServed W.World route.now
         (streams I.Source K.Sink source.old sink.old) (streams I.Source K.Sink source.new sink.new)
         conn.new.marks result }
+    ensures goes { GoesFrom W.World S.Sitting B.exact route.now
+        (record {
+          conn = conn.old;
+          outside = outside_of D.Door B.Watched door.old backend.old;
+        })
+        (record {
+          conn = conn.new;
+          outside = outside_of D.Door B.Watched door.new backend.new;
+        }) }
+    ensures causes { HaveCauses route.now.pool conn.new.marks
+        (tally_of D.Door B.Watched door.old backend.old)
+        (tally_of D.Door B.Watched door.new backend.new) }
+    ensures marks { AreMarksOf route.now.pool (D.counts door.old).most conn.new.marks }
+    ensures paid { ArePaid (undialled result)
+        (tally_of D.Door B.Watched door.old backend.old)
+        (tally_of D.Door B.Watched door.new backend.new) }
     ensures most { (D.counts door.new).most ≡ (D.counts door.old).most }
 {
     stands_at_start::<W, S>();
+    starts_costless::<W, S>();
+    costs_nothing::<W, S>();
+    pays_on::<W, S>();
+    marks_are_met::<W, S>();
     let mut now = 0;
     for _round in 0..u64::MAX {
         now = clock.now().max(now);
@@ -124,7 +169,15 @@ fn go_on<W: World, S: Sitting<W>, B: Backend<W, Session = S>, D: Door<W, S>, I: 
         (streams I.Source K.Sink source.old sink.old) conn.old
         → GoesOn W.World route.now start
         (streams I.Source K.Sink source.new sink.new) conn.new result }
+    ensures round { IsRound W.World S.Sitting B.exact route.now conn.old conn.new result
+        (outside_of D.Door B.Watched door.old backend.old)
+        (outside_of D.Door B.Watched door.new backend.new) }
 {
+    steps_cost::<W, S>();
+    steps_meet::<W, S>();
+    steps_pay::<W, S>();
+    steps_owe_few::<W, S>();
+    let _ = route.parts();
     match conn.step(alloc, route, backend, door, now) {
         Stepped::Memory => Some(End::Memory),
         Stepped::Idle => end_or_read(conn, source),
@@ -133,7 +186,7 @@ fn go_on<W: World, S: Sitting<W>, B: Backend<W, Session = S>, D: Door<W, S>, I: 
     }
 }
 
-/// Writes what is to be written.
+/// Writes what is to be written, if there is something.
 fn write_out<W: World, S: Sitting<W>, K: Sink>(conn: &mut Conn<W, S>, sink: &mut K) -> Option<End>
     ensures of { (route : Route) (most : ℕ)
         → IsConnOf W.World S.Sitting route most conn.old
@@ -143,9 +196,14 @@ fn write_out<W: World, S: Sitting<W>, K: Sink>(conn: &mut Conn<W, S>, sink: &mut
         (record { input = input; output = sink_view K.Sink sink.old }) conn.old
         → GoesOn W.World route start
         (record { input = input; output = sink_view K.Sink sink.new }) conn.new result }
+    ensures calm { IsCalm conn.old conn.new }
+    ensures written { IsWritten conn.old conn.new result }
 {
     stands_when_written::<W, S>();
     stays_of_route::<W, S>();
+    if conn.out().is_empty() {
+        return None;
+    }
     if !write_all(sink, conn.out()) {
         return Some(End::WriteFault);
     }
@@ -167,6 +225,8 @@ fn end_or_read<W: World, S: Sitting<W>, I: Source>(
         (record { input = source_view I.Source source.old; output = output }) conn.old
         → GoesOn W.World route start
         (record { input = source_view I.Source source.new; output = output }) conn.new result }
+    ensures calm { IsCalm conn.old conn.new }
+    ensures out { conn.new.out ≡ conn.old.out }
 {
     match conn.end() {
         Some(end) => Some(end),
@@ -187,6 +247,8 @@ fn read_on<W: World, S: Sitting<W>, I: Source>(conn: &mut Conn<W, S>, source: &m
         (record { input = source_view I.Source source.old; output = output }) conn.old
         → GoesOn W.World route start
         (record { input = source_view I.Source source.new; output = output }) conn.new result }
+    ensures calm { IsCalm conn.old conn.new }
+    ensures out { conn.new.out ≡ conn.old.out }
 {
     stands_when_fed::<W, S>();
     stands_when_ended::<W, S>();

@@ -2,7 +2,8 @@
 
 ghost use Rattle.std.specs.Prelude.{◌≡◌, ◌≤◌};
 ghost use Rattle.z_types.specs.Counts.{Rose};
-ghost use Rattle.serve.specs.Working.{HasWorked, IsNoneLeft};
+ghost use Rattle.serve.specs.Costs.{tally_of};
+ghost use Rattle.serve.specs.Working.{HasWorked, HaveCost, IsNoneLeft};
 
 use crate::{Served, serve_connection};
 use gw_outside::{Accept, Accepted, Backend, Clock};
@@ -62,6 +63,11 @@ pub fn work<W: World, B: Backend<W>, D: Door<W, B::Session>, A: Accept, C: Clock
           closed = A.closed worker.new.accept;
           out = A.out worker.new.accept;
         }) }
+
+    // The marks of all these connections have their causes, and what they cost is paid for.
+    ensures cost { HaveCost route.now.pool worker.old.served worker.new.served
+        (tally_of D.Door B.Watched door.old worker.old.backend)
+        (tally_of D.Door B.Watched door.new worker.new.backend) }
     ensures ended { result ≡ Worked.Ended → IsNoneLeft (A.left worker.new.accept) }
     ensures failed { result ≡ Worked.Failed
         → Rose (A.faults worker.old.accept) (A.faults worker.new.accept) }
@@ -105,6 +111,9 @@ fn serve_all<W: World, B: Backend<W>, D: Door<W, B::Session>, A: Accept, C: Cloc
           closed = A.closed accept.new;
           out = A.out accept.new;
         }) }
+    ensures cost { HaveCost route.now.pool served.old.items served.new.items
+        (tally_of D.Door B.Watched door.old backend.old)
+        (tally_of D.Door B.Watched door.new backend.new) }
     ensures ended { result ≡ Worked.Ended → IsNoneLeft (A.left accept.new) }
     ensures failed { result ≡ Worked.Failed → Rose (A.faults accept.old) (A.faults accept.new) }
     ensures faults { A.faults accept.old ≤ A.faults accept.new }

@@ -1,4 +1,4 @@
-use Rattle.std.proofs.Common.{Option, sym, subst}
+use Rattle.std.proofs.Common.{Option, inl, refl, sym, subst}
 use Rattle.z_types.specs.declared.marks.End.{End}
 use Rattle.serve.specs.Serving.{source_view}
 use Rattle.serve.specs.steps.Serving.{IsIdleAt}
@@ -14,3 +14,6 @@ pub read_on-requires : goal.read_on-requires
 read_on-requires g c =
     let idle = subst (λ (e : Option End). IsIdleAt e c.args.conn.now) (sym c.in-None.ensures) c.requires.idle in
     record { goes_on = sym c.in-None.ensures; rests = idle.0; nothing_waits = idle.1 }
+
+pub returns-in-Some-clause-calm : goal.returns-in-Some-clause-calm
+returns-in-Some-clause-calm g c = inl refl

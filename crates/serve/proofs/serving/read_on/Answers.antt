@@ -1,8 +1,9 @@
-use Rattle.std.proofs.Common.{sym, subst, refl, take}
+use Rattle.std.proofs.Common.{inl, inr, sym, subst, refl, take}
 use Rattle.z_types.specs.declared.marks.End.TheVariants as how
 use Rattle.serve.specs.Serving.{IsServed, source_view}
 use Rattle.serve.specs.steps.Serving.{IsWrittenOut}
 use Rattle.front_conn.specs.steps.States.{ConnectionState}
+use Rattle.serve.proofs.RoundLemmas.{fed-writes}
 use Rattle.serve.proofs.ServingLemmas.{serving-fed, serving-unfed, serving-unread}
 use Rattle.serve.proofs.serving.read_on.Goals as goal
 
@@ -30,3 +31,18 @@ returns-in-Err-clause-goes g c = λ route start output at.
     (sym c.in-Err.ensures.err)
     (serving-unfed g.W.World g.S.Sitting route start (source_view g.I.Source c.args.source.now)
     (source_view g.I.Source c.read.new.self) output c.args.conn.now (take c.in-Bytes.count c.read.new.into) c.in-Bytes.ensures.given at)
+
+pub returns-in-Failed-clause-calm : goal.returns-in-Failed-clause-calm
+returns-in-Failed-clause-calm g c = inl refl
+
+pub returns-in-End-clause-calm : goal.returns-in-End-clause-calm
+returns-in-End-clause-calm g c = inr (inr (inl c.end_input.ensures))
+
+pub returns-in-Err-clause-calm : goal.returns-in-Err-clause-calm
+returns-in-Err-clause-calm g c = inl c.in-Err.ensures.err
+
+pub returns-in-Ok-clause-calm : goal.returns-in-Ok-clause-calm
+returns-in-Ok-clause-calm g c = inr (inl (take c.in-Bytes.count c.read.new.into, c.in-Ok.ensures.ok))
+
+pub returns-in-Ok-clause-out : goal.returns-in-Ok-clause-out
+returns-in-Ok-clause-out g c = fed-writes c.args.conn.now c.feed.new.self (take c.in-Bytes.count c.read.new.into) c.in-Ok.ensures.ok

@@ -1,5 +1,10 @@
 use Rattle.std.proofs.Common.{List, ◌∙◌, ap, sym, subst}
 use Rattle.z_types.specs.declared.marks.Mark.{Mark}
+use Rattle.pool_sets.specs.Counts.{DoorCounts}
+use Rattle.serve.specs.Costs.{AreMarksOf, ArePaid, HaveCauses, tally_of, undialled}
+use Rattle.front_conn.specs.steps.Answering.{Outside}
+use Rattle.front_conn.specs.steps.States.{ConnectionState}
+use Rattle.serve.specs.Runs.{GoesFrom, Point, outside_of}
 use Rattle.serve.specs.Serving.{IsServed, streams}
 use Rattle.serve.proofs.serving.serve_connection.Goals as goal
 
@@ -11,3 +16,50 @@ returns-clause-served g c =
     IsServed g.W.World c.args.route.now (streams g.I.Source g.K.Sink c.args.source.now c.args.sink.now)
     (streams g.I.Source g.K.Sink c.serve_to_end-end.new.source c.serve_to_end-end.new.sink) m c.serve_to_end-end.result)
     (sym same) c.serve_to_end-end.ensures.served
+
+pub returns-clause-causes : goal.returns-clause-causes
+returns-clause-causes g c =
+    let same = c.into_marks.ensures ∙ ap (λ s. s.marks) c.give_up.ensures.state in
+    let before = tally_of g.D.Door g.B.Watched c.args.door.now c.args.backend.now in
+    subst
+    (λ (m : List Mark).
+    HaveCauses c.args.route.now.pool m before (tally_of g.D.Door g.B.Watched c.give_up.new.door c.serve_to_end-end.new.backend))
+    (sym same)
+    (subst
+    (λ (d : DoorCounts).
+    HaveCauses c.args.route.now.pool c.serve_to_end-end.new.conn.marks before
+    (record { door = d; backend = g.B.Watched.counts c.serve_to_end-end.new.backend }))
+    (sym c.give_up.ensures.counts) c.serve_to_end-end.ensures.causes)
+
+pub returns-clause-paid : goal.returns-clause-paid
+returns-clause-paid g c =
+    subst
+    (λ (d : DoorCounts).
+    ArePaid (undialled c.serve_to_end-end.result) (tally_of g.D.Door g.B.Watched c.args.door.now c.args.backend.now)
+    (record { door = d; backend = g.B.Watched.counts c.serve_to_end-end.new.backend }))
+    (sym c.give_up.ensures.counts) c.serve_to_end-end.ensures.paid
+
+pub returns-clause-marks : goal.returns-clause-marks
+returns-clause-marks g c =
+    let same = c.into_marks.ensures ∙ ap (λ s. s.marks) c.give_up.ensures.state in
+    subst (λ (m : List Mark). AreMarksOf c.args.route.now.pool (g.D.Door.counts c.args.door.now).most m)
+    (sym same) c.serve_to_end-end.ensures.marks
+
+pub returns-clause-run : goal.returns-clause-run
+returns-clause-run g c =
+    let before : Outside g.row.B-Session.Denot = outside_of g.D.Door g.B.Watched c.args.door.now c.args.backend.now in
+    let last : Point g.row.B-Session.Denot = record {
+      conn = c.serve_to_end-end.new.conn;
+      outside = outside_of g.D.Door g.B.Watched c.serve_to_end-end.new.door c.serve_to_end-end.new.backend;
+    } in record {
+      last = last;
+      gone = subst
+          (λ (s : ConnectionState g.row.B-Session.Denot).
+          GoesFrom g.W.World g.B.Session.Sitting g.B.Watched.exact c.args.route.now (record { conn = s; outside = before }) last)
+          c.new-conn.ensures.new c.serve_to_end-end.ensures.goes;
+      marks = c.into_marks.ensures ∙ ap (λ s. s.marks) c.give_up.ensures.state;
+      left = λ i. record {
+        door = record { pool = c.give_up.ensures.pool i; counts = c.give_up.ensures.counts i };
+        backend = last.outside.backend;
+      };
+    }

@@ -4,6 +4,8 @@ use Rattle.gw_outside.specs.declared.accepts.Accepted.TheVariants.{Connection}
 use Rattle.gw_outside.specs.Accepts.{AcceptFits}
 use Rattle.serve.specs.declared.serving.Served.{Served}
 use Rattle.serve.specs.Working.{WorkerView}
+use Rattle.serve.specs.Costs.{tally_of}
+use Rattle.serve.proofs.WorkedCosts.{cost-more, cost-none, cost-same}
 use Rattle.serve.proofs.WorkingLemmas.{ended-same, failed-same, worked-more, worked-none, worked-same}
 use Rattle.serve.proofs.working.serve_all.Goals as goal
 
@@ -15,6 +17,7 @@ loop-round-init g c = record {
     closed = g.A.Accept.closed c.args.accept.now;
     out = g.A.Accept.out c.args.accept.now;
   });
+  cost = cost-none c.args.route.now.pool c.args.served.now.items (tally_of g.D.Door g.B.Watched c.args.door.now c.args.backend.now);
   faults = omega arith;
   most = refl;
 }
@@ -122,6 +125,32 @@ loop-round-preserved g c =
           c.loop-round.invariant.worked
           (c.push_reserved.ensures.items ∙ ap (λ (xs : List Served). xs ++ came ∷ []) c.reserve.ensures.items)
           closed fits c.in-Connection.ensures.connection out c.serve_connection-came.ensures.served;
+      cost = cost-more c.args.route.now.pool c.args.served.now.items c.loop-round.served.items c.push_reserved.new.self.items came
+          (tally_of g.D.Door g.B.Watched c.args.door.now c.args.backend.now)
+          (tally_of g.D.Door g.B.Watched c.loop-round.door c.loop-round.backend)
+          (tally_of g.D.Door g.B.Watched c.serve_connection-came.new.door c.serve_connection-came.new.backend)
+          c.loop-round.invariant.cost
+          (c.push_reserved.ensures.items ∙ ap (λ (xs : List Served). xs ++ came ∷ []) c.reserve.ensures.items)
+          c.loop-round.invariant.most c.serve_connection-came.ensures.causes c.serve_connection-came.ensures.marks
+          c.serve_connection-came.ensures.paid;
       faults = omega (arith, c.loop-round.invariant.faults, c.in-Connection.ensures.faults, c.close.ensures.faults);
       most = c.serve_connection-came.ensures.most ∙ c.loop-round.invariant.most;
     }
+
+pub returns-then-is_err-clause-cost : goal.returns-then-is_err-clause-cost
+returns-then-is_err-clause-cost g c =
+    cost-same c.args.route.now.pool c.args.served.now.items c.loop-round.served.items c.reserve.new.self.items
+    (tally_of g.D.Door g.B.Watched c.args.door.now c.args.backend.now)
+    (tally_of g.D.Door g.B.Watched c.loop-round.door c.loop-round.backend) c.reserve.ensures.items c.loop-round.invariant.cost
+
+pub returns-in-Ended-clause-cost : goal.returns-in-Ended-clause-cost
+returns-in-Ended-clause-cost g c =
+    cost-same c.args.route.now.pool c.args.served.now.items c.loop-round.served.items c.reserve.new.self.items
+    (tally_of g.D.Door g.B.Watched c.args.door.now c.args.backend.now)
+    (tally_of g.D.Door g.B.Watched c.loop-round.door c.loop-round.backend) c.reserve.ensures.items c.loop-round.invariant.cost
+
+pub returns-in-Failed-clause-cost : goal.returns-in-Failed-clause-cost
+returns-in-Failed-clause-cost g c =
+    cost-same c.args.route.now.pool c.args.served.now.items c.loop-round.served.items c.reserve.new.self.items
+    (tally_of g.D.Door g.B.Watched c.args.door.now c.args.backend.now)
+    (tally_of g.D.Door g.B.Watched c.loop-round.door c.loop-round.backend) c.reserve.ensures.items c.loop-round.invariant.cost

@@ -1,5 +1,6 @@
 use Rattle.std.proofs.Common.{◌≡◌, ◌≤◌}
-use Rattle.serve.specs.Working.{HasWorked}
+use Rattle.serve.specs.Costs.{tally_of}
+use Rattle.serve.specs.Working.{HasWorked, HaveCost}
 use Rattle.serve.proofs.working.serve_all.Given as goal
 
 abbrev pub invariant-loop-round : goal.invariant-loop-round
@@ -17,6 +18,8 @@ invariant-loop-round g l = record {
         closed = g.A.Accept.closed l.accept;
         out = g.A.Accept.out l.accept;
       });
+  cost : HaveCost l.route.pool l.fn.served.items l.served.items
+      (tally_of g.D.Door g.B.Watched l.fn.door l.fn.backend) (tally_of g.D.Door g.B.Watched l.door l.backend);
   faults : g.A.Accept.faults l.fn.accept ≤ g.A.Accept.faults l.accept;
   most : (g.D.Door.counts l.door).most ≡ (g.D.Door.counts l.fn.door).most;
 }
