@@ -1,3 +1,4 @@
+mod Dialled
 mod Lists
 mod MovedOver
 mod Together

@@ -1,8 +1,9 @@
 -- Relations between two lists place by place, and facts of each item, also where the lists are reversed
-use Rattle.std.proofs.Common.{◌≡◌, ℕ, suc, ◌<◌, List, [], ◌∷◌, ◌++◌, length, map, reverse, take, slice_index_or, arith, refl, ap}
+use Rattle.std.proofs.Common.{◌≡◌, ◌∙◌, ◌+◌, ℕ, suc, ◌<◌, List, [], ◌∷◌, ◌++◌, length, map, reverse, take, slice_index_or, arith, refl, ap}
 use Rattle.std.proofs.Common.{◌⊎◌, inl, inr}
-use Rattle.std.specs.List.{AllByRecursion, AllZip}
+use Rattle.std.specs.List.{AllByRecursion, AllZip, sum_by}
 use Rattle.std.proofs.lemmas.List.{length-reverse, reverse-append}
+use Rattle.std.proofs.lemmas.List.Sums.{sum_by_push}
 use Rattle.serve_threads.specs.Serving.{SomeZip}
 
 -- the first list, taken whole from the front of both
@@ -35,9 +36,17 @@ zip-seen R S f g (x ∷ xs) (y ∷ ys) h all =
     rw (reverse-append (f x ∷ []) (map f xs), reverse-append (g y ∷ []) (map g ys))
     (zip-append S _ _ _ _ (zip-seen R S f g xs ys h all.1) (h x y all.0, tt))
 
+-- a sum, with the last of a list
+pub sum-last : {X : Type 0} (xs ys : List X) (y : X) → xs ≡ ys ++ y ∷ [] → (f : X → ℕ) → sum_by f xs ≡ sum_by f ys + f y
+sum-last xs ys y e f = ap (sum_by f) e ∙ sum_by_push f ys y
+
 all-append : {X : Type 0} (P : X → Type 0) (xs ys : List X) → AllByRecursion P xs → AllByRecursion P ys → AllByRecursion P (xs ++ ys)
 all-append P [] ys all more = more
 all-append P (x ∷ xs) ys all more = (all.0, all-append P xs ys all.1 more)
+
+-- one more at the end
+pub all-push : {X : Type 0} (P : X → Type 0) (xs ys : List X) (y : X) → ys ≡ xs ++ y ∷ [] → AllByRecursion P xs → P y → AllByRecursion P ys
+all-push P xs ys y e all one = rw e (all-append P xs (y ∷ []) all (one, tt))
 
 -- so does a fact of each item
 pub all-reverse : {X : Type 0} (P : X → Type 0) (xs : List X) → AllByRecursion P xs → AllByRecursion P (reverse xs)

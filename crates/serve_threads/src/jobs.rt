@@ -1,7 +1,7 @@
 //! A job: a worker with its shares.
 
 ghost use Rattle.std.specs.Prelude.{◌<◌, ◌+◌};
-ghost use Rattle.serve_threads.specs.steps.Jobs.{IsDone};
+ghost use Rattle.serve_threads.specs.steps.Jobs.{IsDone, amounts};
 
 use gw_outside::{Accept, Backend, Clock};
 use pool_locked::{Counted, LockedDoor};
@@ -47,8 +47,10 @@ pub(crate) fn run<
     most: u32,
     job: &mut Job<B, A, C, L, M, O>,
 )
-    ensures done { IsDone W.World A.In.Source A.Out.Sink A.Accept route.now
-        job.old.worker job.new.worker job.new.worked }
+    ensures done { IsDone W.World A.In.Source A.Out.Sink A.Accept B.Watched route.now most
+        job.old.worker (amounts job.old.fulls.amount job.old.opens.amount job.old.booked.amount)
+        job.new.worker (amounts job.new.fulls.amount job.new.opens.amount job.new.booked.amount)
+        job.new.worked }
 {
     let none = job.booked.empty();
     let booked = mem::replace(&mut job.booked, none);

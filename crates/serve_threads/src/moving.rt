@@ -1,6 +1,8 @@
 //! Workers, moved into jobs and back.
 
 ghost use Rattle.std.specs.Prelude.{◌≡◌, ◌≤◌, ◌+◌, ◌++◌, [], IfOk, OnErr, OnOk, map, reverse, vec_len, vec_capacity};
+ghost use Rattle.std.specs.List.{AllByRecursion, sum_by};
+ghost use Rattle.serve_threads.specs.steps.Jobs.{amounts};
 
 use crate::jobs::Job;
 use serve::{Worked, Worker};
@@ -22,6 +24,10 @@ pub(crate) fn make_jobs<B: Drop, A: Drop, C: Drop, L: Ledger, M: Ledger, O: Ledg
     ensures err { OnErr result (workers.new.items ≡ workers.old.items) }
     ensures moved { IfOk result (λ jobs.
         reverse (map (λ job. job.worker) jobs.items) ≡ workers.old.items) }
+    ensures nothing { IfOk result (λ jobs. AllByRecursion (λ job.
+        amounts job.fulls.amount job.opens.amount job.booked.amount ≡ amounts 0 0 0) jobs.items) }
+    ensures none { OnOk result
+        ((booked.new.amount ≡ 0) × (fulls.new.amount ≡ 0) × (opens.new.amount ≡ 0)) }
     ensures left { OnOk result (workers.new.items ≡ []) }
     ensures room { vec_capacity workers.new ≡ vec_capacity workers.old }
     ensures parts { OnOk result ((booked.new.parts + vec_len workers.old ≡ booked.old.parts)
@@ -54,6 +60,10 @@ pub(crate) fn take_back<B: Drop, A: Drop, C: Drop, L: Ledger, M: Ledger, O: Ledg
         × (opens.old.parts ≤ O.parts) }
     ensures moved { workers.new.items
         ≡ workers.old.items ++ reverse (map (λ job. job.worker) jobs.items) }
+    ensures fulls { fulls.new.amount
+        ≡ fulls.old.amount + sum_by (λ job. job.fulls.amount) jobs.items }
+    ensures opens { opens.new.amount
+        ≡ opens.old.amount + sum_by (λ job. job.opens.amount) jobs.items }
     ensures parts { (booked.old.parts + vec_len jobs ≤ booked.new.parts)
         × (fulls.old.parts + vec_len jobs ≤ fulls.new.parts)
         × (opens.old.parts + vec_len jobs ≤ opens.new.parts) }

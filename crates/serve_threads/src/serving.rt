@@ -49,7 +49,7 @@ pub fn serve_all<
 ) -> Worked
     requires told { is_some (P.pool pool) ≡ true }
     requires new { P.counts pool ≡ counts_of most 0 0 0 }
-    ensures served { HaveServed W.World A.In.Source A.Out.Sink A.Accept route.now
+    ensures served { HaveServed W.World A.In.Source A.Out.Sink A.Accept B.Watched route.now most
         workers.old.items workers.new.items result }
 {
     let parts = workers.len() as u64;
@@ -96,7 +96,7 @@ fn serve_over<
     requires opens { (blanks.opens.parts ≡ O.parts)
         × (blanks.opens.parts ≡ vec_len workers.old) }
     requires most { (blanks.most.parts ≡ Q.parts) × (blanks.most.parts ≡ 1) }
-    ensures served { HaveServed W.World A.In.Source A.Out.Sink A.Accept route.now
+    ensures served { HaveServed W.World A.In.Source A.Out.Sink A.Accept B.Watched route.now most
         workers.old.items workers.new.items result }
 {
     let (booked_book, mut booked) = blanks.booked.open::<L>();

@@ -2,7 +2,7 @@
 
 ghost use Rattle.std.specs.Prelude.{ℕ, ◌≡◌, ◌<◌, length, vec_len, slice_index_or};
 ghost use Rattle.std.specs.List.{AllZip};
-ghost use Rattle.serve_threads.specs.steps.Jobs.{IsDone};
+ghost use Rattle.serve_threads.specs.steps.Jobs.{IsDone, amounts};
 
 use crate::jobs::{Job, run};
 use gw_outside::{Accept, Backend, Clock};
@@ -37,15 +37,26 @@ pub(crate) fn run_all<
     jobs: &mut [Job<B, A, C, L, M, O>],
 )
     ensures done { (place : ℕ) (d : _) → place < length jobs.old
-        → IsDone W.World A.In.Source A.Out.Sink A.Accept route.now
-        (slice_index_or jobs.old place d).worker (slice_index_or jobs.new place d).worker
+        → IsDone W.World A.In.Source A.Out.Sink A.Accept B.Watched route.now most
+        (slice_index_or jobs.old place d).worker
+        (amounts (slice_index_or jobs.old place d).fulls.amount
+        (slice_index_or jobs.old place d).opens.amount
+        (slice_index_or jobs.old place d).booked.amount)
+        (slice_index_or jobs.new place d).worker
+        (amounts (slice_index_or jobs.new place d).fulls.amount
+        (slice_index_or jobs.new place d).opens.amount
+        (slice_index_or jobs.new place d).booked.amount)
         (slice_index_or jobs.new place d).worked }
 {
     let threads = jobs.len().max(1);
     let each = move |_place: usize, job: &mut Job<B, A, C, L, M, O>|
         requires { Unit {0} }
-        ensures { IsDone W.World A.In.Source A.Out.Sink A.Accept route.entry.now
-            job.old.worker job.new.worker job.new.worked }
+        ensures { IsDone W.World A.In.Source A.Out.Sink A.Accept B.Watched route.entry.now most
+            job.old.worker
+            (amounts job.old.fulls.amount job.old.opens.amount job.old.booked.amount)
+            job.new.worker
+            (amounts job.new.fulls.amount job.new.opens.amount job.new.booked.amount)
+            job.new.worked }
     { run(rt, alloc, route, pool, most, job) };
     thread::for_each_mut(rt, jobs, threads, &each);
 }
@@ -71,7 +82,9 @@ pub(crate) fn do_jobs<
     jobs: &mut Vec<Job<B, A, C, L, M, O>>,
 )
     ensures done { AllZip (λ old new.
-        IsDone W.World A.In.Source A.Out.Sink A.Accept route.now old.worker new.worker new.worked)
+        IsDone W.World A.In.Source A.Out.Sink A.Accept B.Watched route.now most
+        old.worker (amounts old.fulls.amount old.opens.amount old.booked.amount)
+        new.worker (amounts new.fulls.amount new.opens.amount new.booked.amount) new.worked)
         jobs.old.items jobs.new.items }
     ensures len { vec_len jobs.new ≡ vec_len jobs.old }
 {

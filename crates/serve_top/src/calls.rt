@@ -43,7 +43,7 @@ pub fn top_serve<
     out: &mut K,
     workers: &mut Vec<Worker<B, A, C>>,
 ) -> Status
-    ensures done { IsDone W.World A.In.Source A.Out.Sink A.Accept words.now
+    ensures done { IsDone W.World A.In.Source A.Out.Sink A.Accept B.Watched words.now
         (file_reads F.Files files.old files.new) (sink_writes K.Sink out.old out.new)
         workers.old.items workers.new.items result }
 {
@@ -74,7 +74,7 @@ fn serve<
     workers: &mut Vec<Worker<B, A, C>>,
 ) -> Status
     requires few { length workers.old.items ≤ 64 }
-    ensures { ServeDone W.World A.In.Source A.Out.Sink A.Accept config.now
+    ensures { ServeDone W.World A.In.Source A.Out.Sink A.Accept B.Watched config.now
         (file_reads F.Files files.old files.new) (sink_writes K.Sink out.old out.new)
         workers.old.items workers.new.items result }
 {
@@ -98,7 +98,7 @@ fn serve_route<
     K: Sink,
 >(rt: &R, alloc: Global, route: &Route, out: &mut K, workers: &mut Vec<Worker<B, A, C>>) -> Status
     requires few { length workers.old.items ≤ 64 }
-    ensures { RouteServed W.World A.In.Source A.Out.Sink A.Accept route.now
+    ensures { RouteServed W.World A.In.Source A.Out.Sink A.Accept B.Watched route.now
         (sink_writes K.Sink out.old out.new) workers.old.items workers.new.items result }
 {
     let before = listed(workers);
@@ -123,8 +123,8 @@ fn serve_over_pool<
     A: Accept<In: Send, Out: Send> + Drop + Send,
     C: Clock + Drop + Send,
 >(rt: &R, alloc: Global, route: &Route, workers: &mut Vec<Worker<B, A, C>>) -> Worked
-    ensures served { HaveServed W.World A.In.Source A.Out.Sink A.Accept route.now
-        workers.old.items workers.new.items result }
+    ensures served { HaveServed W.World A.In.Source A.Out.Sink A.Accept B.Watched route.now
+        route.now.pool.max_sessions workers.old.items workers.new.items result }
     ensures len { length workers.new.items ≡ length workers.old.items }
 {
     let numbers = route.parts().pool;

@@ -1,4 +1,6 @@
 use Rattle.std.proofs.Common.{rules, arith, ◌∙◌}
+use Rattle.serve_threads.specs.steps.Jobs.{amounts}
+use Rattle.serve_threads.proofs.Lists.{all-push}
 use Rattle.serve_threads.proofs.MovedOver.{moved_over}
 use Rattle.serve_threads.proofs.moving.make_jobs.Goals as goal
 
@@ -9,6 +11,8 @@ loop-worker-preserved g c =
       moved = moved_over (λ j. j.worker) _ _ _ _ _ c.in-Some.ensures.items c.push_reserved.ensures.items ∙ c.loop-worker.invariant.moved;
       room = omega (arith, len);
       kept = search rules;
+      nothing = all-push _ _ _ _ c.push_reserved.ensures.items c.loop-worker.invariant.nothing
+          (λ i. amounts (c.split_off-in-Some.ensures.amount i) (c.split_off-in-Some-2.ensures.amount i) (c.split_off.ensures.amount i));
       amounts = search rules;
       booked_parts = omega (arith, len);
       fulls_parts = omega (arith, len);

@@ -1,13 +1,22 @@
+use Rattle.std.proofs.Common.{◌≡◌, arith}
+use Rattle.serve_threads.specs.steps.Jobs.{amounts}
+use Rattle.serve_threads.proofs.Dialled.{full-as, summed}
 use Rattle.serve_threads.proofs.Together.{have-served, same-workers}
 use Rattle.serve_threads.proofs.serving.serve_over.Goals as goal
 
 pub returns : goal.returns
-returns g c = record {
-  served = have-served g.W.World g.A.In.Source g.A.Out.Sink g.A.Accept c.args.route.now (λ j. j.worker) (λ j. j.worked) _ _ _ _ _ _
-      c.in-Ok.ensures.moved c.in-Ok.ensures.left c.take_back.ensures.moved (rw c.as_slice.ensures.value at c.worst-worked.ensures) c.do_jobs.ensures.done;
-}
+returns g c =
+    let most : c.audit.new.most.amount ≡ c.args.most = omega arith in record {
+      served = have-served g.W.World g.A.In.Source g.A.Out.Sink g.A.Accept g.B.Watched c.args.route.now c.args.most (λ j. j.worker)
+          (λ j. amounts j.fulls.amount j.opens.amount j.booked.amount) (λ j. j.worked) _ _ _ _ _ _
+          c.in-Ok.ensures.moved c.in-Ok.ensures.left c.take_back.ensures.moved (rw c.as_slice.ensures.value at c.worst-worked.ensures)
+          c.in-Ok.ensures.nothing (omega arith)
+          (full-as most (summed c.audit.ensures.fulls.1 c.take_back.ensures.fulls c.in-Ok.ensures.none.1)
+          (summed c.audit.ensures.opens.1 c.take_back.ensures.opens c.in-Ok.ensures.none.2) c.audit.ensures.full_opens)
+          c.do_jobs.ensures.done;
+    }
 
 pub returns-in_default : goal.returns-in_default
 returns-in_default g c = record {
-  served = same-workers g.W.World g.A.In.Source g.A.Out.Sink g.A.Accept c.args.route.now _ _ c.in_default.ensures.err;
+  served = same-workers g.W.World g.A.In.Source g.A.Out.Sink g.A.Accept g.B.Watched c.args.route.now c.args.most _ _ c.in_default.ensures.err;
 }

@@ -1,10 +1,12 @@
 use denote.Param.{param}
 use mir.Syntax.{of_param}
-use Rattle.std.proofs.Common.{refl, sym}
+use Rattle.std.proofs.Common.{refl, subst, sym}
 use Rattle.std.proofs.lemmas.List.Elements.{length_all_zip}
 use Rattle.pool_keys.specs.contracts.digest.KeyDigest as key_digest
 use Rattle.pool_keys.specs.contracts.digest.KeyDigestDigest.TheImpl as digest
 use Rattle.pool_crossing.proofs.Crosses.{indexed_send, unseen_quiet}
+use Rattle.route_config.specs.declared.route.Route.{Route}
+use Rattle.serve_threads.specs.Serving.{HaveServed}
 use Rattle.serve_top.proofs.calls.serve_over_pool.Goals as goal
 
 pub serve_all-requires-send-P : goal.serve_all-requires-send-P
@@ -20,6 +22,10 @@ serve_all-requires-clause-new g c κs within = rw c.after-pool.ensures refl
 
 pub returns : goal.returns
 returns g c = record {
-  served = c.serve_all.ensures.served;
+  served = subst
+      (λ (r : Route).
+      HaveServed g.W.World g.A.In.Source g.A.Out.Sink g.A.Accept g.B.Watched c.args.route.now r.pool.max_sessions
+      c.args.workers.now.items c.serve_all.new.workers.items c.serve_all.result)
+      c.parts.ensures.same c.serve_all.ensures.served;
   len = sym (length_all_zip _ _ _ c.serve_all.ensures.served.each);
 }
