@@ -118,6 +118,14 @@ fn the_details_of_a_surrogate_are_escaped_twice_under_string(rt: HostRuntime) ->
 }
 
 #[test]
+fn a_record_that_is_none_of_the_schema_is_a_diagnostic(rt: HostRuntime) -> Result<(), Fail> {
+    let alloc = rt.alloc();
+    let items = one(alloc, SruItem::Fault(diag(alloc, 67, b"")?))?;
+    assert!(rt; tells(alloc, &answer(alloc, false, 3, items)?, NOT_IN_SCHEMA)?);
+    Ok(())
+}
+
+#[test]
 fn replies_without_a_body(rt: HostRuntime) -> Result<(), Fail> {
     let alloc = rt.alloc();
     for (refusal, octets) in [
@@ -157,6 +165,10 @@ const PACKED: &[u8] =
 /// The last record, a diagnostic under xml.
 const SURROGATE: &[u8] =
     b"HTTP/1.1 200 OK\r\nContent-Type: text/xml; charset=utf-8\r\nContent-Length: 650\r\nConnection: close\r\n\r\n<?xml version=\"1.0\" encoding=\"UTF-8\"?><zs:searchRetrieveResponse xmlns:zs=\"http://www.loc.gov/zing/srw/\"><zs:version>1.2</zs:version><zs:numberOfRecords>3</zs:numberOfRecords><zs:records><zs:record><zs:recordSchema>info:srw/schema/1/diagnostics-v1.1</zs:recordSchema><zs:recordPacking>xml</zs:recordPacking><zs:recordData><diag:diagnostic xmlns:diag=\"http://www.loc.gov/zing/srw/diagnostic/\"><diag:uri>info:srw/diagnostic/1/1</diag:uri><diag:details>a &amp; b</diag:details><diag:message>General system error</diag:message></diag:diagnostic></zs:recordData><zs:recordPosition>3</zs:recordPosition></zs:record></zs:records></zs:searchRetrieveResponse>";
+
+/// The last record, which is none of the schema.
+const NOT_IN_SCHEMA: &[u8] =
+    b"HTTP/1.1 200 OK\r\nContent-Type: text/xml; charset=utf-8\r\nContent-Length: 628\r\nConnection: close\r\n\r\n<?xml version=\"1.0\" encoding=\"UTF-8\"?><zs:searchRetrieveResponse xmlns:zs=\"http://www.loc.gov/zing/srw/\"><zs:version>1.2</zs:version><zs:numberOfRecords>3</zs:numberOfRecords><zs:records><zs:record><zs:recordSchema>info:srw/schema/1/diagnostics-v1.1</zs:recordSchema><zs:recordPacking>xml</zs:recordPacking><zs:recordData><diag:diagnostic xmlns:diag=\"http://www.loc.gov/zing/srw/diagnostic/\"><diag:uri>info:srw/diagnostic/1/67</diag:uri><diag:message>Record not available in this schema</diag:message></diag:diagnostic></zs:recordData><zs:recordPosition>3</zs:recordPosition></zs:record></zs:records></zs:searchRetrieveResponse>";
 
 /// The last record, a diagnostic under string.
 const PACKED_SURROGATE: &[u8] =
