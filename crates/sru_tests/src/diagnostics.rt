@@ -6,11 +6,6 @@ use std::test::Fail;
 use z_bib1::sru_of_diag;
 use z_types::{Diag, Memory, Oid, Text};
 
-/// The diagnostics of bib-1, and those of the general set.
-const BIB1: &[u32] = &[1, 2, 840, 10003, 4, 1];
-
-const GENERAL: &[u32] = &[1, 2, 840, 10003, 4, 2];
-
 /// Conditions of bib-1 that targets and the gateway give, each with the diagnostic of SRU that it is told as.
 const TOLD_AS: &[(u32, u32)] = &[
     (2, 2),
@@ -35,21 +30,39 @@ const TOLD_AS: &[(u32, u32)] = &[
     (239, 67),
 ];
 
+/// The set of bib-1.
+fn bib1(alloc: Global) -> Result<Oid, Memory> {
+    Oid::copy_of(alloc, &[1, 2, 840, 10003, 4, 1])
+}
+
+/// The general set.
+fn general(alloc: Global) -> Result<Oid, Memory> {
+    Oid::copy_of(alloc, &[1, 2, 840, 10003, 4, 2])
+}
+
 /// What a condition of a set is told as.
-fn told_as(alloc: Global, set: &[u32], condition: u32) -> Result<u32, Memory> {
-    Ok(sru_of_diag(&Diag {
-        set: Oid::copy_of(alloc, set)?,
+fn told_as(alloc: Global, set: Oid, condition: u32) -> u32 {
+    sru_of_diag(&Diag {
+        set,
         condition,
         addinfo: Text::new(alloc),
-    }))
+    })
 }
 
 #[test]
 fn a_condition_is_told_by_its_number_where_it_is_of_bib1(rt: HostRuntime) -> Result<(), Fail> {
     let alloc = rt.alloc();
     for (condition, number) in TOLD_AS {
-        assert_eq!(rt; told_as(alloc, BIB1, *condition)?, *number, "{condition}");
-        assert_eq!(rt; told_as(alloc, GENERAL, *condition)?, 1, "{condition}");
+        assert_eq!(rt;
+            told_as(alloc, bib1(alloc)?, *condition),
+            *number,
+            "{condition}"
+        );
+        assert_eq!(rt;
+            told_as(alloc, general(alloc)?, *condition),
+            1,
+            "{condition}"
+        );
     }
     Ok(())
 }
