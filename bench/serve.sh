@@ -23,20 +23,13 @@ missed=0
 trap 'kill $(jobs -p) 2>/dev/null; rm -rf "$room"' EXIT
 
 for tool in zload zfloor; do
-    cc -O2 -Wall -pthread -o "$room/$tool" "$here/bench/serve/$tool.c" || exit 1
+    cc -O2 -pthread -o "$room/$tool" "$here/bench/serve/$tool.c" || exit 1
 done
-cat >"$room/route" <<END
-[[target]]
-name = "demo"
-address = "test:0"
+cp "$here/examples/first.toml" "$room/demo"
+{ cat "$room/demo"; cat <<END; } >"$room/route"
 [[target]]
 name = "floor"
 address = "tcp:127.0.0.1:$floor"
-[[database]]
-name = "Default"
-[[database.leg]]
-via = "demo"
-databases = ["Default"]
 [[database]]
 name = "Floor"
 [[database.leg]]
@@ -48,7 +41,7 @@ END
 mapfile -t session <"$units"
 answered() { # the octets that a client is answered to these
     { for unit in "$@"; do echo "feed 1 $unit"; done; echo "run 1"; } >"$room/script"
-    "$gateway" replay "$room/route" "$room/script" | sed -n 's/^bytes //p'
+    "$gateway" replay "$room/demo" "$room/script" | sed -n 's/^bytes //p'
 }
 replies=() all=
 for count in 1 2 3 4; do
@@ -73,6 +66,7 @@ yaz-ztest -v none "@:$forks" 2>/dev/null &
 "$gateway" serve "$room/route" "$port" 64 --quiet >"$room/out" 2>"$room/log" &
 served=$!
 for at in "$floor" "$static" "$threads" "$forks" "$port"; do waits "$at"; done
+[ "${#replies[3]}" -gt 0 ] && [ -n "$page" ] || { echo 'the gateway answered no whole session' >&2; exit 1; }
 
 # ---- rates
 # The processor time of the gateway so far, in microseconds.

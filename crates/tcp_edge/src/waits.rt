@@ -26,26 +26,27 @@ impl Awaited {
         }
     }
 
-    /// Whether a socket may have octets, an end or an error to give. Where it has none yet and looks have
-    /// come round to it, it waits until one of those that are awaited has, at most so many milliseconds.
-    /// Where another is awaited and this one is not, it is awaited from now on, and nothing waits.
+    /// Whether a socket may have octets, an end or an error to give. Where looks have come round to it, or
+    /// none is awaited, it waits until one of them has, at most so many milliseconds. Where others are
+    /// awaited and this one is not, and has nothing yet, it is awaited from now on, and nothing waits.
     pub(crate) fn may_give(&mut self, stream: &TcpStream, milliseconds: i32) -> bool {
         let socket = stream.as_raw_fd();
-        if gives(socket) {
+        if self.awaits_others(socket) {
+            if gives(&alone(socket), socket, 0) {
+                return true;
+            }
+            if self.replace(NONE, socket) {
+                return false;
+            }
+        }
+        self.replace(NONE, socket);
+        let given = gives(&self.sockets, socket, milliseconds);
+        if given {
             self.replace(socket, NONE);
-            return true;
+        } else {
+            self.sockets = alone(socket);
         }
-        let is_new = self.awaits_others(socket);
-        if self.replace(NONE, socket) && is_new {
-            return false;
-        }
-        wait(&self.sockets, milliseconds);
-        self.sockets = [NONE; MOST];
-        if gives(socket) {
-            return true;
-        }
-        self.sockets[0] = socket;
-        false
+        given
     }
 
     /// Whether others are awaited and this one is not.
@@ -72,6 +73,13 @@ impl Awaited {
     }
 }
 
+/// One socket.
+fn alone(socket: i32) -> [i32; MOST] {
+    let mut sockets = [NONE; MOST];
+    sockets[0] = socket;
+    sockets
+}
+
 /// What is asked of a socket: whether it may be read.
 fn asked(socket: i32) -> pollfd {
     pollfd {
@@ -81,15 +89,16 @@ fn asked(socket: i32) -> pollfd {
     }
 }
 
-/// Whether a socket has octets, an end or an error to give now.
-fn gives(socket: i32) -> bool {
-    let mut asked = [asked(socket)];
-    poll(&mut asked, 0) > 0
-}
-
-/// Waits until one of these sockets has something to give, at most so many milliseconds. A timeout of a
-/// socket's own is rounded up to the ticks of the system.
-fn wait(sockets: &[i32; MOST], milliseconds: i32) {
+/// Waits until one of these sockets has octets, an end or an error to give, at most so many milliseconds,
+/// and tells whether one among them has. A timeout of a socket's own is rounded up to the ticks of the
+/// system.
+fn gives(sockets: &[i32; MOST], socket: i32, milliseconds: i32) -> bool {
     let mut all = sockets.map(asked);
     let _ = poll(&mut all, milliseconds);
+    for one in &all {
+        if one.fd == socket && one.revents != 0 {
+            return true;
+        }
+    }
+    false
 }
