@@ -1,0 +1,3 @@
+pub mod CountLemmas
+pub mod PoolLemmas
+pub mod LegLemmas
