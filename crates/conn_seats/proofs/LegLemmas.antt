@@ -418,7 +418,7 @@ module _ {S : Type 0} where
   seat-lost own others None h = absurd h
   seat-lost own others (Some p) h = lost-seat-out own others p h
 
-  gave-up : (task : Task) (phase : Phase S) → Keeps task None (given_up phase)
+  pub gave-up : (task : Task) (phase : Phase S) → Keeps task None (given_up phase)
   gave-up task Begin = kept task None _ refl tt
   gave-up task (Dialling seat member) = kept task None _ refl tt
   gave-up task (Dialled held looks) = kept task None _ refl tt

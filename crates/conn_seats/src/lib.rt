@@ -3,5 +3,11 @@
 #![tactic(auto)]
 
 mod laws;
+#[cfg(test)]
+mod tests;
 
-pub use laws::{legs_give_back, turns_keep_seats};
+pub use laws::{
+    begun_holds_none, connections_give_back, goes_parted, legs_give_back, out_once,
+    packages_give_back, packages_keep_seats, runs_alone_give_back, runs_give_back,
+    steps_keep_seats, steps_leave_others, turns_keep_seats,
+};

@@ -1,5 +1,5 @@
 -- For contracts alone: each seat that a connection held is given back (this project's own). All of it holds at want of memory too
-use Rattle.std.specs.Prelude.{◌≡◌, ℕ, ◌+◌, Bool, List, ◌++◌, Option, option_map}
+use Rattle.std.specs.Prelude.{◌≡◌, ℕ, ◌+◌, ◌≤◌, Bool, List, ◌++◌, Option, option_map}
 use Rattle.z_types.specs.declared.sitting.Sitting as sitting
 use Rattle.z_types.specs.declared.work.Work.{Work}
 use Rattle.z_types.specs.declared.world.World as world
@@ -25,6 +25,12 @@ use Rattle.front_conn.specs.steps.States.{ConnectionState, IsConnOf}
 use Rattle.front_conn.specs.steps.Steps.{IsStepped}
 use Rattle.conn_seats.specs.steps.Seats.{AreHeld, AreHeldOn, AreOutOf, DoesItsTask, held_at, held_in, no_seat, out_of}
 use Rattle.conn_seats.specs.steps.Through.{GoesAlone, GoesAmong, GoesThrough, IsParted, Point, at_first, last_of}
+
+-- ---- a seat
+
+-- a seat is out of a pool once at most, where its numbers ascend
+abbrev pub OutOnce : (S : Type 0) → Type 0
+OutOnce S = (pool : Pool S) (seat : Seat) → Ascends 0 pool.given pool.sessions → out_of pool seat ≤ 1
 
 -- ---- a leg
 
@@ -97,15 +103,15 @@ ConnectionsGiveBack S =
 
 -- ---- all that a connection goes through
 
+-- the pool of a point, once the connection is given up there
+abbrev pub pool_behind : {S : Type 0} → Point S → Pool S
+pool_behind point = lost_seats (legs_in point.state.in_work) point.pool
+
 module _ {W S : Type 0} (w : world.Ghosts W) (t : sitting.Ghosts S W) where
   abbrev pub GoesParted : Type 0
   GoesParted =
       (exact : Bool) (route : Route) (start : Point S) (points : List (Point S))
       → GoesThrough (GoesAmong w t exact route) start points → IsParted start → IsParted (last_of start points)
-
-  -- the pool behind all of it, and behind its `give_up`
-  abbrev pub pool_behind : Point S → Pool S
-  pool_behind point = lost_seats (legs_in point.state.in_work) point.pool
 
   -- a new connection among others that is given up in the end: what is out then is what is out for others
   abbrev pub RunsGiveBack : Type 0
