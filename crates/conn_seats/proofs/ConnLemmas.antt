@@ -1,5 +1,5 @@
 -- A connection: each seat that is out is held by a leg of its request in work, or is out for others
-use Rattle.std.proofs.Common.{◌≡◌, ◌∙◌, ◌⊎◌, ℕ, ◌+◌, Bool, inl, inr, All, List, [], ◌∷◌, ◌++◌, Option, None, Some, option_map, Result, Ok, Err, refl, sym, ap, subst, arith}
+use Rattle.std.proofs.Common.{◌≡◌, ◌∙◌, ◌⊎◌, ℕ, ◌+◌, Bool, inl, inr, List, [], ◌∷◌, ◌++◌, Option, None, Some, option_map, Result, Ok, Err, refl, sym, ap, subst, arith}
 use Rattle.std.specs.Prelude.{IfSome}
 use Rattle.std.proofs.lemmas.List.Elements.{All-head, All-tail}
 use Rattle.z_types.specs.declared.marks.End.{End}
@@ -31,7 +31,7 @@ use Rattle.front_conn.specs.steps.Answering.{AnsweringState, EndsAt, IsKeptBehin
 use Rattle.front_conn.specs.steps.Feeding.{without_work}
 use Rattle.front_conn.specs.steps.States.{ConnectionState, IsConnOf}
 use Rattle.front_conn.specs.steps.Steps.{EndsByRest, GoesAhead, StepsFrom, TakesHead, TakesUnit, answering_of}
-use Rattle.conn_seats.specs.steps.Seats.{AreHeld, AreHeldOn, AreOutOf, DoesItsTask, held_at, held_in, no_seat}
+use Rattle.conn_seats.specs.steps.Seats.{AreHeld, AreHeldOn, AreOutOf, held_at, held_in, no_seat}
 use Rattle.conn_seats.proofs.LegLemmas.{Keeps}
 use Rattle.conn_seats.proofs.PackageLemmas.{HoldNone, append-none, beside, first-seat, held-none, new-none, no-legs, none-held, of-as, package-keeps, seats-lost}
 
@@ -65,10 +65,10 @@ module _ {S : Type 0} where
       record {
         tasks = (k.does, rest.tasks);
         none = λ seat.
-          let e = first-seat leg legs seat in
-          let own : ◌≡◌ {A = ℕ} (held_at (seat_of leg.phase) seat) 0 = ap (λ o. held_at o seat) k.seat in
-          let others = rest.none seat in
-          omega (arith, e, own, others);
+            let e = first-seat leg legs seat in
+            let own : ◌≡◌ {A = ℕ} (held_at (seat_of leg.phase) seat) 0 = ap (λ o. held_at o seat) k.seat in
+            let others = rest.none seat in
+            omega (arith, e, own, others);
       }
 
   over-none : (view : PackageView S) → IsOver view → HoldNone (view.first ++ view.later)

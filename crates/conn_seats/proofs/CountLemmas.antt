@@ -1,5 +1,5 @@
 -- How often a seat is out of a list of sessions, where the list is changed as the plain pool changes it
-use Rattle.std.proofs.Common.{◌≡◌, ◌==◌, ◌&&◌, ◌∙◌, ℕ, ◌+◌, ◌<◌, ◌≤◌, Bool, true, false, not, cond, List, [], ◌∷◌, ◌++◌, map, filter, Option, None, Some, count_by, refl, sym, ap, subst, arith, nat_eq}
+use Rattle.std.proofs.Common.{◌≡◌, ◌==◌, ◌&&◌, ◌∙◌, ℕ, ◌+◌, ◌<◌, ◌≤◌, Bool, true, false, not, cond, List, [], ◌∷◌, ◌++◌, map, filter, Option, None, Some, count_by, refl, sym, ap, subst, arith}
 use Rattle.std.specs.Option.{option_or}
 use Rattle.std.specs.Cmp.{nat_eq_equiv}
 use Rattle.std.proofs.lemmas.Bool.{eqb-true}
@@ -71,9 +71,6 @@ and-false false = refl
 pub and-true : (b : Bool) → (b && true) ≡ b
 and-true true = refl
 and-true false = refl
-
-pub same-refl : (seat : Seat) → is_same seat seat ≡ true
-same-refl seat = rw (nat_eq_equiv.refl seat.number, nat_eq_equiv.refl seat.class) refl
 
 -- one seat
 pub same-is : (seat other : Seat) → is_same seat other ≡ true → seat ≡ other
@@ -254,11 +251,12 @@ module _ {S : Type 0} where
     -- the first session, where it is lent
     first-lent : (o : Session S) (y : Y) (seat : Seat) → (o.number ≡ num y) × (o.class ≡ class) × (is_out o.stand ≡ false)
         → (is_seat seat (with_stand (Out address) o) ≡ is_same (own_seat y) seat) × (is_seat seat o ≡ false)
-    first-lent o y seat f =
-        (and-true ((o.number == seat.number) && (o.class == seat.class))
-        ∙ (λ i. (f.0 i == seat.number) && (f.1 i == seat.class)),
-        ap (λ (x : Bool). ((o.number == seat.number) && (o.class == seat.class)) && x) f.2
-        ∙ and-false ((o.number == seat.number) && (o.class == seat.class)))
+    first-lent o y seat f = (
+      and-true ((o.number == seat.number) && (o.class == seat.class))
+          ∙ (λ i. (f.0 i == seat.number) && (f.1 i == seat.class)),
+      ap (λ (x : Bool). ((o.number == seat.number) && (o.class == seat.class)) && x) f.2
+          ∙ and-false ((o.number == seat.number) && (o.class == seat.class)),
+    )
 
     -- its seat is out then, and no other
     pub lent-out : (m n : ℕ) (os : List (Session S)) (y : Y) (seat : Seat) → Ascends m n os → first_some h os ≡ Some y

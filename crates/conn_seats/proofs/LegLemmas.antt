@@ -1,6 +1,5 @@
 -- One turn of a leg: each seat that is out is its own, or is out for others
-use Rattle.std.proofs.Common.{◌≡◌, ◌∙◌, ℕ, ◌+◌, ◌-◌, Bool, true, false, cond, List, [], ◌∷◌, ◌++◌, length, Option, None, Some, option_map, refl, sym, ap, subst, nat_lt, nat_le}
-use Rattle.std.specs.Prelude.{if◌then◌else◌}
+use Rattle.std.proofs.Common.{◌≡◌, ℕ, ◌+◌, ◌-◌, Bool, true, false, cond, List, [], ◌++◌, length, Option, None, Some, option_map, refl, sym, subst, nat_lt, nat_le}
 use Rattle.z_types.specs.declared.ask.Ask.{Ask}
 use Rattle.z_types.specs.declared.key.SetKey.{SetKey}
 use Rattle.z_types.specs.declared.marks.Mark.TheVariants as mark
@@ -10,19 +9,18 @@ use Rattle.z_types.specs.declared.world.World as world
 use Rattle.gw_outside.specs.declared.backends.Opening.TheVariants as opening
 use Rattle.gw_outside.specs.declared.backends.Began.{Began}
 use Rattle.gw_outside.specs.declared.backends.Began.TheVariants as start
-use Rattle.gw_outside.specs.declared.backends.Heard.{Heard}
 use Rattle.gw_outside.specs.declared.backends.Heard.TheVariants as look
-use Rattle.pool_sets.specs.Doors.{HasWanted, TakenFits, Takes}
-use Rattle.pool_sets.specs.Plain.{Pool, expire, lost, put, redial, take_of}
+use Rattle.pool_sets.specs.Doors.{TakenFits, Takes}
+use Rattle.pool_sets.specs.Plain.{Pool, take_of}
 use Rattle.pool_sets.specs.Table.{after_forget}
 use Rattle.pool_sets.specs.declared.doors.Seat.{Seat}
 use Rattle.pool_sets.specs.declared.doors.Taken.{Taken}
 use Rattle.pool_sets.specs.declared.doors.Taken.TheVariants as taken
 use Rattle.leg.specs.Deeds.{BackendView, Deed, took, opened, began, heard, put_back, gave_up, redialled, no_memory, nothing}
 use Rattle.leg.specs.Phases.{given_up, hold, replied, seat_of, with_sets, with_session}
-use Rattle.leg.specs.Rules.{Ends, Lack, after_fault, after_first, after_take, answer_of, gone_again, lack_of, left_by, never, always, out_of_range, perhaps, next, next_ask, recorded, spoiled, unless_silent, with_items, with_set}
+use Rattle.leg.specs.Rules.{Ends, Lack, after_fault, after_first, after_take, answer_of, gone_again, lack_of, left_by, never, always, out_of_range, perhaps, next, next_ask, recorded, unless_silent, with_items, with_set}
 use Rattle.leg.specs.Tasks.{want_of}
-use Rattle.leg.specs.Terms.{Terms, opened_at}
+use Rattle.leg.specs.Terms.{Terms}
 use Rattle.leg.specs.Turns.{DoorView, GivesUp, IsAskedIf, IsDue, IsTurn, PoolMoves, lost_seat}
 use Rattle.leg.specs.declared.accounts.Account.{Account}
 use Rattle.leg.specs.declared.answers.LegAnswer.TheVariants as answer
@@ -33,9 +31,8 @@ use Rattle.leg.specs.declared.phases.Phase.{Phase}
 use Rattle.leg.specs.declared.phases.Phase.TheVariants.{Begin, Dialling, Dialled, Ready, Searching, Presenting, Fetching, Scanning, Returning, Losing, Redialling, Spoiled, Done, Ended}
 use Rattle.leg.specs.declared.tasks.Task.{Task}
 use Rattle.leg.specs.declared.tasks.Task.TheVariants.{Hits, Records, Scan}
-use Rattle.conn_seats.specs.steps.Laws.{IsHeld}
-use Rattle.conn_seats.specs.steps.Seats.{AreOut, AreOutOf, DoesItsTask, held_at, no_seat}
-use Rattle.conn_seats.proofs.PoolLemmas.{IsGiven, expire-out, lose-out, lost-seat-out, put-back-out, redial-out, seat_in, take-given}
+use Rattle.conn_seats.specs.steps.Seats.{AreOut, AreOutOf, DoesItsTask, IsHeld, held_at, no_seat}
+use Rattle.conn_seats.proofs.PoolLemmas.{expire-out, lose-out, lost-seat-out, put-back-out, redial-out, seat_in, take-given}
 
 -- ---- where a leg keeps its seat
 
@@ -192,18 +189,22 @@ module _ {W S : Type 0} (w : world.Ghosts W) (t : sitting.Ghosts S W) (terms : T
   take-both : (answer : Taken S) → TakenFits w t terms.at (want_of task) most answer
       → Takes (Some p) behind terms.class terms.at (want_of task) now answer → AreOut no_seat others p → Both Begin (took answer)
   take-both (taken.Reuse seat parts slot hits) d k h =
-      let there = took-out (taken.Reuse seat parts slot hits) behind k h in
-      (holds (Some seat) _ (set-keeps task (hold seat parts true) [] slot hits (given-set w t task terms.at most seat parts slot hits d)) there,
-      λ x. holds (Some seat) (Spoiled seat) (kept task (Some seat) (Spoiled seat) refl tt) there)
-  take-both (taken.Fresh seat parts) d k h =
-      (holds (Some seat) _ (kept task (Some seat) (Ready (hold seat parts true) []) refl tt) (took-out (taken.Fresh seat parts) behind k h),
-      λ x. absurd (x refl))
-  take-both (taken.Dial seat member) d k h =
-      (holds (Some seat) _ (kept task (Some seat) (Dialling seat member) refl tt) (took-out (taken.Dial seat member) behind k h),
-      λ x. absurd (x refl))
-  take-both (taken.Full open_) d k h =
-      (holds None _ (kept task None (after_take task (taken.Full open_)) refl tt) (took-out (taken.Full open_) behind k h),
-      λ x. absurd (x refl))
+      let there = took-out (taken.Reuse seat parts slot hits) behind k h in (
+        holds (Some seat) _ (set-keeps task (hold seat parts true) [] slot hits (given-set w t task terms.at most seat parts slot hits d)) there,
+        λ x. holds (Some seat) (Spoiled seat) (kept task (Some seat) (Spoiled seat) refl tt) there,
+      )
+  take-both (taken.Fresh seat parts) d k h = (
+    holds (Some seat) _ (kept task (Some seat) (Ready (hold seat parts true) []) refl tt) (took-out (taken.Fresh seat parts) behind k h),
+    λ x. absurd (x refl),
+  )
+  take-both (taken.Dial seat member) d k h = (
+    holds (Some seat) _ (kept task (Some seat) (Dialling seat member) refl tt) (took-out (taken.Dial seat member) behind k h),
+    λ x. absurd (x refl),
+  )
+  take-both (taken.Full open_) d k h = (
+    holds None _ (kept task None (after_take task (taken.Full open_)) refl tt) (took-out (taken.Full open_) behind k h),
+    λ x. absurd (x refl),
+  )
   take-both taken.Memory d k h =
       let there = took-out taken.Memory behind k h in
       (holds None Begin (kept task None Begin refl tt) there, λ x. holds None Begin (kept task None Begin refl tt) there)
@@ -400,7 +401,7 @@ module _ {W S : Type 0} (w : world.Ghosts W) (t : sitting.Ghosts S W) where
   turn-told exact terms task now old new a b answer door after backend moved others None e h held = absurd held.out
   turn-told exact terms task now old new a b answer door after backend moved others (Some p) e h held =
       let both = deed-both w t terms door.counts.most task now b.gones others p after.pool old h.deed h.due held.tasks
-          (subst (λ (q : Option (Pool S)). PoolMoves terms task now old h.deed q after.pool) e h.pool) held.out in
+      (subst (λ (q : Option (Pool S)). PoolMoves terms task now old h.deed q after.pool) e h.pool) held.out in
       ends-held w t task others after.pool (lack_of h.deed) _ _ new (answer_of h.deed new) answer both.0 both.1 h.goes
 
   pub turn-keeps : (exact : Bool) (terms : Terms) (task : Task) (now : ℕ) (old new : Phase S) (a b : Account) (answer : Turned)

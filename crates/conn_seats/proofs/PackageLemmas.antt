@@ -1,6 +1,6 @@
 -- The legs of a request: each seat that is out is held by one of them, or is out for others
-use Rattle.std.proofs.Common.{◌≡◌, ◌∙◌, ℕ, ◌+◌, Bool, true, false, List, [], ◌∷◌, ◌++◌, map, Option, None, Some, option_map, refl, sym, ap, subst, arith}
-use Rattle.std.specs.List.{AllByRecursion, sum_by}
+use Rattle.std.proofs.Common.{◌≡◌, ℕ, ◌+◌, Bool, true, false, List, [], ◌∷◌, ◌++◌, map, Option, None, Some, option_map, refl, sym, ap, subst, arith}
+use Rattle.std.specs.List.{AllByRecursion}
 use Rattle.std.proofs.lemmas.List.Sums.{sum_by-append, sum_by-cons}
 use Rattle.z_types.specs.declared.sitting.Sitting as sitting
 use Rattle.z_types.specs.declared.work.Work.{Work}
@@ -22,8 +22,7 @@ use Rattle.package.specs.declared.turning.Round.{Round}
 use Rattle.package.specs.steps.Ends.{gave_all_up, gave_up, lost_seats}
 use Rattle.package.specs.steps.Packages.{AsksSo, IsPlanned, PackageView, answers_of, begun, new_package}
 use Rattle.package.specs.steps.Turns.{GoesOn, HadTurn, HasTurned, HaveTurned, IsPackageTurn, Plans, TakesTurn, all_done, no_round}
-use Rattle.conn_seats.specs.steps.Laws.{IsHeld}
-use Rattle.conn_seats.specs.steps.Seats.{AreHeld, AreOut, AreOutOf, DoesItsTask, held_at, held_in, no_seat}
+use Rattle.conn_seats.specs.steps.Seats.{AreHeld, AreOut, AreOutOf, DoesItsTask, IsHeld, held_at, held_in, no_seat}
 use Rattle.conn_seats.proofs.PoolLemmas.{lost-seat-out, out-as}
 use Rattle.conn_seats.proofs.LegLemmas.{gave-up, turn-keeps}
 
@@ -56,7 +55,7 @@ module _ {S : Type 0} where
   first-held leg legs others pool h = record {
     tasks = h.tasks.0;
     out = of-as (held_in (leg ∷ legs)) others (held_at (seat_of leg.phase)) (beside (held_in legs) others) pool
-      (λ seat. let e = first-seat leg legs seat in omega (arith, e)) h.out;
+        (λ seat. let e = first-seat leg legs seat in omega (arith, e)) h.out;
   }
 
   -- the others, beside the first
@@ -65,7 +64,7 @@ module _ {S : Type 0} where
   rest-held leg legs others pool does h = record {
     tasks = does;
     out = of-as (held_at (seat_of leg.phase)) (beside (held_in legs) others) (held_in legs) (beside (held_at (seat_of leg.phase)) others) pool
-      (λ seat. omega arith) h.out;
+        (λ seat. omega arith) h.out;
   }
 
   -- all of them
@@ -74,7 +73,7 @@ module _ {S : Type 0} where
   all-held leg legs others pool does h = record {
     tasks = (does, h.tasks);
     out = of-as (held_in legs) (beside (held_at (seat_of leg.phase)) others) (held_in (leg ∷ legs)) others pool
-      (λ seat. let e = first-seat leg legs seat in omega (arith, e)) h.out;
+        (λ seat. let e = first-seat leg legs seat in omega (arith, e)) h.out;
   }
 
   -- ---- two parts
@@ -96,7 +95,7 @@ module _ {S : Type 0} where
   front-held front legs others pool h = record {
     tasks = front-tasks front legs h.tasks;
     out = of-as (held_in (front ++ legs)) others (held_in front) (beside (held_in legs) others) pool
-      (λ seat. let e = both-seats front legs seat in omega (arith, e)) h.out;
+        (λ seat. let e = both-seats front legs seat in omega (arith, e)) h.out;
   }
 
   back-held : (front legs : List (LegView S)) (others : Seat → ℕ) (pool : Option (Pool S)) → AreHeld (front ++ legs) others pool
@@ -104,7 +103,7 @@ module _ {S : Type 0} where
   back-held front legs others pool h = record {
     tasks = back-tasks front legs h.tasks;
     out = of-as (held_in (front ++ legs)) others (held_in legs) (beside (held_in front) others) pool
-      (λ seat. let e = both-seats front legs seat in omega (arith, e)) h.out;
+        (λ seat. let e = both-seats front legs seat in omega (arith, e)) h.out;
   }
 
   behind-front : (front legs : List (LegView S)) (others : Seat → ℕ) (pool : Option (Pool S)) → Tasks front
@@ -112,7 +111,7 @@ module _ {S : Type 0} where
   behind-front front legs others pool does h = record {
     tasks = both-tasks front legs does h.tasks;
     out = of-as (held_in legs) (beside (held_in front) others) (held_in (front ++ legs)) others pool
-      (λ seat. let e = both-seats front legs seat in omega (arith, e)) h.out;
+        (λ seat. let e = both-seats front legs seat in omega (arith, e)) h.out;
   }
 
   before-back : (front legs : List (LegView S)) (others : Seat → ℕ) (pool : Option (Pool S)) → Tasks legs
@@ -120,7 +119,7 @@ module _ {S : Type 0} where
   before-back front legs others pool does h = record {
     tasks = both-tasks front legs h.tasks does;
     out = of-as (held_in front) (beside (held_in legs) others) (held_in (front ++ legs)) others pool
-      (λ seat. let e = both-seats front legs seat in omega (arith, e)) h.out;
+        (λ seat. let e = both-seats front legs seat in omega (arith, e)) h.out;
   }
 
   -- ---- legs that hold none
@@ -147,10 +146,10 @@ module _ {S : Type 0} where
       record {
         tasks = (k.does, (gave-none legs).tasks);
         none = λ seat.
-          let e = first-seat (gave_up leg) (map gave_up legs) seat in
-          let rest = (gave-none legs).none seat in
-          let own : held_at (seat_of (gave_up leg).phase) seat ≡ 0 = ap (λ o. held_at o seat) k.seat in
-          omega (arith, e, rest, own);
+            let e = first-seat (gave_up leg) (map gave_up legs) seat in
+            let rest = (gave-none legs).none seat in
+            let own : held_at (seat_of (gave_up leg).phase) seat ≡ 0 = ap (λ o. held_at o seat) k.seat in
+            omega (arith, e, rest, own);
       }
 
   pub append-none : (front legs : List (LegView S)) → HoldNone front → HoldNone legs → HoldNone (front ++ legs)
@@ -180,7 +179,7 @@ module _ {S : Type 0} where
       lost-out legs others (lost_seat (seat_of leg.phase) p) (record {
         tasks = h.tasks.1;
         out = out-as no_seat (beside (held_in legs) others) (held_in legs) others (lost_seat (seat_of leg.phase) p) (λ seat. omega arith)
-          (lost-seat-out (seat_of leg.phase) (beside (held_in legs) others) p (first-held leg legs others (Some p) h).out);
+            (lost-seat-out (seat_of leg.phase) (beside (held_in legs) others) p (first-held leg legs others (Some p) h).out);
       })
 
   pub seats-lost : (legs : List (LegView S)) (others : Seat → ℕ) (before : Option (Pool S)) → AreHeld legs others before
@@ -192,9 +191,11 @@ module _ {S : Type 0} where
       → behind ≡ option_map (lost_seats (view.first ++ view.later)) before → AreHeld (view.first ++ view.later) others before
       → AreHeld ((gave_all_up view).first ++ (gave_all_up view).later) others behind × AreOutOf no_seat others behind
   package-gives-back view before behind others e h =
-      let there = subst (λ (q : Option (Pool S)). AreOutOf no_seat others q) (sym e) (seats-lost (view.first ++ view.later) others before h) in
-      (none-held (map gave_up view.first ++ map gave_up view.later) others behind
-      (append-none (map gave_up view.first) (map gave_up view.later) (gave-none view.first) (gave-none view.later)) there, there)
+      let there = subst (λ (q : Option (Pool S)). AreOutOf no_seat others q) (sym e) (seats-lost (view.first ++ view.later) others before h) in (
+        none-held (map gave_up view.first ++ map gave_up view.later) others behind
+            (append-none (map gave_up view.first) (map gave_up view.later) (gave-none view.first) (gave-none view.later)) there,
+        there,
+      )
 
   -- ---- a package that is begun
 
@@ -229,7 +230,7 @@ module _ {W S : Type 0} (w : world.Ghosts W) (t : sitting.Ghosts S W) (exact : B
   legs-held (old ∷ olds) [] round last door after backend moved others h held = absurd h
   legs-held (old ∷ olds) (new ∷ news) round last door after backend moved others h held =
       let first = turned-held (is_done old.phase) old new round h.next door h.between backend h.amid (beside (held_in olds) others) h.turned
-          (first-held old olds others door.pool held) in
+      (first-held old olds others door.pool held) in
       all-held new news others after.pool first.tasks
       (legs-held olds news h.next last h.between after h.amid moved (beside (held_at (seat_of new.phase)) others) h.others
       (rest-held new olds others h.between.pool held.tasks.1 first))

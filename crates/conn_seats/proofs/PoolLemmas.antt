@@ -1,6 +1,5 @@
 -- What each function of the plain pool leaves out of it
-use Rattle.std.proofs.Common.{◌≡◌, ◌==◌, ◌&&◌, ◌∙◌, ℕ, ◌+◌, ◌<◌, ◌≤◌, Bool, true, false, cond, List, [], ◌∷◌, ◌++◌, map, Option, None, Some, count_by, refl, sym, ap, subst, arith, nat_lt, nat_le}
-use Rattle.std.specs.Prelude.{if◌then◌else◌}
+use Rattle.std.proofs.Common.{◌≡◌, ◌==◌, ◌&&◌, ◌∙◌, ℕ, ◌+◌, ◌≤◌, Bool, true, false, cond, List, [], ◌∷◌, map, Option, None, Some, refl, ap, arith, nat_lt, nat_le}
 use Rattle.std.proofs.lemmas.Bool.{eqb-true}
 use Rattle.z_types.specs.declared.address.Address.{Address}
 use Rattle.z_types.specs.declared.key.SetKey.{SetKey}
@@ -13,12 +12,12 @@ use Rattle.pool_sets.specs.declared.doors.Taken.{Taken}
 use Rattle.pool_sets.specs.declared.doors.Taken.TheVariants.{Reuse, Fresh, Dial, Full, Memory}
 use Rattle.pool_sets.specs.Table.{Entry, set_of}
 use Rattle.pool_sets.specs.Sessions.{Session, Idler, first_some, idle_in, idle_with, idler, in_class, is_among, address_of, is_out, member_for, open_of, with_set, with_stand}
-use Rattle.pool_sets.specs.Plain.{Pool, any_idle, choice, dial_for, expire, fresh_sessions, has_number, idle_again, is_seat, lend_of, lost, one_idle, open_one, out_for, put, redial, redial_at_seat, redial_member, stays_open, take_any, take_of, with_dial, with_fresh_sets, without_seat}
+use Rattle.pool_sets.specs.Plain.{Pool, any_idle, choice, dial_for, expire, has_number, idle_again, is_seat, lost, one_idle, open_one, out_for, put, redial, redial_at_seat, redial_member, stays_open, take_of, with_fresh_sets}
 use Rattle.pool_core.specs.PoolView.{Ascends}
 use Rattle.pool_core.proofs.Ascending.{ascends_filter, ascends_map, ascends_push}
 use Rattle.leg.specs.Turns.{lost_seat}
 use Rattle.conn_seats.specs.steps.Seats.{AreOut, held_at, is_same, no_seat, out_of}
-use Rattle.conn_seats.proofs.CountLemmas.{and-true, count-append, count-cons, expired-out, lent-out, lost-out, once, put-out, redialled-out, same-refl, without}
+use Rattle.conn_seats.proofs.CountLemmas.{and-true, count-append, count-cons, expired-out, lent-out, lost-out, once, put-out, redialled-out, without}
 
 -- ---- who holds it
 
@@ -152,13 +151,13 @@ module _ {S : Type 0} where
     dial-given m = record {
       ascend = ascends_push 0 p.given p.sessions (out_for (p.given + 1) class at m) refl h.ascend;
       each = λ seat.
-        let o = out_for {S = S} (p.given + 1) class at m in
-        let all = count-append (is_seat seat) p.sessions (o ∷ []) in
-        let one = count-cons (is_seat seat) o [] in
-        let own : ◌≡◌ {A = ℕ} (cond (is_seat seat o) 1 0) (cond (is_same (record { class = class; number = p.given + 1 }) seat) 1 0) =
+          let o = out_for {S = S} (p.given + 1) class at m in
+          let all = count-append (is_seat seat) p.sessions (o ∷ []) in
+          let one = count-cons (is_seat seat) o [] in
+          let own : ◌≡◌ {A = ℕ} (cond (is_seat seat o) 1 0) (cond (is_same (record { class = class; number = p.given + 1 }) seat) 1 0) =
           ap (λ (b : Bool). cond b 1 0) (and-true (((p.given + 1) == seat.number) && (class == seat.class))) in
-        let was = h.each seat in
-        omega (arith, all, one, own, was);
+          let was = h.each seat in
+          omega (arith, all, one, own, was);
     }
 
     open-given : IsGiven others (open_one class at p)
@@ -175,8 +174,8 @@ module _ {S : Type 0} where
     any-given (Some i) e = record {
       ascend = lent-ascends i.number (Out i.parts.address) p h.ascend;
       each = λ seat.
-        lends seat _ _
-        (lent-out (idle_in class at) (λ (x : Idler S). x.number) class i.parts.address (any-fits class at) 0 p.given p.sessions i seat h.ascend e);
+          lends seat _ _
+          (lent-out (idle_in class at) (λ (x : Idler S). x.number) class i.parts.address (any-fits class at) 0 p.given p.sessions i seat h.ascend e);
     }
 
     one-given : (key : SetKey) (now : ℕ) (i : Option (Idler S × Entry)) → first_some (idle_with class at key) p.sessions ≡ i
@@ -185,9 +184,9 @@ module _ {S : Type 0} where
     one-given key now (Some i) e = record {
       ascend = lent-ascends i.0.number (Out i.0.parts.address) p h.ascend;
       each = λ seat.
-        lends seat _ _
-        (lent-out (idle_with class at key) (λ (x : Idler S × Entry). x.0.number) class i.0.parts.address (with-fits class at key) 0 p.given p.sessions i
-        seat h.ascend e);
+          lends seat _ _
+          (lent-out (idle_with class at key) (λ (x : Idler S × Entry). x.0.number) class i.0.parts.address (with-fits class at key) 0 p.given p.sessions i
+          seat h.ascend e);
     }
 
     choice-given : (want : Option SetKey) (now : ℕ) → IsGiven others (choice class at want now p)

@@ -1,5 +1,5 @@
 -- All that a connection goes through: each seat that is out is held by it, or is out for others
-use Rattle.std.proofs.Common.{◌≡◌, ◌∙◌, ◌⊎◌, ℕ, ◌+◌, Bool, inl, inr, List, [], ◌∷◌, Option, None, Some, refl, sym, ap, subst, arith}
+use Rattle.std.proofs.Common.{◌≡◌, ◌∙◌, ℕ, Bool, inl, inr, List, [], ◌∷◌, Option, None, Some, refl, sym, ap, subst, arith}
 use Rattle.z_types.specs.declared.marks.End.{End}
 use Rattle.z_types.specs.declared.sitting.Sitting as sitting
 use Rattle.z_types.specs.declared.world.World as world
@@ -9,7 +9,7 @@ use Rattle.pool_sets.specs.declared.doors.Seat.{Seat}
 use Rattle.pool_core.specs.PoolView.{Ascends}
 use Rattle.package.specs.steps.Packages.{PackageView}
 use Rattle.front_conn.specs.steps.Answering.{legs_in}
-use Rattle.front_conn.specs.steps.Feeding.{fed_piece, with_end, with_piece, without_out}
+use Rattle.front_conn.specs.steps.Feeding.{fed_piece}
 use Rattle.front_conn.specs.steps.States.{ConnectionState}
 use Rattle.conn_seats.specs.steps.Laws.{pool_behind}
 use Rattle.conn_seats.specs.steps.Seats.{AreHeld, AreHeldOn, out_of}

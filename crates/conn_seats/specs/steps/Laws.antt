@@ -8,7 +8,7 @@ use Rattle.pool_sets.specs.Plain.{Pool}
 use Rattle.pool_sets.specs.declared.doors.Seat.{Seat}
 use Rattle.pool_core.specs.PoolView.{Ascends}
 use Rattle.leg.specs.Deeds.{BackendView}
-use Rattle.leg.specs.Phases.{given_up, seat_of}
+use Rattle.leg.specs.Phases.{given_up}
 use Rattle.leg.specs.Terms.{Terms}
 use Rattle.leg.specs.Turns.{DoorView, GivesUp, IsTurn}
 use Rattle.leg.specs.declared.accounts.Account.{Account}
@@ -23,7 +23,7 @@ use Rattle.front_conn.specs.steps.Answering.{Outside, legs_in}
 use Rattle.front_conn.specs.steps.Feeding.{without_work}
 use Rattle.front_conn.specs.steps.States.{ConnectionState, IsConnOf}
 use Rattle.front_conn.specs.steps.Steps.{IsStepped}
-use Rattle.conn_seats.specs.steps.Seats.{AreHeld, AreHeldOn, AreOutOf, DoesItsTask, held_at, held_in, no_seat, out_of}
+use Rattle.conn_seats.specs.steps.Seats.{AreHeld, AreHeldOn, AreOutOf, IsHeld, held_in, no_seat, out_of}
 use Rattle.conn_seats.specs.steps.Through.{GoesAlone, GoesAmong, GoesThrough, IsParted, Point, at_first, last_of}
 
 -- ---- a seat
@@ -33,12 +33,6 @@ abbrev pub OutOnce : (S : Type 0) → Type 0
 OutOnce S = (pool : Pool S) (seat : Seat) → Ascends 0 pool.given pool.sessions → out_of pool seat ≤ 1
 
 -- ---- a leg
-
-module _ {S : Type 0} where
-  -- a leg does its task, and each seat that is out is its own, or is out for others
-  pub record IsHeld (phase : Phase S) (task : Task) (others : Seat → ℕ) (pool : Option (Pool S)) : Type 0 where
-    pub tasks : DoesItsTask phase task
-    pub out : AreOutOf (held_at (seat_of phase)) others pool
 
 -- a turn leaves each seat that is out for others as it was, and no other is out but that which the leg has then
 abbrev pub TurnsKeepSeats : {W S : Type 0} → world.Ghosts W → sitting.Ghosts S W → Type 0
@@ -52,7 +46,8 @@ TurnsKeepSeats {S = S} w t =
 abbrev pub LegsGiveBack : (S : Type 0) → Type 0
 LegsGiveBack S =
     (task : Task) (phase : Phase S) (before behind : Option (Pool S)) (others : Seat → ℕ)
-    → GivesUp phase before behind → IsHeld phase task others before → IsHeld (given_up phase) task others behind × AreOutOf no_seat others behind
+    → GivesUp phase before behind → IsHeld phase task others before
+    → IsHeld (given_up phase) task others behind × AreOutOf no_seat others behind
 
 -- ---- a package
 
@@ -81,7 +76,8 @@ PackagesGiveBack S =
 module _ {W S : Type 0} (w : world.Ghosts W) (t : sitting.Ghosts S W) where
   abbrev pub StepsKeepSeats : Type 0
   StepsKeepSeats =
-      (exact : Bool) (route : Route) (now : ℕ) (old new : ConnectionState S) (answer : Stepped) (before behind : Outside S) (others : Seat → ℕ)
+      (exact : Bool) (route : Route) (now : ℕ) (old new : ConnectionState S) (answer : Stepped) (before behind : Outside S)
+      (others : Seat → ℕ)
       → IsConnOf w t route before.door.counts.most old → IsStepped w t exact route now old new answer before behind
       → AreHeldOn old others before.door.pool → AreHeldOn new others behind.door.pool
 

@@ -58,6 +58,11 @@ module _ {S : Type 0} where
   DoesItsTask (Fetching held items slot hits looks) task = ⊥
   DoesItsTask phase task = Unit {0}
 
+  -- a leg does its task, and each seat that is out is its own, or is out for others
+  pub record IsHeld (phase : Phase S) (task : Task) (others : Seat → ℕ) (pool : Option (Pool S)) : Type 0 where
+    pub tasks : DoesItsTask phase task
+    pub out : AreOutOf (held_at (seat_of phase)) others pool
+
   -- legs do their tasks, and each seat that is out is held by one of them, or is out for others
   pub record AreHeld (legs : List (LegView S)) (others : Seat → ℕ) (pool : Option (Pool S)) : Type 0 where
     pub tasks : AllByRecursion (λ leg. DoesItsTask leg.phase leg.task) legs
