@@ -1,6 +1,7 @@
 //! Sessions that rest, each with ten sets of one query, at targets of which nothing is told.
 
 ghost use Rattle.std.specs.Prelude.{◌≡◌, ◌<◌, Some, IfOk, OnOk, [], ◌∷◌, refl, decimal};
+ghost use Rattle.z_types.specs.Links.{no_link};
 ghost use Rattle.z_types.specs.Pending.{resting};
 ghost use Rattle.z_types.specs.declared.address.Address.TheVariants.{Test};
 ghost use Rattle.bench_pool.specs.Still.{no_hits, no_record, no_scan, key_in};
@@ -45,6 +46,8 @@ impl Sitting<Quiet> for Still {
     ghost made = { λ s name. Some (key_in name s.query, 3) };
 
     ghost pending = { λ _. resting };
+
+    ghost link = { λ session. no_link };
 }
 
 /// The query for a number.

@@ -47,11 +47,6 @@ pub enough-less : (m n l c d : ℕ) → l ≤ n → RisesEnough m n c d → Rise
 enough-less m n l c d less one others h =
     let first = one others h in omega (arith, less, first)
 
--- ---- a sum that stays at its end
-
-pub within-sum : (u v : ℕ) → within64 (u + within64 v) ≡ within64 (u + v)
-within-sum u v = omega arith
-
 -- ---- at a place of a list
 
 -- the sum over a list rises as the number at a place does

@@ -1,5 +1,5 @@
 -- The works of a course that goes on, of a run that stands, and of one that is over.
-use Rattle.std.proofs.Common.{◌≡◌, List, [], ◌∷◌, ◌++◌, Some, None, refl, sym, ap, ◌∙◌, append_assoc}
+use Rattle.std.proofs.Common.{◌≡◌, List, [], ◌∷◌, ◌++◌, Some, refl, sym, ap, ◌∙◌, append_assoc}
 use Rattle.z_types.specs.declared.world.World as world
 use Rattle.route_config.specs.declared.route.Route.{Route}
 use Rattle.gateway_rules.specs.Course as at
@@ -52,24 +52,9 @@ module _ {W : Type 0} (w : world.Ghosts W) (route : Route) where
 
 -- ---- where a course stands, or is over
 
--- a course stands where its run does
-pub standing-stands : {W : Type 0} (w : world.Ghosts W) (route : Route) (client : ClientState) (whole : Course) (causes : List Cause)
-    (there : Progress) → (run w route client whole causes).stop ≡ session.standing there → stands_at whole ≡ Some there
-standing-stands w route client (at.stands here) causes there stop = cc
-standing-stands w route client (at.ends last end) causes there stop = absurd cc
-standing-stands w route client (at.answers asks more) [] there stop = absurd cc
-standing-stands w route client (at.answers asks more) (cause ∷ causes) there stop =
-    standing-stands w route (answered w route client asks cause).client more causes there stop
-
 -- one that goes on stands where what follows does
 pub stands-followed : (first : Course) (next : Progress → Course) (there : Progress) → stands_at first ≡ Some there
     → stands_at (followed first next) ≡ stands_at (next there)
 stands-followed (at.stands here) next there stands = let same : here ≡ there = cc in ap (λ place. stands_at (next place)) same
 stands-followed (at.ends last end) next there stands = absurd cc
 stands-followed (at.answers asks more) next there stands = stands-followed more next there stands
-
--- nothing follows one that is over
-pub over-followed : (whole : Course) (next : Progress → Course) → stands_at whole ≡ None → whole ≡ followed whole next
-over-followed (at.stands here) next over = absurd cc
-over-followed (at.ends last end) next over = refl
-over-followed (at.answers asks more) next over = ap (at.answers asks) (over-followed more next over)

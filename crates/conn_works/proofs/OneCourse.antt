@@ -1,26 +1,17 @@
 -- Octets are units in one way, and where these have been answered a connection goes on.
-use Rattle.std.proofs.Common.{◌≡◌, ◌<◌, ℕ, List, [], ◌∷◌, ◌++◌, length, Some, refl, sym, ap, ◌∙◌, subst, append_assoc, append-nil, length-append, arith, inl, inr}
+use Rattle.std.proofs.Common.{◌≡◌, ◌<◌, ℕ, List, [], ◌∷◌, ◌++◌, length, Some, refl, sym, ap, ◌∙◌, append_assoc, length-append, arith}
 use Rattle.std.specs.Prelude.{IfSome}
 use Rattle.std.specs.List.{AllByRecursion}
-use Rattle.std.proofs.lemmas.List.{append_cancel_left, append_cancel_right}
-use Rattle.z_ber.specs.Frames.{IsFrame}
-use Rattle.z_ber.proofs.LendLaws.{extent-one}
-use Rattle.unit_forms.specs.Reading.Units.{IsReading}
+use Rattle.std.proofs.lemmas.List.{append_cancel_left}
+use Rattle.z_ber.proofs.OneSplit.{frame_begins_no_other}
 use Rattle.route_config.specs.declared.route.Route.{Route}
 use Rattle.gateway_rules.specs.Answers.{IsReceived, RestLeadsTo}
 use Rattle.gateway_rules.specs.Course as at
 use Rattle.gateway_rules.specs.Course.{Course, Meeting, Received, after, course, followed, leads_to, met, octets_of, stands_at}
 use Rattle.gateway_rules.specs.State.{Progress}
-use Rattle.gateway_rules.proofs.OneEnding.{extent-filled, frame-filled}
-use Rattle.gateway_rules.proofs.OneReading.{reading-one}
+use Rattle.gateway_rules.proofs.OneEnding.{extent-filled, received-one, rest-begins_none}
 
 -- ---- units
-
--- no frame begins another
-frame_begins_no_other : (a b x y : List ℕ) → IsFrame a → IsFrame b → a ++ x ≡ b ++ y → a ≡ b
-frame_begins_no_other a b x y p q e =
-    let one = extent-one 64 p.0.0 q.0.0 a b p.0.1 q.0.1 x y p.0.2 q.0.2 e in
-    append_cancel_right a b y (ap (λ h. a ++ h) (sym one.2) ∙ e)
 
 -- two units that octets begin with are one, and so is what follows them
 record AreOne (u v : Received) (left other : List ℕ) : Type 0 where
@@ -31,10 +22,8 @@ first-one : (u v : Received) (left other : List ℕ) → IsReceived u → IsRece
     → AreOne u v left other
 first-one u v left other p q e =
     let frame = frame_begins_no_other u.octets v.octets left other p.0 q.0 e in
-    let read : u.request ≡ v.request =
-    reading-one v.octets u.request v.request (subst (λ (h : List ℕ). IsReading h u.request) frame p.1) q.1 in
     record {
-      unit = λ i. record { octets = frame i; request = read i };
+      unit = received-one u v p q frame;
       rest = append_cancel_left v.octets left other (ap (λ h. h ++ left) (sym frame) ∙ e);
     }
 
@@ -97,14 +86,6 @@ front-of (u ∷ us) (v ∷ vs) taken rest p q e =
     record { more = front.more; is = λ i. sym one.unit i ∷ front.is i; each = front.each; spelled = front.spelled }
 
 -- ---- a course
-
--- no rest begins with a unit
-rest-begins_none : (offset : ℕ) (rest : List ℕ) (behind : Course) (frame more : List ℕ)
-    → RestLeadsTo offset rest behind → IsFrame frame → rest ≡ frame ++ more → ⊥
-rest-begins_none offset [] behind frame more r f e = frame-filled frame more f e
-rest-begins_none offset (octet ∷ rest) behind frame more (inl r) f e = r.0.0 (frame, more, f, e)
-rest-begins_none offset (octet ∷ rest) behind frame more (inr r) f e =
-    r.0 ([], (frame, more, f, append-nil (octet ∷ rest) ∙ e))
 
 -- a course that goes on from where another stands
 pub record GoesOnBy (whole first : Course) : Type 0 where

@@ -38,7 +38,8 @@ use Rattle.front_conn.proofs.StateLemmas.{kind-more, met-at, spelled-snoc, stand
 use Rattle.conn_works.specs.Works.{work_in, work_of, works_of}
 use Rattle.conn_works.specs.steps.Begun.{AreWorksBefore, AreWorksOf, HasBegun, begun_by}
 use Rattle.conn_works.proofs.BegunLemmas.{begun-of, filled-kind, of-going, of-over}
-use Rattle.conn_works.proofs.CourseWorks.{over-followed, standing-stands, stands-followed, works-append}
+use Rattle.gateway_rules.proofs.Runs.{over-followed, standing-stands}
+use Rattle.conn_works.proofs.CourseWorks.{stands-followed, works-append}
 use Rattle.conn_works.proofs.SetWorks.{asked-meant}
 
 -- ---- units that were answered, and one more

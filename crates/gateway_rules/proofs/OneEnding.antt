@@ -3,14 +3,14 @@ use Rattle.std.proofs.Common.{◌≡◌, ◌<◌, ℕ, Bool, List, [], ◌∷◌
 use Rattle.std.proofs.Common.{subst, append_assoc, append-nil, inl, inr, arith, length-append, suc}
 use Rattle.std.specs.Prelude.{IfSome}
 use Rattle.std.specs.List.{AllByRecursion}
-use Rattle.std.proofs.lemmas.List.{append_cancel_left, append_cancel_right}
+use Rattle.std.proofs.lemmas.List.{append_cancel_left}
 use Rattle.z_types.specs.declared.marks.End.{End}
 use Rattle.z_ber.specs.Frames.{IsFrame, IsExtent}
 use Rattle.z_ber.specs.Element.{end_of_contents}
 use Rattle.z_ber.specs.Header.{Begins, Opens, IsLength, IsHeader}
 use Rattle.z_ber.specs.Written.{tag_octets}
 use Rattle.z_ber.specs.declared.tag.Tag.{Tag}
-use Rattle.z_ber.proofs.LendLaws.{extent-one}
+use Rattle.z_ber.proofs.OneSplit.{frame_begins_no_other}
 use Rattle.route_config.specs.declared.route.Route.{Route}
 use Rattle.gateway_rules.specs.Answers.{IsReceived, IsCourse, IsCourseOf, IsConnection, RestLeadsTo, Ending}
 use Rattle.unit_forms.specs.Reading.Units.{IsReading}
@@ -25,12 +25,6 @@ use Rattle.gateway_rules.proofs.OneReading.{reading-one}
 use Rattle.z_types.specs.declared.world.World as world
 
 -- ---- frames
-
--- no frame begins another
-frame_begins_no_other : (a b x y : List ℕ) → IsFrame a → IsFrame b → a ++ x ≡ b ++ y → a ≡ b
-frame_begins_no_other a b x y p q e =
-    let one = extent-one 64 p.0.0 q.0.0 a b p.0.1 q.0.1 x y p.0.2 q.0.2 e in
-    append_cancel_right a b y (ap (λ h. a ++ h) (sym one.2) ∙ e)
 
 length-filled : (constructed : Bool) (octets : List ℕ) (len : Option ℕ) → IsLength constructed octets len
     → 0 < length octets
@@ -74,7 +68,7 @@ opens : (rest : List ℕ) → Begins IsFrame rest → Opens IsFrame rest
 opens rest b = ([], (b.0, b.1, b.2, append-nil rest ∙ b.3))
 
 -- no rest begins with a frame
-rest-begins_none : (offset : ℕ) (rest : List ℕ) (behind : Course) (frame more : List ℕ)
+pub rest-begins_none : (offset : ℕ) (rest : List ℕ) (behind : Course) (frame more : List ℕ)
     → RestLeadsTo offset rest behind → IsFrame frame → rest ≡ frame ++ more → ⊥
 rest-begins_none offset [] behind frame more r f e = frame-filled frame more f e
 rest-begins_none offset (octet ∷ rest) behind frame more (inl r) f e = r.0.0 (frame, more, f, e)
@@ -91,7 +85,7 @@ rest-one offset (octet ∷ rest) a b (inr p) (inr q) = p.1 ∙ sym q.1
 -- ---- courses
 
 -- what was read of octets is one
-received-one : (a b : Received) → IsReceived a → IsReceived b
+pub received-one : (a b : Received) → IsReceived a → IsReceived b
     → a.octets ≡ b.octets → a ≡ b
 received-one a b p q e =
     let read : a.request ≡ b.request =

@@ -98,7 +98,7 @@ over-ends w route client (at.answers request more) (cause ∷ causes) end h =
     over-ends w route (answered w route client request cause).client more causes end h
 
 -- nothing follows it
-over-followed : (c : Course) (next : Progress → Course) → stands_at c ≡ None → c ≡ followed c next
+pub over-followed : (c : Course) (next : Progress → Course) → stands_at c ≡ None → c ≡ followed c next
 over-followed (at.stands here) next h = absurd cc
 over-followed (at.ends last end) next h = refl
 over-followed (at.answers request more) next h = ap (at.answers request) (over-followed more next h)
@@ -106,7 +106,7 @@ over-followed (at.answers request more) next h = ap (at.answers request) (over-f
 -- ---- where it stands
 
 -- a course stands where its run does
-standing-stands : {W : Type 0} (w : world.Ghosts W) (route : Route) (client : ClientState) (c : Course)
+pub standing-stands : {W : Type 0} (w : world.Ghosts W) (route : Route) (client : ClientState) (c : Course)
     (causes : List Cause) (there : Progress) → (run w route client c causes).stop ≡ session.standing there
     → stands_at c ≡ Some there
 standing-stands w route client (at.stands here) causes there h = cc

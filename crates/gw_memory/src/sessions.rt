@@ -2,6 +2,7 @@
 
 ghost use Rattle.std.specs.Prelude.{◌≡◌, ◌≤◌, ℕ, List, Ok, IfOk, true, false};
 ghost use Rattle.std.specs.Option.{option_copied};
+ghost use Rattle.z_types.specs.Links.{no_link};
 ghost use Rattle.z_types.specs.Counts.{one_more};
 ghost use Rattle.z_types.specs.Pending.{Pending, asked};
 ghost use Rattle.z_types.specs.declared.ask.Ask.TheVariants as Asks;
@@ -48,6 +49,8 @@ impl<W: World> Sitting<W> for FakeSession {
     ghost made = { λ session. made_in session.answers.items };
 
     ghost pending = { λ session. pending_of session.waiting };
+
+    ghost link = { λ session. no_link };
 }
 
 impl FakeSession {

@@ -1,5 +1,6 @@
 pub mod Counts
 pub mod Sources
+pub mod Steady
 pub mod Sinks
 pub mod Accepts
 pub mod Files

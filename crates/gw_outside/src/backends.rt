@@ -1,11 +1,12 @@
 //! Sessions with targets.
 
-ghost use Rattle.std.specs.Prelude.{◌≡◌, List, ℕ};
+ghost use Rattle.std.specs.Prelude.{◌≡◌, List, ℕ, true};
 ghost use Rattle.z_types.specs.Pending.{IsPending, resting};
 ghost use Rattle.gw_outside.specs.Asks.{MayAsk};
 ghost use Rattle.gw_outside.specs.Counts.{BackendCounts};
-ghost use Rattle.gw_outside.specs.Happened.{AreSame, AreLess};
+ghost use Rattle.gw_outside.specs.Happened.{AreSame, AreLess, at_address};
 ghost use Rattle.gw_outside.specs.Sessions.{IfSession, IsNewSession, OpenHappens, OpenCounts, LookCounts, Fits, IsWorlds, pending_from, pending_after, made_after, start_counted};
+ghost use Rattle.gw_outside.specs.Steady.{OpensSteadily, AsksSteadily, LooksSteadily};
 
 use crate::Watched;
 use std::alloc::Global;
@@ -72,6 +73,10 @@ pub trait Backend<W: World>: Watched {
     fn open_(&mut self, alloc: Global, address: &Address) -> Opening<Self::Session>
         ensures session { IfSession result (IsNewSession Self.Session.Sitting address.now) }
         ensures happened { OpenHappens result (Self.happened self.old) (Self.happened self.new) }
+        ensures steady { W.told address.now → (Self.happened self.old).steady ≡ true
+            → OpensSteadily Self.Session.Sitting Self.exact
+            (at_address (Self.happened self.old) address.now)
+            (Self.counts self.new).dials result }
         ensures counts { OpenCounts Self.exact
             result (Self.counts self.old) (Self.counts self.new) };
 
@@ -84,6 +89,11 @@ pub trait Backend<W: World>: Watched {
         ensures made { (name : List ℕ)
             → Self.Session.made session.new name ≡ Self.Session.made session.old name }
         ensures happened { AreLess (Self.happened self.old) (Self.happened self.new) }
+        ensures steady { W.told (Self.Session.address session.old)
+            → (Self.happened self.old).steady ≡ true
+            → AsksSteadily W.World (Self.Session.address session.old) ask.now
+            (Self.Session.link session.old) (Self.Session.link session.new)
+            (Self.happened self.old) (Self.happened self.new) result }
         ensures counts { BackendCounts Self.exact (Unit {0})
             (start_counted ask.now result) (Self.counts self.old) (Self.counts self.new) };
 
@@ -101,6 +111,10 @@ pub trait Backend<W: World>: Watched {
             (Self.Session.made session.old) name }
         ensures address { Self.Session.address session.new ≡ Self.Session.address session.old }
         ensures happened { AreSame (Self.happened self.old) (Self.happened self.new) }
+        ensures steady { W.told (Self.Session.address session.old)
+            → (Self.happened self.old).steady ≡ true
+            → LooksSteadily (Self.Session.address session.old) (Self.happened self.old)
+            (Self.Session.link session.old) (Self.Session.link session.new) result }
         ensures counts { LookCounts Self.exact (W.told (Self.Session.address session.old))
             result (Self.counts self.old) (Self.counts self.new) };
 }

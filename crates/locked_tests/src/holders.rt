@@ -1,6 +1,7 @@
 //! Sessions with targets of which nothing is told.
 
 ghost use Rattle.std.specs.Prelude.{refl, Some};
+ghost use Rattle.z_types.specs.Links.{no_link};
 ghost use Rattle.z_types.specs.Pending.{resting};
 ghost use Rattle.locked_tests.specs.Quiet.{no_hits, none_is_a_count, no_record, no_scan};
 
@@ -39,6 +40,8 @@ impl<W: World> Sitting<W> for Holder {
     ghost made = { λ holder name. Some (holder.key, 3) };
 
     ghost pending = { λ holder. resting };
+
+    ghost link = { λ session. no_link };
 }
 
 /// The key of a search for a number, which names no databases.

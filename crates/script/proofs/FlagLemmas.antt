@@ -1,5 +1,5 @@
 -- flags of clients, as events come
-use Rattle.std.proofs.Common.{◌≡◌, ◌<◌, ◌∙◌, ℕ, Bool, true, false, List, [], ◌∷◌, ◌++◌, ◌==◌, ◌||◌, inl, inr, length, slice_set, Option, None, Some, refl, sym, ap, subst, arith}
+use Rattle.std.proofs.Common.{◌≡◌, ◌<◌, ◌∙◌, ℕ, Bool, true, false, List, [], ◌∷◌, ◌++◌, ◌==◌, ◌||◌, inl, inr, length, slice_set, Option, Some, refl, sym, ap, subst, arith}
 use Rattle.std.specs.Option.{option_map_or}
 use Rattle.std.proofs.Math.ListN.{length-set}
 use Rattle.std.proofs.lemmas.Bool.{cases_eq, eq-eqb, ne_eqb, or_right}
@@ -40,10 +40,6 @@ pub flags_more : (events : List Event) (event : Event) (flags : List Bool) (plac
 flags_more events event flags place e within h client =
     flag_of-set flags place client within ∙ ap (λ b. b || (place == client)) (h client)
     ∙ sym (has_ended-more events event client (Some place) e)
-
--- another event sets none
-pub flags_same : (events : List Event) (event : Event) (flags : List Bool) → None ≡ ended_by event → AreEnded events flags → AreEnded (events ++ event ∷ []) flags
-flags_same events event flags e h client = h client ∙ sym (has_ended-more events event client None e ∙ or_off (has_ended events client) false refl)
 
 -- a flag that is set leaves as many
 pub room_same : (flags : List Bool) (place : ℕ) → most_clients < length flags → most_clients < length (slice_set flags place true)

@@ -1,6 +1,7 @@
 pub mod Arrivals
 pub mod Counts
 pub mod Heard
+pub mod Links
 pub mod Looks
 pub mod Sets
 pub mod TrueSession

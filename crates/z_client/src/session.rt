@@ -1,5 +1,6 @@
 //! A session with a target over a link.
 
+ghost use Rattle.z_client.specs.Links.{link_of};
 ghost use Rattle.z_client.specs.Sets.{made_in, pending_of};
 
 use crate::sets::{FoundSet, Waiting};
@@ -55,4 +56,6 @@ impl<W: World, L: Linked> Sitting<W> for ZSession<W, L> {
     ghost made = { λ session. made_in session.made.items };
 
     ghost pending = { λ session. pending_of session.waiting };
+
+    ghost link = { λ session. link_of L.Linked session.link };
 }

@@ -13,6 +13,7 @@ pub mod TreeOf
 pub mod TreeFalls
 pub mod Members
 pub mod Pending
+pub mod Links
 pub mod World
 pub mod equality
 pub mod MergedOrder

@@ -1,14 +1,15 @@
 //! A session with a target, as proofs see it. No code has what it says.
 
 ghost use Rattle.std.specs.Prelude.{ℕ, List, Option};
+ghost use Rattle.z_types.specs.Links.{LinkView};
 ghost use Rattle.z_types.specs.Pending.{Pending};
 ghost use Rattle.z_types.specs.declared.key.SetKey.{SetKey};
 ghost use Rattle.z_types.specs.declared.address.Address.{Address};
 
 use crate::World;
 
-/// A session with a target of a world: its address, the result sets that it made, and what it waits
-/// for.
+/// A session with a target of a world: its address, the result sets that it made, what it waits for, and
+/// how its link stands.
 pub trait Sitting<W: World>: Drop {
     /// The address at which it was dialled.
     ghost address: { Self → Address };
@@ -19,4 +20,7 @@ pub trait Sitting<W: World>: Drop {
 
     /// What it waits for.
     ghost pending: { Self → Pending };
+
+    /// How its link stands. Where its address is not told this says nothing.
+    ghost link: { Self → LinkView };
 }
