@@ -60,7 +60,7 @@ use Rattle.replay.specs.Marks.{AreMarksOf, IsMarkOf}
 use Rattle.replay.specs.Trace.{AreReported, IsReportedBehind, IsRunOf}
 use Rattle.replay.specs.declared.reports.ClientReport.{ClientReport}
 use Rattle.replay.specs.declared.reports.Report.{Report}
-use Rattle.replay.proofs.RunKeeps.{most_of, whole-keeps}
+use Rattle.replay.proofs.RunKeeps.{any-may, most_of, whole-keeps}
 
 -- ---- the mark of a leg
 
@@ -284,8 +284,9 @@ module _ {W S : Type 0} (w : world.Ghosts W) (t : sitting.Ghosts S W) (exact : B
   pub run-marks : (events : List Event) (before behind : Outside S) (report : Report) → most_of before ≡ most
       → IsRunOf w t exact route events before behind report → AreMarksOf route.pool most report.clients
   run-marks events before behind report m h =
-      let kept = whole-keeps w t exact route most (λ (c : ConnectionState S). Fit c.marks) (λ one other. Unit {0}) (λ here. tt) (λ one mid other f g. tt)
+      let kept = whole-keeps w t exact route most (λ (c : ConnectionState S). Fit c.marks) (λ o. Unit {0}) (λ one other. Unit {0}) (λ e. Unit {0})
+      (λ client. (tt, tt)) (λ here j. tt) (λ one other f. tt) (λ one mid other f g. tt)
       tt (λ state piece f. piece-fits state.end state piece f) (λ state f. f) (λ state f. f)
-      (λ now old new answer one other is f g. (from-fits now old.end old.in_work old new answer one other is f g, tt))
-      (λ event one other d g. tt) events before behind report m h in
+      (λ now old new answer one other is f j g. (from-fits now old.end old.in_work old new answer one other is f g, tt))
+      (λ event one other may j d g. tt) events before behind report (any-may events) m tt h in
       reported-fit (length h.finish) h.finish report.clients kept.clients h.reported.clients_of

@@ -37,7 +37,7 @@ use Rattle.replay.specs.Wires.{AreTold, IsCountedBy}
 use Rattle.replay.specs.declared.reports.Report.{Report}
 use Rattle.replay.proofs.FullLemmas.{IsFullKept, IsToldFull, turn_full}
 use Rattle.replay.proofs.MarkLemmas.{run-marks}
-use Rattle.replay.proofs.RunKeeps.{most_of, run-most, whole-keeps}
+use Rattle.replay.proofs.RunKeeps.{any-may, most_of, run-most, whole-keeps}
 use Rattle.replay.proofs.SitsLemmas.{SitsAt}
 use Rattle.replay.proofs.TurnKeeps.{LegsKept, step-keeps}
 use Rattle.replay.proofs.WireLemmas.{causes_over, full_over, over_breaches, sums_over}
@@ -98,6 +98,34 @@ piece-work (Some end) state piece = refl
 
 module _ {W S : Type 0} (w : world.Ghosts W) (t : sitting.Ghosts S W) (exact : Bool) (route : Route) where
   -- what legs keep of a connection, and what each turn leaves of a backend, a whole replay does
+  module _ (P : LegView S → Type 0) (J : DoorView S → BackendView → Type 0) (R : (door after : DoorView S) → (backend moved : BackendView) → Type 0)
+      (A : Event → Type 0) (closes : (client : ℕ) → A (End client) × A (Run client))
+      (same : (door : DoorView S) (backend : BackendView) → J door backend → R door door backend backend)
+      (then : (door after : DoorView S) (backend moved : BackendView) → R door after backend moved → J after moved)
+      (next : (door mid after : DoorView S) (backend amid moved : BackendView) → R door mid backend amid → R mid after amid moved
+      → R door after backend moved)
+      (fresh : (asked : Asked) → P (begun asked))
+      (turn : (now : ℕ) (old new : LegView S) (answer : Turned) (door after : DoorView S) (backend moved : BackendView) → P old → J door backend
+      → HadTurn w t exact route now old new answer door after backend moved → P new × R door after backend moved)
+      (befallen : (event : Event) (door : DoorView S) (old new : BackendView) → A event → J door old → IsBefallen exact route event old new
+      → R door door old new) where
+    pub legs-whole : (events : List Event) (before behind : Outside S) (report : Report) → AllByRecursion A events → J before.door before.backend
+        → IsRunOf w t exact route events before behind report → R before.door behind.door before.backend behind.backend
+    legs-whole events before behind report may j h =
+        (whole-keeps w t exact route (most_of before) (λ (c : ConnectionState S). LegsKept P c.in_work) (λ (here : Outside S). J here.door here.backend)
+        (λ (one other : Outside S). R one.door other.door one.backend other.backend) A closes
+        (λ here k. same here.door here.backend k)
+        (λ one other f. then one.door other.door one.backend other.backend f)
+        (λ one mid other f g. next one.door mid.door other.door one.backend mid.backend other.backend f g) tt
+        (λ state piece k. subst (λ (v : Option (PackageView S)). LegsKept P v) (sym (piece-work state.end state piece)) k)
+        (λ state k. k) (λ state k. k)
+        (λ now old new answer one other m k i g.
+        step-keeps w t exact route P J R same then next fresh turn now old new answer one other k i g)
+        (λ event one other is i d g. subst (λ (door : DoorView S). R one.door door one.backend other.backend) (sym d)
+        (befallen event one.door one.backend other.backend is i g))
+        events before behind report may refl j h).moves
+
+  -- where nothing has to hold of what is outside
   module _ (P : LegView S → Type 0) (R : (door after : DoorView S) → (backend moved : BackendView) → Type 0)
       (same : (door : DoorView S) (backend : BackendView) → R door door backend backend)
       (next : (door mid after : DoorView S) (backend amid moved : BackendView) → R door mid backend amid → R mid after amid moved
@@ -106,26 +134,19 @@ module _ {W S : Type 0} (w : world.Ghosts W) (t : sitting.Ghosts S W) (exact : B
       (turn : (now : ℕ) (old new : LegView S) (answer : Turned) (door after : DoorView S) (backend moved : BackendView) → P old
       → HadTurn w t exact route now old new answer door after backend moved → P new × R door after backend moved)
       (befallen : (event : Event) (door : DoorView S) (old new : BackendView) → IsBefallen exact route event old new → R door door old new) where
-    legs-whole : (events : List Event) (before behind : Outside S) (report : Report) → IsRunOf w t exact route events before behind report
+    legs-move : (events : List Event) (before behind : Outside S) (report : Report) → IsRunOf w t exact route events before behind report
         → R before.door behind.door before.backend behind.backend
-    legs-whole events before behind report h =
-        (whole-keeps w t exact route (most_of before) (λ (c : ConnectionState S). LegsKept P c.in_work)
-        (λ (one other : Outside S). R one.door other.door one.backend other.backend)
-        (λ here. same here.door here.backend)
-        (λ one mid other f g. next one.door mid.door other.door one.backend mid.backend other.backend f g) tt
-        (λ state piece k. subst (λ (v : Option (PackageView S)). LegsKept P v) (sym (piece-work state.end state piece)) k)
-        (λ state k. k) (λ state k. k)
-        (λ now old new answer one other m k g.
-        step-keeps w t exact route P R same next fresh turn now old new answer one other k g)
-        (λ event one other d g. subst (λ (door : DoorView S). R one.door door one.backend other.backend) (sym d)
-        (befallen event one.door one.backend other.backend g))
-        events before behind report refl h).moves
+    legs-move events before behind report h =
+        legs-whole P (λ door backend. Unit {0}) R (λ event. Unit {0}) (λ client. (tt, tt)) (λ door backend j. same door backend)
+        (λ door after backend moved f. tt) next fresh
+        (λ now old new answer door after backend moved p j g. turn now old new answer door after backend moved p g)
+        (λ event door old new may j g. befallen event door old new g) events before behind report (any-may events) tt h
 
   -- the reference by which a wire is lent
   pub run-lent : (events : List Event) (before behind : Outside S) (report : Report) → IsRunOf w t exact route events before behind report
       → behind.backend.happened.lent ≡ before.backend.happened.lent
   run-lent events before behind report h =
-      legs-whole (λ leg. Unit {0}) (λ door after backend moved. moved.happened.lent ≡ backend.happened.lent) (λ door backend. refl)
+      legs-move (λ leg. Unit {0}) (λ door after backend moved. moved.happened.lent ≡ backend.happened.lent) (λ door backend. refl)
       (λ door mid after backend amid moved f g. g ∙ f) (λ asked. tt)
       (λ now old new answer door after backend moved is g.
       (tt, turn-lent w t exact (terms_of route old.leg) old.task now old.phase new.phase old.account new.account answer door after backend moved g.law))
@@ -135,7 +156,7 @@ module _ {W S : Type 0} (w : world.Ghosts W) (t : sitting.Ghosts S W) (exact : B
   pub run-breaches : AreTold w route → (events : List Event) (before behind : Outside S) (report : Report)
       → IsRunOf w t exact route events before behind report → behind.backend.counts.breaches ≡ before.backend.counts.breaches
   run-breaches told events before behind report h =
-      legs-whole (λ leg. SitsAt w t (terms_of route leg.leg).at leg.phase) (λ door after backend moved. moved.counts.breaches ≡ backend.counts.breaches)
+      legs-move (λ leg. SitsAt w t (terms_of route leg.leg).at leg.phase) (λ door after backend moved. moved.counts.breaches ≡ backend.counts.breaches)
       (λ door backend. refl) (λ door mid after backend amid moved f g. g ∙ f) (λ asked. tt)
       (λ now old new answer door after backend moved is g. (
         subst (λ (n : ℕ). SitsAt w t (terms_of route n).at new.phase) (sym g.leg)
@@ -149,7 +170,7 @@ module _ {W S : Type 0} (w : world.Ghosts W) (t : sitting.Ghosts S W) (exact : B
   pub run-full : (events : List Event) (before behind : Outside S) (report : Report) → IsRunOf w t exact route events before behind report
       → IsToldFull before.door.pool before.door.counts → IsToldFull behind.door.pool behind.door.counts
   run-full events before behind report h =
-      legs-whole (λ leg. Unit {0}) (λ door after backend moved. IsToldFull door.pool door.counts → IsToldFull after.pool after.counts)
+      legs-move (λ leg. Unit {0}) (λ door after backend moved. IsToldFull door.pool door.counts → IsToldFull after.pool after.counts)
       (λ door backend kept. kept) (λ door mid after backend amid moved f g kept. g (f kept)) (λ asked. tt)
       (λ now old new answer door after backend moved is g.
       (tt, turn_full w t exact (terms_of route old.leg) old.task now old.phase new.phase old.account new.account answer door after backend moved g.law))

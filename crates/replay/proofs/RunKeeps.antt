@@ -1,5 +1,6 @@
--- what each step of a connection keeps, a whole replay keeps
+-- what each step of a connection keeps, where this holds of what is outside, a whole replay keeps
 use Rattle.std.proofs.Common.{◌≡◌, ◌∙◌, ◌+◌, ◌-◌, ℕ, Bool, true, false, inl, inr, List, [], ◌∷◌, Option, None, Some, IfSome, length, slice_set, sym, ap, subst, arith}
+use Rattle.std.specs.List.{AllByRecursion, flat_map}
 use Rattle.std.proofs.Math.ListN.{length-set}
 use Rattle.std.proofs.lemmas.Bool.{cases_eq, cases_lt}
 use Rattle.z_types.specs.declared.sitting.Sitting as sitting
@@ -13,10 +14,10 @@ use Rattle.front_conn.specs.steps.States.{ConnectionState, nothing_yet}
 use Rattle.front_conn.specs.steps.Steps.{IsStepped}
 use Rattle.script.specs.declared.event.Event.{Event}
 use Rattle.script.specs.declared.event.Event.TheVariants.{Feed, End, Step, Run, Tick, Gone, Cut, Slow}
-use Rattle.script.specs.Events.{client_of, seconds_of}
+use Rattle.script.specs.Events.{client_of, named, seconds_of}
 use Rattle.replay.specs.declared.reports.Report.{Report}
 use Rattle.replay.specs.Clients.{AreNone, ClientState, client_at, client_or_new}
-use Rattle.replay.specs.Trace.{ArePlayed, AreSteps, HasRun, IsBefallen, IsClientStep, IsRunOf, PlaysFor, PlaysOf, Playing, Point, closings, moment_behind}
+use Rattle.replay.specs.Trace.{ArePlayed, AreSteps, HasRun, IsBefallen, IsClientStep, IsRunOf, PlaysFor, PlaysOf, Playing, Point, closing, closings, moment_behind}
 use Rattle.replay.proofs.ClientLemmas.{client_at-behind, client_at-other, client_at-set}
 
 -- how many sessions of a class the door opens at most
@@ -32,21 +33,25 @@ module _ {S : Type 0} (K : ConnectionState S → Type 0) where
   AllKept clients = (place : ℕ) → IsKept (client_at clients place)
 
   -- and so does that of what is outside
-  pub record IsKeptWhole (R : Outside S → Outside S → Type 0) (before behind : Outside S) (finish : List (Option (ClientState S))) : Type 0 where
+  pub record IsKeptWhole (most : ℕ) (R : Outside S → Outside S → Type 0) (before behind : Outside S) (finish : List (Option (ClientState S)))
+      : Type 0 where
+    pub most_is : most_of behind ≡ most
     pub clients : AllKept finish
     pub moves : R before behind
 
 module _ {W S : Type 0} (w : world.Ghosts W) (t : sitting.Ghosts S W) (exact : Bool) (route : Route) (most : ℕ)
-    (K : ConnectionState S → Type 0) (R : Outside S → Outside S → Type 0)
-    (same : (here : Outside S) → R here here)
+    (K : ConnectionState S → Type 0) (J : Outside S → Type 0) (R : Outside S → Outside S → Type 0) (A : Event → Type 0)
+    (closes : (client : ℕ) → A (End client) × A (Run client))
+    (same : (here : Outside S) → J here → R here here)
+    (then : (before behind : Outside S) → R before behind → J behind)
     (next : (before amid behind : Outside S) → R before amid → R amid behind → R before behind)
     (start : K (nothing_yet new_session))
     (fed : (state : ConnectionState S) (piece : List ℕ) → K state → K (with_piece state piece))
     (ended : (state : ConnectionState S) → K state → K (with_end state))
     (written : (state : ConnectionState S) → K state → K (without_out state))
-    (step : (now : ℕ) (old new : ConnectionState S) (answer : Stepped) (before behind : Outside S) → most_of behind ≡ most → K old
+    (step : (now : ℕ) (old new : ConnectionState S) (answer : Stepped) (before behind : Outside S) → most_of behind ≡ most → K old → J before
     → IsStepped w t exact route now old new answer before behind → K new × R before behind)
-    (befallen : (event : Event) (before behind : Outside S) → behind.door ≡ before.door
+    (befallen : (event : Event) (before behind : Outside S) → A event → J before → behind.door ≡ before.door
     → IsBefallen exact route event before.backend behind.backend → R before behind) where
   -- the connection is kept, and so is what is outside
   record Goes (new : ConnectionState S) (before behind : Outside S) : Type 0 where
@@ -56,53 +61,55 @@ module _ {W S : Type 0} (w : world.Ghosts W) (t : sitting.Ghosts S W) (exact : B
 
   -- ---- one client
 
-  client-keeps : (now : ℕ) (idle : Bool) (old new : ClientState S) (before behind : Outside S) → most_of before ≡ most → K old.conn
+  client-keeps : (now : ℕ) (idle : Bool) (old new : ClientState S) (before behind : Outside S) → most_of before ≡ most → K old.conn → J before
       → IsClientStep w t exact route now idle old new before behind → Goes new.conn before behind
-  client-keeps now idle old new before behind m k h =
-      let one = step now old.conn h.stepped_to h.answer before behind (h.most ∙ m) k h.steps in record {
+  client-keeps now idle old new before behind m k j h =
+      let one = step now old.conn h.stepped_to h.answer before behind (h.most ∙ m) k j h.steps in record {
         most_is = h.most ∙ m;
         kept = subst (λ (c : ConnectionState S). K c) (sym h.conn) (written h.stepped_to one.0);
         moves = one.1;
       }
 
   steps-keep : (now : ℕ) (from : Point S) (earlier : List (Point S)) (last : Point S) → most_of from.outside ≡ most → K from.client.conn
-      → AreSteps w t exact route now from earlier last → Goes last.client.conn from.outside last.outside
-  steps-keep now from [] last m k h =
-      subst (λ (p : Point S). Goes p.client.conn from.outside p.outside) (sym h) (record { most_is = m; kept = k; moves = same from.outside })
-  steps-keep now from (mid ∷ earlier) last m k h =
-      let so_far = steps-keep now from earlier mid m k h.0 in
-      let one = client-keeps now false mid.client last.client mid.outside last.outside so_far.most_is so_far.kept h.1 in record {
+      → J from.outside → AreSteps w t exact route now from earlier last → Goes last.client.conn from.outside last.outside
+  steps-keep now from [] last m k j h =
+      subst (λ (p : Point S). Goes p.client.conn from.outside p.outside) (sym h) (record { most_is = m; kept = k; moves = same from.outside j })
+  steps-keep now from (mid ∷ earlier) last m k j h =
+      let so_far = steps-keep now from earlier mid m k j h.0 in
+      let amid = then from.outside mid.outside so_far.moves in
+      let one = client-keeps now false mid.client last.client mid.outside last.outside so_far.most_is so_far.kept amid h.1 in record {
         most_is = one.most_is;
         kept = one.kept;
         moves = next from.outside mid.outside last.outside so_far.moves one.moves;
       }
 
-  run-keeps : (now : ℕ) (old new : ClientState S) (before behind : Outside S) → most_of before ≡ most → K old.conn
+  run-keeps : (now : ℕ) (old new : ClientState S) (before behind : Outside S) → most_of before ≡ most → K old.conn → J before
       → HasRun w t exact route now old new before behind → Goes new.conn before behind
-  run-keeps now old new before behind m k h =
-      let so_far = steps-keep now (record { client = old; outside = before }) h.earlier h.last m k h.steps in
-      let one = client-keeps now true h.last.client new h.last.outside behind so_far.most_is so_far.kept h.rests in record {
+  run-keeps now old new before behind m k j h =
+      let so_far = steps-keep now (record { client = old; outside = before }) h.earlier h.last m k j h.steps in
+      let amid = then before h.last.outside so_far.moves in
+      let one = client-keeps now true h.last.client new h.last.outside behind so_far.most_is so_far.kept amid h.rests in record {
         most_is = one.most_is;
         kept = one.kept;
         moves = next before h.last.outside behind so_far.moves one.moves;
       }
 
   calm : (new other : ClientState S) (before behind : Outside S) → most_of before ≡ most → new ≡ other → behind ≡ before → K other.conn
-      → Goes new.conn before behind
-  calm new other before behind m e f k =
+      → J before → Goes new.conn before behind
+  calm new other before behind m e f k j =
       subst (λ (o : Outside S). Goes new.conn before o) (sym f)
-      (subst (λ (c : ClientState S). Goes c.conn before before) (sym e) (record { most_is = m; kept = k; moves = same before }))
+      (subst (λ (c : ClientState S). Goes c.conn before before) (sym e) (record { most_is = m; kept = k; moves = same before j }))
 
-  plays-keep : (event : Event) (now : ℕ) (old new : ClientState S) (before behind : Outside S) → most_of before ≡ most → K old.conn
+  plays-keep : (event : Event) (now : ℕ) (old new : ClientState S) (before behind : Outside S) → most_of before ≡ most → K old.conn → J before
       → PlaysFor w t exact route event now old new before behind → Goes new.conn before behind
-  plays-keep (Feed client octets) now old new before behind m k h = calm new _ before behind m h.0 h.1 (fed old.conn octets k)
-  plays-keep (End client) now old new before behind m k h = calm new _ before behind m h.0 h.1 (ended old.conn k)
-  plays-keep (Step client) now old new before behind m k h = client-keeps now h.0 old new before behind m k h.1
-  plays-keep (Run client) now old new before behind m k h = run-keeps now old new before behind m k h
-  plays-keep (Tick seconds) now old new before behind m k h = absurd h
-  plays-keep (Gone target presents) now old new before behind m k h = absurd h
-  plays-keep (Cut target) now old new before behind m k h = absurd h
-  plays-keep (Slow target looks) now old new before behind m k h = absurd h
+  plays-keep (Feed client octets) now old new before behind m k j h = calm new _ before behind m h.0 h.1 (fed old.conn octets k) j
+  plays-keep (End client) now old new before behind m k j h = calm new _ before behind m h.0 h.1 (ended old.conn k) j
+  plays-keep (Step client) now old new before behind m k j h = client-keeps now h.0 old new before behind m k j h.1
+  plays-keep (Run client) now old new before behind m k j h = run-keeps now old new before behind m k j h
+  plays-keep (Tick seconds) now old new before behind m k j h = absurd h
+  plays-keep (Gone target presents) now old new before behind m k j h = absurd h
+  plays-keep (Cut target) now old new before behind m k j h = absurd h
+  plays-keep (Slow target looks) now old new before behind m k j h = absurd h
 
   -- ---- all of them
 
@@ -132,16 +139,16 @@ module _ {W S : Type 0} (w : world.Ghosts W) (t : sitting.Ghosts S W) (exact : B
     pub kept : AllKept K new.clients
     pub moves : R old.outside new.outside
 
-  of-keeps : (event : Event) (client : Option ℕ) (now : ℕ) (old new : Playing S) → most_of old.outside ≡ most → AllKept K old.clients
-      → PlaysOf w t exact route client event now old new → GoesOn old new
-  of-keeps event None now old new m k h = record {
+  of-keeps : (event : Event) (client : Option ℕ) (now : ℕ) (old new : Playing S) → A event → most_of old.outside ≡ most → AllKept K old.clients
+      → J old.outside → PlaysOf w t exact route client event now old new → GoesOn old new
+  of-keeps event None now old new may m k j h = record {
     most_is = ap (λ d. d.counts.most) h.door ∙ m;
     kept = subst (λ (cs : List (Option (ClientState S))). AllKept K cs) (sym h.clients) k;
-    moves = befallen event old.outside new.outside h.door h.backend;
+    moves = befallen event old.outside new.outside may j h.door h.backend;
   }
-  of-keeps event (Some number) now old new m k h =
+  of-keeps event (Some number) now old new may m k j h =
       let here = client_at old.clients (number - 1) in
-      let one = plays-keep event now (client_or_new here) h.plays.client old.outside new.outside m (or_new-keeps here (k (number - 1))) h.plays.plays in
+      let one = plays-keep event now (client_or_new here) h.plays.client old.outside new.outside m (or_new-keeps here (k (number - 1))) j h.plays.plays in
       record {
         most_is = one.most_is;
         kept = subst (λ (cs : List (Option (ClientState S))). AllKept K cs) (sym h.others)
@@ -149,13 +156,14 @@ module _ {W S : Type 0} (w : world.Ghosts W) (t : sitting.Ghosts S W) (exact : B
         moves = one.moves;
       }
 
-  events-keep : (events : List Event) (now : ℕ) (old new : Playing S) → most_of old.outside ≡ most → AllKept K old.clients
-      → ArePlayed w t exact route events now old new → GoesOn old new
-  events-keep [] now old new m k h =
-      subst (λ (p : Playing S). GoesOn old p) (sym h) (record { most_is = m; kept = k; moves = same old.outside })
-  events-keep (event ∷ events) now old new m k h =
-      let one = of-keeps event (client_of event) now old h.0 m k h.1 in
-      let rest = events-keep events (now + seconds_of event) h.0 new one.most_is one.kept h.2 in record {
+  events-keep : (events : List Event) (now : ℕ) (old new : Playing S) → AllByRecursion A events → most_of old.outside ≡ most
+      → AllKept K old.clients → J old.outside → ArePlayed w t exact route events now old new → GoesOn old new
+  events-keep [] now old new may m k j h =
+      subst (λ (p : Playing S). GoesOn old p) (sym h) (record { most_is = m; kept = k; moves = same old.outside j })
+  events-keep (event ∷ events) now old new may m k j h =
+      let one = of-keeps event (client_of event) now old h.0 may.0 m k j h.1 in
+      let amid = then old.outside h.0.outside one.moves in
+      let rest = events-keep events (now + seconds_of event) h.0 new may.1 one.most_is one.kept amid h.2 in record {
         most_is = rest.most_is;
         kept = rest.kept;
         moves = next old.outside h.0.outside new.outside one.moves rest.moves;
@@ -164,26 +172,34 @@ module _ {W S : Type 0} (w : world.Ghosts W) (t : sitting.Ghosts S W) (exact : B
   none-kept : (clients : List (Option (ClientState S))) → AreNone clients → AllKept K clients
   none-kept clients none place = subst (λ (c : Option (ClientState S)). IsKept K c) (sym (none place)) tt
 
-  pub whole-most : (events : List Event) (before behind : Outside S) (report : Report) → most_of before ≡ most
-      → IsRunOf w t exact route events before behind report → most_of behind ≡ most
-  whole-most events before behind report m h =
-      let one = events-keep events 0 (record { clients = h.start; outside = before }) h.mid m (none-kept h.start h.nobody) h.played in
-      (events-keep (closings events) (moment_behind events) h.mid (record { clients = h.finish; outside = behind }) one.most_is one.kept h.closed).most_is
+  -- the events that close clients are such
+  closings-may : (clients : List ℕ) → AllByRecursion A (flat_map closing clients)
+  closings-may [] = tt
+  closings-may (client ∷ clients) = let one = closes client in (one.0, one.1, closings-may clients)
 
-  pub whole-keeps : (events : List Event) (before behind : Outside S) (report : Report) → most_of before ≡ most
-      → (h : IsRunOf w t exact route events before behind report) → IsKeptWhole K R before behind h.finish
-  whole-keeps events before behind report m h =
+  pub whole-keeps : (events : List Event) (before behind : Outside S) (report : Report) → AllByRecursion A events → most_of before ≡ most
+      → J before → (h : IsRunOf w t exact route events before behind report) → IsKeptWhole K most R before behind h.finish
+  whole-keeps events before behind report may m j h =
       let first : Playing S = record { clients = h.start; outside = before } in
       let last : Playing S = record { clients = h.finish; outside = behind } in
-      let one = events-keep events 0 first h.mid m (none-kept h.start h.nobody) h.played in
-      let rest = events-keep (closings events) (moment_behind events) h.mid last one.most_is one.kept h.closed in record {
+      let one = events-keep events 0 first h.mid may m (none-kept h.start h.nobody) j h.played in
+      let amid = then before h.mid.outside one.moves in
+      let rest = events-keep (closings events) (moment_behind events) h.mid last (closings-may (named events)) one.most_is one.kept amid h.closed in
+      record {
+        most_is = rest.most_is;
         clients = rest.kept;
         moves = next before h.mid.outside behind one.moves rest.moves;
       }
+
+-- events that may be any
+pub any-may : (events : List Event) → AllByRecursion (λ event. Unit {0}) events
+any-may [] = tt
+any-may (event ∷ events) = (tt, any-may events)
 
 -- the door opens as many sessions of a class at most as before
 pub run-most : {W S : Type 0} (w : world.Ghosts W) (t : sitting.Ghosts S W) (exact : Bool) (route : Route) (most : ℕ) (events : List Event)
     (before behind : Outside S) (report : Report) → most_of before ≡ most → IsRunOf w t exact route events before behind report → most_of behind ≡ most
 run-most w t exact route most events before behind report m h =
-    whole-most w t exact route most (λ c. Unit {0}) (λ one other. Unit {0}) (λ here. tt) (λ one mid other f g. tt) tt (λ state piece k. tt) (λ state k. tt)
-    (λ state k. tt) (λ now old new answer one other is k g. (tt, tt)) (λ event one other d g. tt) events before behind report m h
+    (whole-keeps w t exact route most (λ c. Unit {0}) (λ o. Unit {0}) (λ one other. Unit {0}) (λ e. Unit {0}) (λ client. (tt, tt)) (λ here j. tt)
+    (λ one other f. tt) (λ one mid other f g. tt) tt (λ state piece k. tt) (λ state k. tt) (λ state k. tt)
+    (λ now old new answer one other is k j g. (tt, tt)) (λ event one other may j d g. tt) events before behind report (any-may events) m tt h).most_is

@@ -21,7 +21,7 @@ use Rattle.front_conn.specs.steps.States.{ConnectionState, IsConnOf}
 use Rattle.front_conn.specs.steps.Steps.{IsStepped, KeepsState}
 use Rattle.script.specs.declared.event.Event.{Event}
 use Rattle.script.specs.declared.event.Event.TheVariants.{Feed, End, Step, Run, Gone, Cut, Slow}
-use Rattle.script.specs.Events.{client_of, named, seconds_of}
+use Rattle.script.specs.Events.{client_of, most_clients, named, seconds_of}
 use Rattle.replay.specs.declared.reports.ClassReport.{ClassReport}
 use Rattle.replay.specs.declared.reports.ClientReport.{ClientReport}
 use Rattle.replay.specs.declared.reports.Report.{Report}
@@ -218,11 +218,12 @@ pub record IsReported {S : Type 0} (route : Route) (clients : List (Option (Clie
   pub clients_of : AreReported (length clients) clients report.clients
   pub costs : report.classes ≡ costs_upto (length clients) clients (map costless route.classes)
 
--- The events were played from a start without clients, at moment 0; then each client that they name was closed; and the report is of
+-- The events were played from a start with a place for each client, of whom none is there, at moment 0; then each client that they name was closed; and the report is of
 -- what came of it.
 pub record IsRunOf {W S : Type 0} (w : world.Ghosts W) (t : sitting.Ghosts S W) (exact : Bool) (route : Route) (events : List Event)
     (before behind : Outside S) (report : Report) : Type 0 where
   pub start : List (Option (ClientState S))
+  pub places : length start ≡ most_clients
   pub nobody : AreNone start
   pub mid : Playing S
   pub played : ArePlayed w t exact route events 0 (record { clients = start; outside = before }) mid

@@ -50,6 +50,7 @@ returns-clause-run g c =
     (outside_of g.D.Door g.B.Watched c.args.door.now c.args.backend.now) finish.outside)
     (λ report reported. record {
       start = c.args.clients.now;
+      places = c.requires.nobody.all;
       nobody = c.requires.nobody.none;
       mid = mid;
       played = c.in_ok-now.ensures.played;
