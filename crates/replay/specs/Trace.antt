@@ -218,8 +218,8 @@ pub record IsReported {S : Type 0} (route : Route) (clients : List (Option (Clie
   pub clients_of : AreReported (length clients) clients report.clients
   pub costs : report.classes ≡ costs_upto (length clients) clients (map costless route.classes)
 
--- The events were played from a start with a place for each client, of whom none is there, at moment 0; then each client that they name was closed; and the report is of
--- what came of it.
+-- The events were played from a start with a place for each client, of whom none is there, at moment 0; then each client that they
+-- name was closed; and the report is of what came of it.
 pub record IsRunOf {W S : Type 0} (w : world.Ghosts W) (t : sitting.Ghosts S W) (exact : Bool) (route : Route) (events : List Event)
     (before behind : Outside S) (report : Report) : Type 0 where
   pub start : List (Option (ClientState S))
