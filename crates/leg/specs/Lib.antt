@@ -7,5 +7,6 @@ pub mod Rules
 pub mod Right
 pub mod Kept
 pub mod LegView
+pub mod Links
 pub mod Turns
 pub mod steps

@@ -45,6 +45,17 @@ module _ {S : Type 0} where
   seat_of (Done answer) = None
   seat_of Ended = None
 
+  -- the session that the leg works on, where it has one
+  abbrev pub session_of : Phase S → Option S
+  session_of (Dialled held looks) = Some held.parts.session
+  session_of (Ready held items) = Some held.parts.session
+  session_of (Searching held items slot looks) = Some held.parts.session
+  session_of (Presenting held items slot hits) = Some held.parts.session
+  session_of (Fetching held items slot hits looks) = Some held.parts.session
+  session_of (Scanning held looks) = Some held.parts.session
+  session_of (Returning held answer) = Some held.parts.session
+  session_of phase = None
+
   -- whether the session came from the pool and has not replied
   abbrev pub is_given : Phase S → Bool
   is_given (Dialled held looks) = held.given

@@ -1,10 +1,10 @@
 -- The law of a leg (this project's own): what a turn does to the leg, its door and its backend
-use Rattle.std.specs.Prelude.{◌≡◌, ℕ, ◌<◌, ◌≤◌, Bool, true, false, length, Option, None, Some, option_map}
+use Rattle.std.specs.Prelude.{◌≡◌, ℕ, ◌<◌, ◌≤◌, Bool, true, false, List, length, Option, None, Some, option_map}
 use Rattle.z_types.specs.declared.ask.Ask.{Ask}
 use Rattle.z_types.specs.declared.sitting.Sitting as sitting
 use Rattle.z_types.specs.declared.world.World as world
 use Rattle.route_config.specs.declared.route.Route.{Route}
-use Rattle.gw_outside.specs.Sessions.{IfSession, Fits, pending_from, pending_after}
+use Rattle.gw_outside.specs.Sessions.{IfSession, IsNewSession, Fits, IsWorlds, pending_from, pending_after, made_after}
 use Rattle.gw_outside.specs.declared.backends.Began.{Began}
 use Rattle.gw_outside.specs.declared.backends.Heard.{Heard}
 use Rattle.pool_sets.specs.Counts.{DoorCounts}
@@ -21,6 +21,7 @@ use Rattle.leg.specs.Accounts.{counted, more}
 use Rattle.leg.specs.Deeds.{Deed, took, opened, began, heard, put_back, gave_up, redialled, no_memory, nothing, rises_of, looks_after, waits, door_counts, BackendView, BackendMoves}
 use Rattle.leg.specs.Kept.{StandsAt, IsWithin}
 use Rattle.leg.specs.LegView.{LegView}
+use Rattle.leg.specs.Links.{LinksMove}
 use Rattle.leg.specs.Phases.{is_given, looks_of, seat_of}
 use Rattle.leg.specs.Rules.{first_ask, next_ask, next, left_by, Becomes}
 use Rattle.leg.specs.Tasks.{want_of}
@@ -34,16 +35,19 @@ module _ {W S : Type 0} (w : world.Ghosts W) (t : sitting.Ghosts S W) where
     pub asks : asked ≡ due
     pub waits : t.pending after ≡ pending_from asked answer
     pub address : t.address after ≡ t.address before
+    pub made : (name : List ℕ) → t.made after name ≡ t.made before name
 
   abbrev pub IsAskedIf : Option Ask → Ask → S → S → Began → Type 0
   IsAskedIf None asked before after answer = ⊥
   IsAskedIf (Some due) asked before after answer = IsAsked due asked before after answer
 
-  -- what a look does to a session: what is heard fits what it waits for
+  -- what a look does to a session: what is heard fits what it waits for, and is the world's where its address is told
   pub record IsLook (before after : S) (reply : Heard) : Type 0 where
     pub fits : Fits (t.pending before) reply
+    pub worlds : w.told (t.address before) → IsWorlds w (t.address before) (t.made before) (t.pending before) reply
     pub waits : t.pending after ≡ pending_after (t.pending before) reply
     pub address : t.address after ≡ t.address before
+    pub made : (name : List ℕ) → t.made after name ≡ made_after (t.pending before) reply (t.made before) name
 
   module _ (terms : Terms) (most : ℕ) (task : Task) where
     -- in each phase one deed is due: a session of the class is taken, for the set that is wanted; the address of the member that the
@@ -51,7 +55,7 @@ module _ {W S : Type 0} (w : world.Ghosts W) (t : sitting.Ghosts S W) where
     -- before, and memory may lack for it; a leg without a session lacks it for good; one that is done does nothing
     abbrev pub IsDue : Phase S → Deed S → Type 0
     IsDue Begin (took taken) = TakenFits w t terms.at (want_of task) most taken
-    IsDue (Dialling seat member) (opened made) = IfSession made (λ s. t.address s ≡ opened_at terms member)
+    IsDue (Dialling seat member) (opened made) = IfSession made (IsNewSession t (opened_at terms member))
     IsDue (Dialling seat member) no_memory = Unit {0}
     IsDue (Dialled held looks) (heard reply session) = IsLook held.parts.session session reply
     IsDue (Ready held items) (began asked answer session) =
@@ -95,8 +99,8 @@ is_done_answer turned.Done = true
 is_done_answer answer = false
 
 module _ {W S : Type 0} (w : world.Ghosts W) (t : sitting.Ghosts S W) (exact : Bool) (terms : Terms) (task : Task) (now : ℕ) where
-  -- one turn does one deed, which is due: the leg goes on by the rules, its account counts what rises, and the door and the backend
-  -- move so; its looks grow by no more than the backend's waits
+  -- one turn does one deed, which is due: the leg goes on by the rules, its account counts what rises, and the door, the backend and
+  -- the link of its session move so; its looks grow by no more than the backend's waits
   pub record IsTurn (old new : Phase S) (a b : Account) (answer : Turned) (door after : DoorView S)
       (backend moved : BackendView) : Type 0 where
     pub deed : Deed S
@@ -107,6 +111,7 @@ module _ {W S : Type 0} (w : world.Ghosts W) (t : sitting.Ghosts S W) (exact : B
     pub pool : PoolMoves terms task now old deed door.pool after.pool
     pub door_counts : after.counts ≡ door_counts (want_of task) deed door.counts
     pub backend_moves : BackendMoves w t exact deed backend moved
+    pub links : LinksMove w t exact terms backend moved deed old
 
 -- ---- a leg of a route
 
