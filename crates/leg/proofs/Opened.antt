@@ -7,9 +7,6 @@ use Rattle.z_types.specs.declared.address.Address.{Address}
 use Rattle.z_types.specs.declared.address.Address.TheVariants.{Test}
 use Rattle.z_types.specs.declared.sitting.Sitting as sitting
 use Rattle.z_types.specs.declared.world.World as world
-use Rattle.gw_outside.specs.Sessions.{IfSession}
-use Rattle.gw_outside.specs.declared.backends.Opening.{Opening}
-use Rattle.gw_outside.specs.declared.backends.Opening.TheVariants as opening
 use Rattle.pool_sets.specs.Kept.{TableKept}
 use Rattle.leg.specs.declared.phases.Held.{Held}
 use Rattle.leg.specs.declared.tasks.Task.{Task}
@@ -24,12 +21,6 @@ use Rattle.pool_sets.specs.Table.{Table, empty_table, same_key, set_of}
 pub named_among : (at : List Address) (member : ℕ) (address : Address) → member < length at → address ≡ address_at at member → Contains at address
 named_among at member address within e =
     let P : Address → Type 0 = Contains at in subst P (sym e) (Contains-get_or at member (Test 0) within)
-
--- what holds of a session that was opened
-pub if_session : {S : Type 0} (P Q : S → Type 0) (made : Opening S) → ((s : S) → P s → Q s) → IfSession made P → IfSession made Q
-if_session P Q (opening.Session session) h k = h session k
-if_session P Q (opening.Failed linked) h k = tt
-if_session P Q opening.Memory h k = tt
 
 -- no key stands twice where there is none
 none_twice : IsDistinct same_key []

@@ -6,8 +6,8 @@ ghost use Rattle.pool_sets.specs.Table.{empty_table};
 ghost use Rattle.leg.specs.Deeds as deed;
 ghost use Rattle.leg.specs.Deeds.{rises_of};
 ghost use Rattle.leg.specs.Kept.{LegKept};
-ghost use Rattle.gw_outside.specs.Sessions.{IfSession};
-ghost use Rattle.leg.specs.steps.Replies.{InitHeard, IsOpened};
+ghost use Rattle.gw_outside.specs.Sessions.{IfSession, IsNewSession};
+ghost use Rattle.leg.specs.steps.Replies.{InitHeard};
 ghost use Rattle.leg.specs.Tasks.{MayDo};
 ghost use Rattle.route_config.specs.Sound.{ArePoolNumbers};
 ghost use Rattle.leg.specs.Terms.{lent_terms, opened_at};
@@ -100,7 +100,7 @@ fn after_open<W: World, S: Sitting<W>>(
     requires within { member < length (lent_terms terms.now).at }
     requires address { address ≡ opened_at (lent_terms terms.now) member }
     requires table { table ≡ empty_table (lent_terms terms.now).pool.sets_max }
-    requires opened { IfSession opening (λ s. IsOpened W.World S.Sitting address s) }
+    requires opened { IfSession opening (IsNewSession S.Sitting address) }
     ensures follows { (now most : ℕ)
         → Follows W.World S.Sitting (lent_terms terms.now) task.now now most
         (deed.opened opening) (Dialling seat member) result.0 account.old account.new result.1 }

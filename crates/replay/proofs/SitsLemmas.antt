@@ -165,7 +165,7 @@ module _ {W S : Type 0} (w : world.Ghosts W) (t : sitting.Ghosts S W) (terms : T
   goes-sits Begin no_memory is h = absurd h
   goes-sits Begin nothing is h = absurd h
   goes-sits (Dialling seat member) (took taken_) is h = absurd h
-  goes-sits (Dialling seat member) (opened (opening.Session session)) is h = (subst (λ (a : Address). Contains terms.at a) (sym h) (address-in terms.at member is), tt)
+  goes-sits (Dialling seat member) (opened (opening.Session session)) is h = (subst (λ (a : Address). Contains terms.at a) (sym h.same_address) (address-in terms.at member is), tt)
   goes-sits (Dialling seat member) (opened (opening.Failed linked)) is h = (tt, tt)
   goes-sits (Dialling seat member) (opened opening.Memory) is h = (tt, tt)
   goes-sits (Dialling seat member) (began asked answer session) is h = absurd h

@@ -1,9 +1,7 @@
--- For contracts alone: what is known of a session once it was opened, asked or looked at (this
--- project's own)
+-- For contracts alone: what is known of a session once it was asked or looked at (this project's own)
 use Rattle.std.specs.Prelude.{◌≡◌, ℕ, ◌+◌, ◌<◌, ◌≤◌, ◌^◌, List, length, None, Some, Result, Ok, Err}
 use Rattle.z_types.specs.Bounds.{most_number}
 use Rattle.z_types.specs.Pending.{resting, opening}
-use Rattle.z_types.specs.declared.address.Address.{Address}
 use Rattle.z_types.specs.declared.diagnostic.Diag.{Diag}
 use Rattle.z_types.specs.declared.key.SetKey.{SetKey}
 use Rattle.z_types.specs.declared.records.Item.{Item}
@@ -42,11 +40,6 @@ IsRefusal (look.Refused diag) = Unit {0}
 IsRefusal reply = ⊥
 
 module _ {W S : Type 0} (w : world.Ghosts W) (t : sitting.Ghosts S W) where
-  -- a session that was opened at an address
-  pub record IsOpened (address : Address) (session : S) : Type 0 where
-    pub at : t.address session ≡ address
-    pub waits : t.pending session ≡ opening
-
   -- the reply to the Init
   abbrev pub InitHeard : Task → Held S → Heard → Type 0
   InitHeard task held look.Opened = IsBefore w t resting task held

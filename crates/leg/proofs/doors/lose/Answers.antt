@@ -23,6 +23,7 @@ returns g c = record {
           pool = c.lost.ensures.plain;
           door_counts = c.lost.ensures.counts;
           backend_moves = record { counts = refl; happened = refl };
+          links = tt;
         };
         done = refl;
         holds = done_holds g.W.World g.S.Sitting (lent_terms c.args.terms.now) c.args.task.now _ _ (Losing c.args.seat c.args.answer) c.args.answer false c.args.account.now c.count.new.self e same

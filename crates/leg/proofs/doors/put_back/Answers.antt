@@ -27,6 +27,7 @@ returns g c = record {
           pool = c.put.ensures.plain;
           door_counts = c.put.ensures.counts;
           backend_moves = record { counts = refl; happened = refl };
+          links = tt;
         };
         done = refl;
         holds = done_holds g.W.World g.S.Sitting (lent_terms c.args.terms.now) c.args.task.now _ _ (Returning held c.args.answer) c.args.answer held.given c.args.account.now c.count.new.self e same

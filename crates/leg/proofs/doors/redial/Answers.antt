@@ -23,6 +23,7 @@ returns g c = record {
           pool = l.plain;
           door_counts = l.counts;
           backend_moves = record { counts = refl; happened = refl };
+          links = tt;
         };
         done = refl;
         holds = record {

@@ -28,6 +28,7 @@ returns g c = record {
           pool = rw c.want_of.ensures at l.plain;
           door_counts = counts;
           backend_moves = record { counts = refl; happened = refl };
+          links = tt;
         };
         done = f.done;
         holds = after.holds;

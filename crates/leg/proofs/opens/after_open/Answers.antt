@@ -25,7 +25,7 @@ returns-in-Session g c = record {
           kept = record {
             may = c.requires.kept.may;
             session = record {
-              is_held = record { waits = made.waits; kept = empty_kept g.W.World g.S.Sitting c.in-Session.session c.args.table c.args.address terms.pool.sets_max c.requires.table made.at };
+              is_held = record { waits = made.pending; kept = empty_kept g.W.World g.S.Sitting c.in-Session.session c.args.table c.args.address terms.pool.sets_max c.requires.table made.same_address };
               lacks = empty_lacks want c.args.table terms.pool.sets_max c.requires.table;
             };
             account = account_goes (ahead_dial (is_some want)) (ahead_with (one_if (is_some want)) false) 0 0 terms.class (record no_rises { dials = true }) false 0 c.args.account.now c.count.new.self counted (dialled_enough (is_some want)) (omega arith) c.requires.kept.account;

@@ -1,13 +1,9 @@
-use Rattle.std.proofs.Common.{◌≡◌, ◌∙◌, false, is_some, refl, arith}
-use Rattle.gw_outside.specs.Sessions.{IsNewSession}
+use Rattle.std.proofs.Common.{false, is_some, refl, arith}
 use Rattle.leg.specs.Accounts.{no_rises}
 use Rattle.leg.specs.Deeds.{opened, no_memory, rises_of}
 use Rattle.leg.specs.Tasks.{want_of}
-use Rattle.leg.specs.Terms.{lent_terms, opened_at}
 use Rattle.leg.specs.declared.phases.Phase.TheVariants.{Dialling, Spoiled}
-use Rattle.leg.specs.steps.Replies.{IsOpened}
 use Rattle.leg.proofs.AccountSteps.{account_goes, within_on, ahead_dial, ahead_spoiled, dial_spoil_enough, looks_stay}
-use Rattle.leg.proofs.Opened.{if_session}
 use Rattle.leg.proofs.opens.dial.Goals as goal
 
 pub returns-in_default : goal.returns-in_default
@@ -26,6 +22,7 @@ returns-in_default g c = record {
           pool = refl;
           door_counts = refl;
           backend_moves = record { counts = refl; happened = refl };
+          links = tt;
         };
         done = refl;
         holds = record {
@@ -40,11 +37,6 @@ returns-in_default g c = record {
       };
 }
 
-pub after_open-requires-clause-opened : goal.after_open-requires-clause-opened
-after_open-requires-clause-opened g c =
-    if_session (IsNewSession g.S.Sitting c.in-Ok.address) (IsOpened g.W.World g.S.Sitting c.in-Ok.address) c.open_-opening.result
-    (λ s h. record { at = h.same_address; waits = h.pending }) c.open_-opening.ensures.session
-
 pub returns : goal.returns
 returns g c = record {
   step = λ now door.
@@ -54,14 +46,14 @@ returns g c = record {
       record {
         law = record {
           deed = opened c.open_-opening.result;
-          due = if_session (IsNewSession g.S.Sitting c.in-Ok.address) (λ s. g.S.Sitting.address s ≡ opened_at (lent_terms terms) c.args.member) c.open_-opening.result
-              (λ s h. h.same_address ∙ c.in-Ok.ensures.address) l.session;
+          due = rw c.in-Ok.ensures.address at l.session;
           goes = f.goes;
           account = f.account;
           looks = looks_stay terms.class (rises_of (want_of c.args.task.now) (opened c.open_-opening.result)) false c.args.account.now c.after_open.new.account f.account;
           pool = refl;
           door_counts = refl;
           backend_moves = record { counts = l.counts; happened = l.happened };
+          links = rw c.in-Ok.ensures.address at l.steady;
         };
         done = f.done;
         holds = f.holds;

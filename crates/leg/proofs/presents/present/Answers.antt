@@ -27,6 +27,7 @@ returns-in_default g c = record {
           pool = refl;
           door_counts = refl;
           backend_moves = record { counts = refl; happened = refl };
+          links = tt;
         };
         done = refl;
         holds = spoiled_holds g.W.World g.S.Sitting (lent_terms c.args.terms.now) c.args.task.now door.counts.most (Presenting c.args.held c.args.items c.args.slot c.args.hits) c.args.held.seat false c.args.held.given 0 c.args.account.now c.count.new.self e refl c.requires.kept.may k.account k.within;
@@ -52,13 +53,14 @@ returns-in-Started g c = record {
       record {
         law = record {
           deed = deed;
-          due = rw asked (record { asks = refl; waits = l.pending; address = l.address });
+          due = rw asked (record { asks = refl; waits = l.pending; address = l.address; made = l.made });
           goes = rw c.in-Started.is (refl, refl);
           account = e;
           looks = looks_stay c.args.terms.now.class (rises_of (want_of c.args.task.now) deed) c.args.held.given c.args.account.now b e;
           pool = refl;
           door_counts = refl;
           backend_moves = record { counts = l.counts; happened = l.happened };
+          links = l.steady;
         };
         done = refl;
         holds = record {
@@ -91,13 +93,14 @@ returns-in-Failed g c = record {
       record {
         law = record {
           deed = deed;
-          due = rw asked (record { asks = refl; waits = l.pending; address = l.address });
+          due = rw asked (record { asks = refl; waits = l.pending; address = l.address; made = l.made });
           goes = rw c.in-Failed.is (c.after_fault.ensures, refl);
           account = e;
           looks = looks_stay c.args.terms.now.class (rises_of (want_of c.args.task.now) deed) c.args.held.given c.args.account.now b e;
           pool = refl;
           door_counts = refl;
           backend_moves = record { counts = l.counts; happened = l.happened };
+          links = l.steady;
         };
         done = rw c.after_fault.ensures (fault_not_done g.W.World g.S.Sitting (lent_terms c.args.terms.now) c.args.task.now c.args.held);
         holds = rw c.after_fault.ensures (fault_holds g.W.World g.S.Sitting (lent_terms c.args.terms.now) c.args.task.now door.counts.most (Presenting c.args.held c.args.items c.args.slot c.args.hits) c.args.held false 0 0 c.args.account.now b counted refl (omega arith) c.requires.kept.may k.account k.within);
@@ -118,13 +121,14 @@ returns-in-Memory g c = record {
       record {
         law = record {
           deed = deed;
-          due = rw asked (record { asks = refl; waits = l.pending; address = l.address });
+          due = rw asked (record { asks = refl; waits = l.pending; address = l.address; made = l.made });
           goes = rw c.in-Memory.is (refl, refl);
           account = e;
           looks = looks_stay c.args.terms.now.class (rises_of (want_of c.args.task.now) deed) c.args.held.given c.args.account.now b e;
           pool = refl;
           door_counts = refl;
           backend_moves = record { counts = l.counts; happened = l.happened };
+          links = l.steady;
         };
         done = refl;
         holds = spoiled_holds g.W.World g.S.Sitting (lent_terms c.args.terms.now) c.args.task.now door.counts.most (Presenting c.args.held c.args.items c.args.slot c.args.hits) c.args.held.seat false c.args.held.given 0 c.args.account.now b counted refl c.requires.kept.may k.account k.within;

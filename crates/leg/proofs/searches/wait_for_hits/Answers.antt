@@ -18,7 +18,7 @@ returns g c = record {
       record {
         law = record {
           deed = deed;
-          due = record { fits = l.fits; waits = l.pending; address = l.address };
+          due = record { fits = l.fits; worlds = l.worlds; waits = l.pending; address = l.address; made = l.made };
           goes = f.goes;
           account = f.account;
           looks = looks_grow c.args.terms.now.class (rises_of (want_of c.args.task.now) deed) c.args.held.given c.args.looks c.look-heard.result c.args.account.now c.after_search.new.account f.account c.requires.counts.account.most_looks;
@@ -28,6 +28,7 @@ returns g c = record {
             counts = subst (λ (x : Address). LookCounts g.B.Watched.exact (g.W.World.told x) c.look-heard.result before after) (sym l.address) l.counts;
             happened = l.happened;
           };
+          links = l.steady;
         };
         done = f.done;
         holds = f.holds;

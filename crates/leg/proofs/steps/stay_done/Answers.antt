@@ -22,6 +22,7 @@ returns g c = record {
           pool = refl;
           door_counts = refl;
           backend_moves = record { counts = refl; happened = refl };
+          links = tt;
         };
         done = refl;
         holds = done_holds g.W.World g.S.Sitting (lent_terms c.args.terms.now) c.args.task.now door.counts.most door.counts.most (Done c.args.answer) c.args.answer false c.args.account.now b e refl

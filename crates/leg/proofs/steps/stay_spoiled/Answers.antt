@@ -24,6 +24,7 @@ returns g c = record {
           pool = refl;
           door_counts = refl;
           backend_moves = record { counts = refl; happened = refl };
+          links = tt;
         };
         done = refl;
         holds = record {
