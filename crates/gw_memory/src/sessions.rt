@@ -9,8 +9,9 @@ ghost use Rattle.z_types.specs.declared.ask.Ask.TheVariants as Asks;
 ghost use Rattle.z_types.specs.Pending.{resting, IsPending};
 ghost use Rattle.gw_outside.specs.Asks.{MayAsk};
 ghost use Rattle.gw_outside.specs.Counts.{BackendCounts, no_counts};
-ghost use Rattle.gw_outside.specs.Happened.{AreSame, AreLess};
+ghost use Rattle.gw_outside.specs.Happened.{AreSame, AreLess, at_address};
 ghost use Rattle.gw_outside.specs.Sessions.{IfSession, IsNewSession, OpenHappens, OpenCounts, LookCounts, Fits, IsWorlds, pending_from, pending_after, made_after, is_search, open_counted, start_counted, heard_counted};
+ghost use Rattle.gw_outside.specs.Steady.{OpensSteadily, AsksSteadily, LooksSteadily};
 ghost use Rattle.gw_outside.specs.Targets.{AnswersAs};
 ghost use Rattle.gw_memory.specs.FakeCounts.{counts_of, never_steady};
 ghost use Rattle.planned_calls.specs.Planned.{new_calls, fails_next, after_call};
@@ -129,6 +130,9 @@ impl<T: Targets> Backend<T> for FakeBackend<T> {
         ensures session { IfSession result
             (IsNewSession ⟦<FakeSession as Sitting<T>>⟧ address.now) }
         ensures happened { OpenHappens result never_steady never_steady }
+        ensures steady { T.told address.now → never_steady.steady ≡ true
+            → OpensSteadily ⟦<FakeSession as Sitting<T>>⟧ true
+            (at_address never_steady address.now) (counts_of self.new).dials result }
         ensures counts { OpenCounts true result (counts_of self.old) (counts_of self.new) }
         ensures planned { (open_counted result).fault ≡ fails_next self.old.calls }
         ensures unlinked { ¬ (result ≡ Opening.Failed true) }
@@ -157,6 +161,9 @@ impl<T: Targets> Backend<T> for FakeBackend<T> {
         ensures made { (name : List ℕ) → made_in session.new.answers.items name
             ≡ made_in session.old.answers.items name }
         ensures happened { AreLess never_steady never_steady }
+        ensures steady { T.told session.old.address → never_steady.steady ≡ true
+            → AsksSteadily T.World session.old.address ask.now no_link no_link
+            never_steady never_steady result }
         ensures counts { BackendCounts true (Unit {0})
             (start_counted ask.now result) (counts_of self.old) (counts_of self.new) }
         ensures planned { (start_counted ask.now result).fault ≡ fails_next self.old.calls }
@@ -189,6 +196,8 @@ impl<T: Targets> Backend<T> for FakeBackend<T> {
             (made_in session.old.answers.items) name }
         ensures address { session.new.address ≡ session.old.address }
         ensures happened { AreSame never_steady never_steady }
+        ensures steady { T.told session.old.address → never_steady.steady ≡ true
+            → LooksSteadily session.old.address never_steady no_link no_link result }
         ensures counts { LookCounts true (T.told session.old.address)
             result (counts_of self.old) (counts_of self.new) }
         ensures planned { (heard_counted result).fault ≡ fails_next self.old.calls }

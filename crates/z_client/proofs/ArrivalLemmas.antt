@@ -29,18 +29,18 @@ no_extent octets t b (inl d) e = head_some d.head t (Some (length b)) b d.header
 no_extent octets t b (inr d) e = head_some d.head t None (b ++ end_of_contents) d.header (sym (append_assoc d.head b end_of_contents) ∙ sym d.spelled ∙ e)
 
 -- no frame is empty
-no_frame : {P : Type 0} (octets : List ℕ) → IsFrame octets → octets ≡ [] → P
+pub no_frame : {P : Type 0} (octets : List ℕ) → IsFrame octets → octets ≡ [] → P
 no_frame octets f e = no_extent octets f.0.0 f.0.1 f.0.2 e
 
 -- octets that are a frame are open for none
-not_open : {P : Type 0} (octets : List ℕ) → IsFrame octets → IsOpenFor IsFrame octets → P
+pub not_open : {P : Type 0} (octets : List ℕ) → IsFrame octets → IsOpenFor IsFrame octets → P
 not_open octets f o = absurd (o.0 (octets, [], f, sym (append-nil octets)))
 
 take_nil : (size : ℕ) → ◌≡◌ {A = List ℕ} (take size []) []
 take_nil zero = refl
 take_nil (suc size) = refl
 
-take_none : (size : ℕ) (octets : List ℕ) → octets ≡ [] → take size octets ≡ []
+pub take_none : (size : ℕ) (octets : List ℕ) → octets ≡ [] → take size octets ≡ []
 take_none size octets e = ap (λ o. take size o) e ∙ take_nil size
 
 -- the frame in front of a frame is all of it
@@ -53,7 +53,7 @@ nothing_behind octets size e =
     append_cancel_left octets (drop size octets) [] (ap (λ front. front ++ drop size octets) (sym e) ∙ take-append-drop size octets ∙ sym (append-nil octets))
 
 -- no octets begin a frame
-nothing_opens : {P : Type 0} → IsBadFor IsFrame [] → P
+pub nothing_opens : {P : Type 0} → IsBadFor IsFrame [] → P
 nothing_opens bad =
     let few = octets_within 0 (omega arith) (omega arith) size.nothing in
     let frame : IsFrame (element (primitive 0) []) =
@@ -61,7 +61,7 @@ nothing_opens bad =
     absurd (bad (element (primitive 0) [], (element (primitive 0) [], [], frame, sym (append-nil (element (primitive 0) [])))))
 
 -- octets that are a frame begin one
-frame_opens : {P : Type 0} (octets : List ℕ) → IsFrame octets → IsBadFor IsFrame octets → P
+pub frame_opens : {P : Type 0} (octets : List ℕ) → IsFrame octets → IsBadFor IsFrame octets → P
 frame_opens octets f bad = absurd (bad ([], (octets, [], f, refl)))
 
 module _ (exact : Bool) where

@@ -7,8 +7,9 @@ use Rattle.z_types.specs.declared.address.Address.TheVariants.{Test, Tcp}
 use Rattle.gw_outside.specs.declared.backends.Opening.TheVariants as opened
 use Rattle.gw_outside.specs.declared.wires.Sent.TheVariants as sent
 use Rattle.gw_outside.specs.Happened.{Happened, AreSame, AreLess, IsMade, IsAsked}
+use Rattle.gw_outside.specs.declared.links.Linked as linked
 use Rattle.gw_outside.specs.Peers.{Peer}
-use Rattle.gw_outside.specs.Wires.{SendHappens, IsSentTo, IsRequestUnit}
+use Rattle.gw_outside.specs.Wires.{SendHappens, IsSentTo, IsRequestUnit, IsSameLink}
 use Rattle.z_client.specs.Units.{init_request}
 
 pub same_self : (h : Happened) → AreSame h h
@@ -26,14 +27,22 @@ same_less a b c s l = record {
   cut = λ target. subst (λ h. (c.of_target target).cut ≡ h.cut) (s.of_target target) (l.cut target);
 }
 
+-- nothing of a link changes
+pub same_link : {L : Type 0} (l : linked.Ghosts L) (link : L) → IsSameLink l link link
+same_link l link = record { peer = refl; number = refl; delays = refl }
+
 module _ (a b : Happened) where
   made_same : (own target : ℕ) → IsMade own (λ happening. happening) a b → ((eqb own target ≡ true) × (own ≡ target)) ⊎ ((eqb own target ≡ false) × (own ≢ target))
       → b.of_target target ≡ a.of_target target
   made_same own target m (inl e) = subst (λ at. b.of_target at ≡ a.of_target at) e.1 m.own
   made_same own target m (inr e) = m.others target (λ is. e.1 (sym is))
 
+  -- what is made of a target's where nothing is
+  pub unmade_same : (own : ℕ) → IsMade own (λ happening. happening) a b → AreSame a b
+  unmade_same own s = record { steady = s.steady; lent = s.lent; of_target = λ target. made_same own target s (eqb_tells own target) }
+
   address_same : (address : Address) → IsAsked address init_request a b → AreSame a b
-  address_same (Test own) s = record { steady = s.steady; lent = s.lent; of_target = λ target. made_same own target s (eqb_tells own target) }
+  address_same (Test own) s = unmade_same own s
   address_same (Tcp host port) s = s
 
   -- an Init leaves all that is to happen

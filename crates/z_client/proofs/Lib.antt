@@ -13,3 +13,7 @@ pub mod CountLemmas
 pub mod HappenedLemmas
 pub mod GoneLemmas
 pub mod OpenLemmas
+pub mod SteadyArrivals
+pub mod SteadyAsks
+pub mod SteadyLooks
+pub mod SteadyOpens

@@ -19,7 +19,7 @@ use Rattle.z_client.specs.TrueSession.{HoldsOrNothing, AreTrueSets, IsTrueReply,
 use Rattle.z_client.proofs.TrueReplies.{no_operand, Hears, search_reply_true, scan_reply_true, presented_true, not_held_true}
 
 -- what is left of sets, or stays, is the set or nothing
-holds_left : (before after : List NamedSet) (name : List ℕ) (key : SetKey) → HoldsOrNothing before name key
+pub holds_left : (before after : List NamedSet) (name : List ℕ) (key : SetKey) → HoldsOrNothing before name key
     → (held after name ≡ held before name) ⊎ (held after name ≡ None) → HoldsOrNothing after name key
 holds_left before after name key (inl h) (inl s) = inl (s ∙ h)
 holds_left before after name key (inr h) (inl s) = inr (s ∙ h)

@@ -1,12 +1,14 @@
 -- How the next unit arrives over a link (X.690:2021, 8.1; what links tell is this project's own)
-use Rattle.std.specs.Prelude.{◌≡◌, ◌⊎◌, ℕ, ◌≤◌, true, Bool, List, [], ◌++◌, length, take, drop, Option, None, Some}
+use Rattle.std.specs.Prelude.{◌≡◌, ◌⊎◌, ℕ, ◌≤◌, true, Bool, List, [], ◌∷◌, ◌++◌, length, take, drop, Option, None, Some}
 use Rattle.z_ber.specs.Frames.{IsFrame}
 use Rattle.z_ber.specs.Header.{IsOpenFor, IsBadFor}
 use Rattle.gw_outside.specs.Counts.{Counts, Counted, nothing, after}
+use Rattle.gw_outside.specs.declared.links.Linked as linked
 use Rattle.gw_outside.specs.declared.wires.Looked.{Looked}
 use Rattle.gw_outside.specs.declared.wires.Looked.TheVariants as looked
+use Rattle.gw_outside.specs.Happened.{Happened, is_cut, to_peer}
 use Rattle.gw_outside.specs.Peers.{Peer}
-use Rattle.gw_outside.specs.Wires.{HandsOver, ArrivesFrom, first_says_gone}
+use Rattle.gw_outside.specs.Wires.{HandsOver, ArrivesFrom, DelaysLooked, first_says_gone}
 use Rattle.z_client.specs.declared.arrivals.Arrival.{Arrival}
 use Rattle.z_client.specs.declared.arrivals.Arrival.TheVariants.{Unit as Whole, NotYet, Breach, Failed, Memory}
 
@@ -93,3 +95,36 @@ looked_for (Some Failed) = looked.Failed
 looked_for (Some Memory) = looked.Memory
 looked_for (Some (Whole size)) = looked.Memory
 looked_for (Some Breach) = looked.Memory
+
+-- ---- over a steady wire
+
+-- what the last look answered
+abbrev pub last_looked : Arrival → Looked
+last_looked (Whole size) = looked.Arrived
+last_looked Breach = looked.Arrived
+last_looked NotYet = looked.NotYet
+last_looked Failed = looked.Failed
+last_looked Memory = looked.Memory
+
+-- a unit was awaited over a steady link that tells its peer: with one look, and in vain where it is not due, or where the link is cut
+pub record AwaitsSteadily {L : Type 0} (l : linked.Ghosts L) (h : Happened) (old new : L) (answer : Arrival) : Type 0 where
+  pub number : l.number new ≡ l.number old
+  pub delays : DelaysLooked (l.delays old) (l.delays new) (last_looked answer)
+  pub fails : answer ≡ Failed → is_cut (to_peer h (l.peer old)) (l.number old) ≡ true
+
+module _ {L : Type 0} (l : linked.Ghosts L) where
+  -- nothing has come
+  pub record NoneCame (old new : L) : Type 0 where
+    pub none : l.arrived new ≡ []
+    pub peer : l.peer new ≡ l.peer old
+    pub delays : l.delays new ≡ l.delays old
+
+  -- one reply has, when it was due
+  pub record OneCame (old new : L) : Type 0 where
+    pub frame : IsFrame (l.arrived new)
+    pub due : l.delays old ≡ 0 ∷ l.delays new
+
+  -- a link while a unit is awaited
+  pub record IsAwaited (old new : L) : Type 0 where
+    pub number : l.number new ≡ l.number old
+    pub came : NoneCame old new ⊎ OneCame old new

@@ -1,11 +1,11 @@
 //! Units as they arrive over a link. Each octet is looked at once: the scan stands where it ended.
 
-ghost use Rattle.std.specs.Prelude.{◌≡◌, [], false};
+ghost use Rattle.std.specs.Prelude.{◌≡◌, [], false, true, IsSome};
 ghost use Rattle.z_ber.specs.Due.{Stands};
 ghost use Rattle.gw_outside.specs.Counts.{WireCounts};
 ghost use Rattle.gw_outside.specs.Happened.{AreSame};
-ghost use Rattle.gw_outside.specs.Wires.{look_counted};
-ghost use Rattle.z_client.specs.Arrivals.{ArrivalFits, ArrivesBy, IsInFront, IsLooked, arrival_counted, looked_for};
+ghost use Rattle.gw_outside.specs.Wires.{LooksSteadily, look_counted};
+ghost use Rattle.z_client.specs.Arrivals.{ArrivalFits, ArrivesBy, AwaitsSteadily, IsInFront, IsLooked, arrival_counted, looked_for};
 
 use gw_outside::{Looked, Wire};
 use std::alloc::Global;
@@ -28,7 +28,7 @@ pub enum Arrival {
 }
 
 /// Looks at a link until a unit or a breach stands in what has arrived, or nothing more arrives.
-#[tactic(auto, using(crate::proofs::ArrivalLemmas::comes_first, crate::proofs::HappenedLemmas::same_self, crate::proofs::CountLemmas::uncounted))]
+#[tactic(auto, using(crate::proofs::ArrivalLemmas::comes_first, crate::proofs::SteadyArrivals::awaited_first, crate::proofs::HappenedLemmas::same_self, crate::proofs::CountLemmas::uncounted))]
 pub(crate) fn await_unit<W: World, N: Wire<W>>(
     wire: &mut N,
     alloc: Global,
@@ -42,6 +42,9 @@ pub(crate) fn await_unit<W: World, N: Wire<W>>(
         (N.counts wire.old) (N.counts wire.new) result }
     ensures scanned { result ≡ Arrival.NotYet
         → Stands (N.Link.arrived link.new) scan.new.passed scan.new.opened }
+    ensures steady { N.Link.arrived link.old ≡ [] → IsSome (N.Link.peer link.old)
+        → (N.happened wire.old).steady ≡ true
+        → AwaitsSteadily N.Link.Linked (N.happened wire.old) link.old link.new result }
     ensures happened { AreSame (N.happened wire.old) (N.happened wire.new) }
     ensures counts { WireCounts false
         (arrival_counted result) (N.counts wire.old) (N.counts wire.new) }
@@ -79,6 +82,8 @@ fn look_again<W: World, N: Wire<W>>(
 ) -> Option<Arrival>
     ensures looked { IsLooked (N.Link.peer link.old) (N.Link.peer link.new)
         (N.Link.arrived link.old) (N.Link.arrived link.new) result }
+    ensures steady { LooksSteadily N.Link.Linked link.old link.new
+        (N.happened wire.old) (N.happened wire.new) (looked_for result) }
     ensures happened { AreSame (N.happened wire.old) (N.happened wire.new) }
     ensures counts { WireCounts N.exact (look_counted (N.Link.peer link.old) (looked_for result))
         (N.counts wire.old) (N.counts wire.new) }

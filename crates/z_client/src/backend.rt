@@ -1,15 +1,17 @@
 //! Sessions with targets over the links of a wire.
 
-ghost use Rattle.std.specs.Prelude.{◌≡◌, ◌≢◌, List, ℕ, [], false, IfOk};
+ghost use Rattle.std.specs.Prelude.{◌≡◌, ◌≢◌, List, ℕ, [], false, true, IfOk};
 ghost use Rattle.z_ber.specs.Frames.{IsFrame};
 ghost use Rattle.z_ber.specs.Header.{IsOpenFor};
 ghost use Rattle.z_types.specs.Pending.{IsPending, resting};
 ghost use Rattle.gw_outside.specs.Asks.{MayAsk};
 ghost use Rattle.gw_outside.specs.Counts.{BackendCounts};
-ghost use Rattle.gw_outside.specs.Happened.{AreSame, AreLess};
+ghost use Rattle.gw_outside.specs.Happened.{AreSame, AreLess, at_address};
 ghost use Rattle.gw_outside.specs.Sessions.{IfSession, IsNewSession, OpenHappens, OpenCounts, LookCounts, Fits, IsWorlds, made_after, pending_from, pending_after, start_counted};
+ghost use Rattle.gw_outside.specs.Steady.{OpensSteadily, AsksSteadily, LooksSteadily};
 ghost use Rattle.z_client.specs.Counts.{counts_over};
 ghost use Rattle.z_client.specs.Heard.{IsBreach, BeginsWithGone};
+ghost use Rattle.z_client.specs.Links.{link_of};
 ghost use Rattle.z_client.specs.Looks.{IsOwed};
 ghost use Rattle.z_client.specs.Sets.{made_in, pending_of};
 ghost use Rattle.z_client.specs.Units.{request_of, IsAskUnit, Takes, TookInit};
@@ -86,6 +88,10 @@ impl<W: World, N: Wire<W>> Backend<W> for ZBackend<N> {
             (λ s. TookInit W.World (N.happened self.old.wire) address.now (N.Link.peer s.link)) }
         ensures happened { OpenHappens result
             (N.happened self.old.wire) (N.happened self.new.wire) }
+        ensures steady { W.told address.now → (N.happened self.old.wire).steady ≡ true
+            → OpensSteadily ⟦<ZSession<W, N::Link> as Sitting<W>>⟧ N.exact
+            (at_address (N.happened self.old.wire) address.now)
+            (counts_over N.exact (N.counts self.new.wire) self.new.own).dials result }
         ensures counts { OpenCounts N.exact result
             (counts_over N.exact (N.counts self.old.wire) self.old.own)
             (counts_over N.exact (N.counts self.new.wire) self.new.own) }
@@ -120,6 +126,10 @@ impl<W: World, N: Wire<W>> Backend<W> for ZBackend<N> {
             → Takes W.World (N.happened self.old.wire) (request_of ask.now)
             (N.Link.peer session.old.link) (N.Link.peer session.new.link) }
         ensures happened { AreLess (N.happened self.old.wire) (N.happened self.new.wire) }
+        ensures steady { W.told session.old.address → (N.happened self.old.wire).steady ≡ true
+            → AsksSteadily W.World session.old.address ask.now
+            (link_of N.Link.Linked session.old.link) (link_of N.Link.Linked session.new.link)
+            (N.happened self.old.wire) (N.happened self.new.wire) result }
         ensures counts { BackendCounts N.exact (Unit {0}) (start_counted ask.now result)
             (counts_over N.exact (N.counts self.old.wire) self.old.own)
             (counts_over N.exact (N.counts self.new.wire) self.new.own) }
@@ -149,6 +159,10 @@ impl<W: World, N: Wire<W>> Backend<W> for ZBackend<N> {
             (made_in session.old.made.items) name }
         ensures address { session.new.address ≡ session.old.address }
         ensures happened { AreSame (N.happened self.old.wire) (N.happened self.new.wire) }
+        ensures steady { W.told session.old.address → (N.happened self.old.wire).steady ≡ true
+            → LooksSteadily session.old.address (N.happened self.old.wire)
+            (link_of N.Link.Linked session.old.link) (link_of N.Link.Linked session.new.link)
+            result }
         ensures counts { LookCounts N.exact (W.told session.old.address) result
             (counts_over N.exact (N.counts self.old.wire) self.old.own)
             (counts_over N.exact (N.counts self.new.wire) self.new.own) }

@@ -1,8 +1,11 @@
 //! A look of a session at its link: what is heard of the unit that has arrived, or a breach.
 
-ghost use Rattle.std.specs.Prelude.{◌≡◌, ◌≤◌, length, take, drop, Some, IfOk, OnOk};
+ghost use Rattle.std.specs.Prelude.{◌≡◌, ◌≤◌, length, take, drop, Some, IfOk, OnOk, true};
 ghost use Rattle.z_types.specs.Pending.{IsPending};
 ghost use Rattle.gw_outside.specs.Happened.{AreSame};
+ghost use Rattle.gw_outside.specs.Steady.{LooksSteadily};
+ghost use Rattle.gw_outside.specs.Wires.{IsSameLink};
+ghost use Rattle.z_client.specs.Links.{link_of};
 ghost use Rattle.z_client.specs.Looks.{IsHeardIn, IsOwed, HasArrived, IsListened, FoundFits, FoundIn, FoundCounts, KeepsBreach, answer_of, heard_if_kept};
 ghost use Rattle.z_client.specs.Sets.{made_in, pending_of};
 ghost use Rattle.z_client.specs.TrueSession.{IsKept};
@@ -32,6 +35,10 @@ pub(crate) fn listen<W: World, N: Wire<W>>(
         (pending_of parts.old.waiting) (N.Link.arrived parts.new.link) result }
     ensures owed { W.told parts.old.address → IsOwed (N.Link.peer parts.old.link)
         (pending_of parts.old.waiting) (answer_of result) }
+    ensures steady { W.told parts.old.address → (N.happened wire.old).steady ≡ true
+        → LooksSteadily parts.old.address (N.happened wire.old)
+        (link_of N.Link.Linked parts.old.link) (link_of N.Link.Linked parts.new.link)
+        (answer_of result) }
     ensures happened { AreSame (N.happened wire.old) (N.happened wire.new) }
     ensures counts { FoundCounts N.exact result (N.counts wire.old) (N.counts wire.new) }
 {
@@ -49,7 +56,7 @@ pub(crate) fn listen<W: World, N: Wire<W>>(
 }
 
 /// What is found of the unit of `size` octets that has arrived.
-#[tactic(auto, using(crate::proofs::HappenedLemmas::same_self, crate::proofs::HappenedLemmas::same_again))]
+#[tactic(auto, using(crate::proofs::HappenedLemmas::same_self, crate::proofs::HappenedLemmas::same_again, crate::proofs::HappenedLemmas::same_link))]
 fn hear<W: World, N: Wire<W>>(
     wire: &mut N,
     alloc: Global,
@@ -62,6 +69,7 @@ fn hear<W: World, N: Wire<W>>(
         (made_in parts.old.made.items) (pending_of waiting) parts.new (answer_of result) }
     ensures found { FoundIn (W.told parts.old.address) (pending_of waiting)
         (take size (N.Link.arrived parts.old.link)) (N.Link.arrived parts.new.link) result }
+    ensures link { IsSameLink N.Link.Linked parts.old.link parts.new.link }
     ensures happened { AreSame (N.happened wire.old) (N.happened wire.new) }
     ensures counts { N.counts wire.new ≡ N.counts wire.old }
 {
@@ -90,7 +98,7 @@ fn unit_heard<W: World, N: Wire<W>>(
 
 /// Keeps what was heard of a unit, and lets the session rest. Where a result set is gone the octets that
 /// had arrived are kept.
-#[tactic(auto, using(crate::proofs::HappenedLemmas::same_self, crate::proofs::HappenedLemmas::same_again))]
+#[tactic(auto, using(crate::proofs::HappenedLemmas::same_self, crate::proofs::HappenedLemmas::same_again, crate::proofs::HappenedLemmas::same_link))]
 fn settle<W: World, N: Wire<W>>(
     wire: &mut N,
     alloc: Global,
@@ -106,6 +114,7 @@ fn settle<W: World, N: Wire<W>>(
         (made_in parts.old.made.items) (pending_of waiting) parts.new (answer_of result) }
     ensures found { FoundIn (W.told parts.old.address) (pending_of waiting)
         (take size (N.Link.arrived parts.old.link)) (N.Link.arrived parts.new.link) result }
+    ensures link { IsSameLink N.Link.Linked parts.old.link parts.new.link }
     ensures happened { AreSame (N.happened wire.old) (N.happened wire.new) }
     ensures counts { N.counts wire.new ≡ N.counts wire.old }
 {
@@ -119,7 +128,7 @@ fn settle<W: World, N: Wire<W>>(
 }
 
 /// The same where a result set is gone.
-#[tactic(auto, using(crate::proofs::HappenedLemmas::same_self, crate::proofs::HappenedLemmas::same_again))]
+#[tactic(auto, using(crate::proofs::HappenedLemmas::same_self, crate::proofs::HappenedLemmas::same_again, crate::proofs::HappenedLemmas::same_link))]
 fn settle_gone<W: World, N: Wire<W>>(
     wire: &mut N,
     alloc: Global,
@@ -134,6 +143,7 @@ fn settle_gone<W: World, N: Wire<W>>(
         (made_in parts.old.made.items) (pending_of waiting) parts.new (answer_of result) }
     ensures found { FoundIn (W.told parts.old.address) (pending_of waiting)
         (take size (N.Link.arrived parts.old.link)) (N.Link.arrived parts.new.link) result }
+    ensures link { IsSameLink N.Link.Linked parts.old.link parts.new.link }
     ensures happened { AreSame (N.happened wire.old) (N.happened wire.new) }
     ensures counts { N.counts wire.new ≡ N.counts wire.old }
 {
@@ -147,7 +157,7 @@ fn settle_gone<W: World, N: Wire<W>>(
 }
 
 /// Keeps what was heard, drops the unit, and lets the session rest.
-#[tactic(auto, using(crate::proofs::HappenedLemmas::same_self, crate::proofs::HappenedLemmas::same_again))]
+#[tactic(auto, using(crate::proofs::HappenedLemmas::same_self, crate::proofs::HappenedLemmas::same_again, crate::proofs::HappenedLemmas::same_link))]
 fn rest<W: World, N: Wire<W>>(
     wire: &mut N,
     parts: &mut Parts<N::Link>,
@@ -163,6 +173,7 @@ fn rest<W: World, N: Wire<W>>(
         (heard_if_kept result heard.now) }
     ensures left { OnOk result
         (N.Link.arrived parts.new.link ≡ drop size (N.Link.arrived parts.old.link)) }
+    ensures link { IsSameLink N.Link.Linked parts.old.link parts.new.link }
     ensures happened { AreSame (N.happened wire.old) (N.happened wire.new) }
     ensures counts { N.counts wire.new ≡ N.counts wire.old }
 {

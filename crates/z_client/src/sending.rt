@@ -4,10 +4,12 @@ ghost use Rattle.std.specs.Prelude.{◌≡◌, Bool, true, false};
 ghost use Rattle.z_types.specs.Pending.{resting};
 ghost use Rattle.gw_outside.specs.Asks.{MayAsk};
 ghost use Rattle.gw_outside.specs.Counts.{WireCounts};
-ghost use Rattle.gw_outside.specs.Happened.{AreLess};
+ghost use Rattle.gw_outside.specs.Happened.{AreLess, at_address};
 ghost use Rattle.gw_outside.specs.Peers.{IsShortRequest};
 ghost use Rattle.gw_outside.specs.Sessions.{IfSession, OpenHappens, open_counted, start_counted, pending_from};
+ghost use Rattle.gw_outside.specs.Steady.{OpensSteadily, AsksSteadily};
 ghost use Rattle.gw_outside.specs.Wires.{IsNewLink, IsRequestUnit};
+ghost use Rattle.z_client.specs.Links.{link_of};
 ghost use Rattle.z_client.specs.Sets.{made_in, pending_of};
 ghost use Rattle.z_client.specs.TrueSession.{IsNewParts, IsKept, IsTrueSession};
 ghost use Rattle.z_client.specs.Units.{init_request, request_of, Takes, TookInit};
@@ -18,7 +20,7 @@ use gw_outside::{Began, Opening, Sent, Wire};
 use std::alloc::Global;
 use std::marker::PhantomData;
 use z_ber::Scan;
-use z_types::{Address, Ask, Text, World};
+use z_types::{Address, Ask, Sitting, Text, World};
 
 /// Sends the Init over a new link.
 pub(crate) fn greet<W: World, N: Wire<W>>(
@@ -33,6 +35,9 @@ pub(crate) fn greet<W: World, N: Wire<W>>(
     ensures session { IfSession result (IsNewParts address) }
     ensures sent { IfSession result
         (λ s. TookInit W.World (N.happened wire.old) address (N.Link.peer s.link)) }
+    ensures steady { W.told address → (N.happened wire.old).steady ≡ true
+        → OpensSteadily ⟦<ZSession<W, N::Link> as Sitting<W>>⟧ N.exact
+        (at_address (N.happened wire.old) address) (N.counts wire.new).dials result }
     ensures linked { (linked : Bool) → result ≡ Opening.Failed linked → linked ≡ true }
     ensures happened { OpenHappens result (N.happened wire.old) (N.happened wire.new) }
     ensures counts { WireCounts N.exact
@@ -73,6 +78,10 @@ pub(crate) fn send_ask<W: World, N: Wire<W>>(
     ensures kept { IsTrueSession W.World N.Link.Linked parts.new }
     ensures sent { result ≡ Began.Started → Takes W.World (N.happened wire.old)
         (request_of ask) (N.Link.peer parts.old.link) (N.Link.peer parts.new.link) }
+    ensures steady { W.told parts.old.address → (N.happened wire.old).steady ≡ true
+        → AsksSteadily W.World parts.old.address ask
+        (link_of N.Link.Linked parts.old.link) (link_of N.Link.Linked parts.new.link)
+        (N.happened wire.old) (N.happened wire.new) result }
     ensures happened { AreLess (N.happened wire.old) (N.happened wire.new) }
     ensures counts { WireCounts N.exact
         (start_counted ask result) (N.counts wire.old) (N.counts wire.new) }

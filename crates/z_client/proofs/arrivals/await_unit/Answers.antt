@@ -2,6 +2,7 @@ use Rattle.std.proofs.Common.{rules, None, Some, subst}
 use Rattle.z_client.specs.Arrivals.{IsInFront}
 use Rattle.z_client.proofs.ArrivalLemmas.{front_fits, front_arrives, front_counts, look_fits, look_arrives, look_counts, look_stands, look_comes, arrived_counts, loop_arrives}
 use Rattle.z_client.proofs.HappenedLemmas.{same_again}
+use Rattle.z_client.proofs.SteadyArrivals.{front_awaits, look_awaits, look_awaited, loop_awaits}
 use Rattle.z_client.proofs.arrivals.await_unit.Goals as goal
 
 pub returns-in-Some-clause-fits : goal.returns-in-Some-clause-fits
@@ -56,6 +57,9 @@ loop-preserved g c =
           (g.N.Link.Linked.arrived c.loop.link) (g.N.Link.Linked.arrived c.look_again.new.link)
           (g.N.Watched.counts c.args.wire.now) (g.N.Watched.counts c.loop.wire) (g.N.Watched.counts c.look_again.new.wire) (c.loop.invariant.peer e) open_
           c.in_default-look_again.ensures.looked c.in_default-look_again.ensures.counts;
+      steady = λ e some steady. look_awaited g.N.Link.Linked (g.N.Watched.happened c.args.wire.now) c.args.link.now c.loop.link c.look_again.new.link
+          (g.N.Watched.happened c.loop.wire) (g.N.Watched.happened c.look_again.new.wire) c.loop.invariant.happened steady (c.loop.invariant.steady e some steady) open_ some
+          c.in_default-look_again.ensures.looked c.in_default-look_again.ensures.steady;
       happened = same_again (g.N.Watched.happened c.args.wire.now) (g.N.Watched.happened c.loop.wire) (g.N.Watched.happened c.look_again.new.wire)
           c.loop.invariant.happened c.in_default-look_again.ensures.happened;
       counts = arrived_counts g.N.Watched.exact (g.N.Link.Linked.peer c.loop.link) (g.N.Watched.counts c.args.wire.now) (g.N.Watched.counts c.loop.wire)
@@ -66,3 +70,19 @@ pub returns-clause-peer : goal.returns-clause-peer
 returns-clause-peer g c = λ e.
     loop_arrives g.N.Watched.exact (g.N.Link.Linked.peer c.args.link.now) (g.N.Link.Linked.peer c.loop.link) (g.N.Link.Linked.arrived c.loop.link)
     (g.N.Watched.counts c.args.wire.now) (g.N.Watched.counts c.loop.wire) (c.loop.invariant.peer e)
+
+pub returns-in-Some-clause-steady : goal.returns-in-Some-clause-steady
+returns-in-Some-clause-steady g c = λ e some steady.
+    front_awaits g.N.Link.Linked (g.N.Watched.happened c.args.wire.now) c.args.link.now c.loop.link c.in-Some.front (c.loop.invariant.steady e some steady)
+    (subst (λ octets. IsInFront octets (Some c.in-Some.front)) c.arrived.ensures c.in-Some.ensures.front)
+
+pub returns-in-Some-look_again-clause-steady : goal.returns-in-Some-look_again-clause-steady
+returns-in-Some-look_again-clause-steady g c = λ e some steady.
+    look_awaits g.N.Link.Linked (g.N.Watched.happened c.args.wire.now) c.args.link.now c.loop.link c.look_again.new.link
+    (g.N.Watched.happened c.loop.wire) (g.N.Watched.happened c.look_again.new.wire) c.loop.invariant.happened steady (c.loop.invariant.steady e some steady)
+    (subst (λ octets. IsInFront octets None) c.arrived.ensures c.in_default.ensures.front)
+    c.in-Some-look_again.end c.in-Some-look_again.ensures.looked c.in-Some-look_again.ensures.steady
+
+pub returns-clause-steady : goal.returns-clause-steady
+returns-clause-steady g c = λ e some steady.
+    loop_awaits g.N.Link.Linked (g.N.Watched.happened c.args.wire.now) c.args.link.now c.loop.link (c.loop.invariant.steady e some steady)

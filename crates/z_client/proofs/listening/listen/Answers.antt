@@ -4,6 +4,7 @@ use Rattle.z_client.specs.Sets.{made_in, pending_of}
 use Rattle.z_client.specs.TrueSession.{IsToldTrue}
 use Rattle.z_client.proofs.HappenedLemmas.{same_again}
 use Rattle.z_client.proofs.LookLemmas.{in_fits, bad_found, bad_untold, bad_counts, breach_owed, breach_listened, come_told, still_told, found_owed, unit_counts, not_yet_counts, failed_counts, memory_counts, not_yet_listened, failed_listened, memory_listened}
+use Rattle.z_client.proofs.SteadyLooks.{told_some, told_at, unit_holds, not_yet_same, memory_steadily, not_yet_steadily, failed_steadily, found_steadily}
 use Rattle.z_client.proofs.listening.listen.Goals as goal
 
 pub hear-requires : goal.hear-requires
@@ -135,3 +136,44 @@ returns-in-NotYet-clause-listened g c =
           (g.N.Link.Linked.peer c.await_unit.new.link)) (sym c.replace-waiting.ensures.value) (still told).1;
       exact = c.requires.kept.exact;
     })
+
+-- ---- over a steady wire
+
+pub returns-in-Unit-clause-steady : goal.returns-in-Unit-clause-steady
+returns-in-Unit-clause-steady g c = λ told steady.
+    found_steadily g.N.Link.Linked c.args.parts.now.address (g.N.Watched.happened c.args.wire.now) (pending_of c.args.parts.now.waiting) c.args.parts.now.link c.hear.new.parts.link c.await_unit.new.link c.in-Unit.size
+    (c.in-Unit.ensures.steady (c.requires.kept.nothing told) (told_some g.W.World c.args.parts.now.address (made_in c.args.parts.now.made.items) (pending_of c.args.parts.now.waiting) (g.N.Link.Linked.peer c.args.parts.now.link) (c.requires.kept.peer told)) steady)
+    c.hear.ensures.link
+    (unit_holds g.W.World c.args.parts.now.address (made_in c.args.parts.now.made.items) (pending_of c.args.parts.now.waiting) g.N.Watched.exact (g.N.Link.Linked.arrived c.await_unit.new.link) (g.N.Watched.counts c.args.wire.now) (g.N.Watched.counts c.await_unit.new.wire)
+    (g.N.Link.Linked.peer c.args.parts.now.link) (g.N.Link.Linked.peer c.await_unit.new.link) c.in-Unit.size
+    (c.requires.kept.peer told) (c.in-Unit.ensures.peer (c.requires.kept.nothing told)))
+    (g.W.World.told c.args.parts.now.address) (take c.in-Unit.size (g.N.Link.Linked.arrived c.await_unit.new.link)) (g.N.Link.Linked.arrived c.hear.new.parts.link)
+    c.hear.result told
+    (subst (λ waiting. FoundIn (g.W.World.told c.args.parts.now.address) (pending_of waiting) (take c.in-Unit.size (g.N.Link.Linked.arrived c.await_unit.new.link))
+    (g.N.Link.Linked.arrived c.hear.new.parts.link) c.hear.result) c.replace-waiting.ensures.value c.hear.ensures.found)
+    (returns-in-Unit-clause-owed g c told)
+
+pub returns-in-NotYet-clause-steady : goal.returns-in-NotYet-clause-steady
+returns-in-NotYet-clause-steady g c = λ told steady.
+    not_yet_steadily g.N.Link.Linked c.args.parts.now.address (g.N.Watched.happened c.args.wire.now) (pending_of c.args.parts.now.waiting) c.args.parts.now.link c.await_unit.new.link
+    (c.in-NotYet.ensures.steady (c.requires.kept.nothing told) (told_some g.W.World c.args.parts.now.address (made_in c.args.parts.now.made.items) (pending_of c.args.parts.now.waiting) (g.N.Link.Linked.peer c.args.parts.now.link) (c.requires.kept.peer told)) steady)
+    (not_yet_same g.W.World c.args.parts.now.address (made_in c.args.parts.now.made.items) (pending_of c.args.parts.now.waiting) g.N.Watched.exact (g.N.Link.Linked.arrived c.await_unit.new.link) (g.N.Watched.counts c.args.wire.now) (g.N.Watched.counts c.await_unit.new.wire)
+    (g.N.Link.Linked.peer c.args.parts.now.link) (g.N.Link.Linked.peer c.await_unit.new.link)
+    (c.requires.kept.peer told) (c.in-NotYet.ensures.peer (c.requires.kept.nothing told)))
+
+pub returns-in-Failed-clause-steady : goal.returns-in-Failed-clause-steady
+returns-in-Failed-clause-steady g c = λ told steady.
+    failed_steadily g.N.Link.Linked c.args.parts.now.address (g.N.Watched.happened c.args.wire.now) (pending_of c.args.parts.now.waiting) c.args.parts.now.link c.await_unit.new.link
+    (c.in-Failed.ensures.steady (c.requires.kept.nothing told) (told_some g.W.World c.args.parts.now.address (made_in c.args.parts.now.made.items) (pending_of c.args.parts.now.waiting) (g.N.Link.Linked.peer c.args.parts.now.link) (c.requires.kept.peer told)) steady)
+    (told_at g.W.World c.args.parts.now.address (made_in c.args.parts.now.made.items) (pending_of c.args.parts.now.waiting) (g.N.Watched.happened c.args.wire.now) (g.N.Link.Linked.peer c.args.parts.now.link) (c.requires.kept.peer told))
+
+pub returns-in-Memory-clause-steady : goal.returns-in-Memory-clause-steady
+returns-in-Memory-clause-steady g c = λ told steady.
+    memory_steadily g.N.Link.Linked c.args.parts.now.address (g.N.Watched.happened c.args.wire.now) (pending_of c.args.parts.now.waiting) c.args.parts.now.link c.await_unit.new.link
+    (c.in-Memory.ensures.steady (c.requires.kept.nothing told) (told_some g.W.World c.args.parts.now.address (made_in c.args.parts.now.made.items) (pending_of c.args.parts.now.waiting) (g.N.Link.Linked.peer c.args.parts.now.link) (c.requires.kept.peer told)) steady).number
+
+pub returns-in-Breach-clause-steady : goal.returns-in-Breach-clause-steady
+returns-in-Breach-clause-steady g c = λ told steady. absurd
+    (bad_untold g.W.World c.args.parts.now.address (made_in c.args.parts.now.made.items) (pending_of c.args.parts.now.waiting) g.N.Watched.exact
+    (g.N.Link.Linked.peer c.args.parts.now.link) (g.N.Link.Linked.peer c.await_unit.new.link) (g.N.Link.Linked.arrived c.await_unit.new.link) (g.N.Watched.counts c.args.wire.now) (g.N.Watched.counts c.await_unit.new.wire)
+    (λ told. (c.requires.kept.peer told, c.in-Breach.ensures.peer (c.requires.kept.nothing told))) told)

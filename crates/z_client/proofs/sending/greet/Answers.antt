@@ -7,6 +7,7 @@ use Rattle.z_types.specs.Pending.{opening}
 use Rattle.z_client.specs.Sets.{made_in}
 use Rattle.z_client.specs.TrueSession.{IsToldTrue}
 use Rattle.z_client.proofs.SendLemmas.{took_init, told_opens}
+use Rattle.z_client.proofs.SteadyOpens.{greeted_number, greeted_delays, ungreeted_cut}
 use Rattle.gw_outside.specs.declared.wires.Sent.TheVariants as sent
 use Rattle.z_client.proofs.sending.greet.Goals as goal
 
@@ -45,3 +46,22 @@ invariant_of-result g c = λ waits. record {
       told c.requires.link.peer c.in-Sent.ensures.peer (subst (λ octets. IsRequestUnit octets init_request) (sym c.as_slice.ensures) c.requires.unit));
   exact = c.requires.link.told;
 }
+
+pub returns-in-Sent-clause-steady : goal.returns-in-Sent-clause-steady
+returns-in-Sent-clause-steady g c = λ told steady. record {
+  number = greeted_number g.W.World g.N.Link.Linked g.N.Watched.exact c.args.address c.as_slice.result.now c.args.link c.send.new.link
+      (g.N.Watched.happened c.args.wire.now) (g.N.Watched.happened c.send.new.self) (g.N.Watched.counts c.args.wire.now) (g.N.Watched.counts c.send.new.self)
+      c.requires.link told steady (subst (λ octets. IsRequestUnit octets init_request) (sym c.as_slice.ensures) c.requires.unit)
+      c.in-Sent.ensures.steady c.in-Sent.ensures.counts;
+  delays = greeted_delays g.W.World g.N.Link.Linked g.N.Watched.exact c.args.address c.as_slice.result.now c.args.link c.send.new.link
+      (g.N.Watched.happened c.args.wire.now) (g.N.Watched.happened c.send.new.self) (g.N.Watched.counts c.args.wire.now) (g.N.Watched.counts c.send.new.self)
+      c.requires.link told steady (subst (λ octets. IsRequestUnit octets init_request) (sym c.as_slice.ensures) c.requires.unit)
+      c.in-Sent.ensures.steady;
+}
+
+pub returns-in-Failed-clause-steady : goal.returns-in-Failed-clause-steady
+returns-in-Failed-clause-steady g c = λ told steady.
+    ungreeted_cut g.W.World g.N.Link.Linked g.N.Watched.exact c.args.address c.as_slice.result.now c.args.link c.send.new.link
+    (g.N.Watched.happened c.args.wire.now) (g.N.Watched.happened c.send.new.self) (g.N.Watched.counts c.args.wire.now) (g.N.Watched.counts c.send.new.self)
+    c.requires.link told steady (subst (λ octets. IsRequestUnit octets init_request) (sym c.as_slice.ensures) c.requires.unit)
+    c.in-Failed.ensures.steady c.in-Failed.ensures.counts
