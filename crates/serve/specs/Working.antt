@@ -4,6 +4,7 @@ use Rattle.std.specs.List.{AllByRecursion, AllZip, sum_by}
 use Rattle.z_types.specs.declared.world.World as world
 use Rattle.route_config.specs.declared.route.PoolNumbers.{PoolNumbers}
 use Rattle.route_config.specs.declared.route.Route.{Route}
+use Rattle.gw_outside.specs.declared.accepts.Accept as accept
 use Rattle.gw_outside.specs.declared.accepts.Accepted.TheVariants.{Connection}
 use Rattle.gw_outside.specs.declared.sinks.Sink as to
 use Rattle.gw_outside.specs.declared.sources.Source as from
@@ -20,6 +21,14 @@ pub record WorkerView (I K : Type 0) : Type 0 where
   pub left : Option ℕ
   pub closed : Option (List (I × K))
   pub out : Option ℕ
+
+abbrev pub worker_view : {A I K : Type 0} → accept.Ghosts A I K → List Served → A → WorkerView I K
+worker_view a served acceptor = record {
+  served = served;
+  left = a.left acceptor;
+  closed = a.closed acceptor;
+  out = a.out acceptor;
+}
 
 -- so many connections were taken, where it is told how many are left
 abbrev pub AreTaken : ℕ → Option ℕ → Option ℕ → Type 0

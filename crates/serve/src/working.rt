@@ -3,7 +3,7 @@
 ghost use Rattle.std.specs.Prelude.{◌≡◌, ◌≤◌};
 ghost use Rattle.z_types.specs.Counts.{Rose};
 ghost use Rattle.serve.specs.Costs.{tally_of};
-ghost use Rattle.serve.specs.Working.{HasWorked, HaveCost, IsNoneLeft};
+ghost use Rattle.serve.specs.Working.{HasWorked, HaveCost, IsNoneLeft, worker_view};
 
 use crate::{Served, serve_connection};
 use gw_outside::{Accept, Accepted, Backend, Clock};
@@ -51,18 +51,8 @@ pub fn work<W: World, B: Backend<W>, D: Door<W, B::Session>, A: Accept, C: Clock
     worker: &mut Worker<B, A, C>,
 ) -> Worked
     ensures worked { HasWorked W.World A.In.Source A.Out.Sink route.now
-        (record {
-          served = worker.old.served;
-          left = A.left worker.old.accept;
-          closed = A.closed worker.old.accept;
-          out = A.out worker.old.accept;
-        })
-        (record {
-          served = worker.new.served;
-          left = A.left worker.new.accept;
-          closed = A.closed worker.new.accept;
-          out = A.out worker.new.accept;
-        }) }
+        (worker_view A.Accept worker.old.served worker.old.accept)
+        (worker_view A.Accept worker.new.served worker.new.accept) }
 
     // The marks of all these connections have their causes, and what they cost is paid for.
     ensures cost { HaveCost route.now.pool worker.old.served worker.new.served
@@ -99,18 +89,8 @@ fn serve_all<W: World, B: Backend<W>, D: Door<W, B::Session>, A: Accept, C: Cloc
     served: &mut Vec<Served>,
 ) -> Worked
     ensures worked { HasWorked W.World A.In.Source A.Out.Sink route.now
-        (record {
-          served = served.old.items;
-          left = A.left accept.old;
-          closed = A.closed accept.old;
-          out = A.out accept.old;
-        })
-        (record {
-          served = served.new.items;
-          left = A.left accept.new;
-          closed = A.closed accept.new;
-          out = A.out accept.new;
-        }) }
+        (worker_view A.Accept served.old.items accept.old)
+        (worker_view A.Accept served.new.items accept.new) }
     ensures cost { HaveCost route.now.pool served.old.items served.new.items
         (tally_of D.Door B.Watched door.old backend.old)
         (tally_of D.Door B.Watched door.new backend.new) }

@@ -16,7 +16,7 @@ use Rattle.serve.specs.declared.serving.Served.{Served}
 use Rattle.serve.specs.declared.working.Worked.{Worked}
 use Rattle.serve.specs.declared.working.Worked.TheVariants.{Ended, Failed, Memory}
 use Rattle.serve.specs.declared.working.Worker.{Worker}
-use Rattle.serve_threads.specs.Serving.{HasFailed, HasNoneLeft, HasServed, HaveBackendCauses, HaveServed, SomeZip, worker_view}
+use Rattle.serve_threads.specs.Serving.{HasFailed, HasNoneLeft, HasServed, HaveBackendCauses, HaveServed, SomeZip, view_of}
 use Rattle.serve_threads.specs.steps.Jobs.{Amounts, IsDone, amounts, worse, worst_after}
 use Rattle.serve.proofs.WorkingLemmas.{worked-none}
 use Rattle.serve_threads.proofs.Dialled.{Costs, full-caused}
@@ -119,7 +119,7 @@ module _ {W A B C I K : Type 0} (w : world.Ghosts W) (i : from.Ghosts I) (k : to
   each-same : (workers : List (Worker B A C)) → AllZip (HasServed w i k a b route most) workers workers
   each-same [] = tt
   each-same (worker ∷ workers) =
-      let worked = worked-none w i k route (worker_view a worker) in
+      let worked = worked-none w i k route (view_of a worker) in
       let none : worked.others ≡ [] = append_cancel_left worker.served worked.others [] (sym worked.served ∙ sym (append-nil worker.served)) in (
         record {
           worked = worked;

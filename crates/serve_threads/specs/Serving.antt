@@ -13,7 +13,7 @@ use Rattle.gw_outside.specs.declared.watched.Watched as watched
 use Rattle.conn_costs.specs.steps.Conns.{marks_of}
 use Rattle.conn_costs.specs.steps.Growth.{RisesEnough, last64}
 use Rattle.conn_costs.specs.steps.Numbers.{full, gone, link, silent}
-use Rattle.serve.specs.Working.{AreAllMarksOf, HasWorked, IsNoneLeft, WorkerView, needed_by, undialled_by}
+use Rattle.serve.specs.Working.{AreAllMarksOf, HasWorked, IsNoneLeft, WorkerView, needed_by, undialled_by, worker_view}
 use Rattle.serve.specs.declared.serving.Served.{Served}
 use Rattle.serve.specs.declared.working.Worked.{Worked}
 use Rattle.serve.specs.declared.working.Worked.TheVariants.{Ended, Failed}
@@ -27,13 +27,8 @@ SomeZip R (x ∷ xs) [] = ⊥
 
 module _ {A B C I K : Type 0} (a : accept.Ghosts A I K) where
   -- what is told of a worker
-  abbrev pub worker_view : Worker B A C → WorkerView I K
-  worker_view worker = record {
-    served = worker.served;
-    left = a.left worker.accept;
-    closed = a.closed worker.accept;
-    out = a.out worker.accept;
-  }
+  abbrev pub view_of : Worker B A C → WorkerView I K
+  view_of worker = worker_view a worker.served worker.accept
 
   -- no connection is left to a worker, where that is told
   abbrev pub HasNoneLeft : Worker B A C → Type 0
@@ -80,7 +75,7 @@ module _ {W A B C I K : Type 0} (w : world.Ghosts W) (i : from.Ghosts I) (k : to
     (route : Route) (most : ℕ) where
   -- a worker served each connection that it took, handed it back, and listed what came of it
   pub record HasServed (old new : Worker B A C) : Type 0 where
-    pub worked : HasWorked w i k route (worker_view a old) (worker_view a new)
+    pub worked : HasWorked w i k route (view_of a old) (view_of a new)
     pub causes : HaveBackendCauses route.pool worked.others (b.counts old.backend) (b.counts new.backend)
     pub marks : AreAllMarksOf route.pool most worked.others
     pub faults : a.faults old.accept ≤ a.faults new.accept

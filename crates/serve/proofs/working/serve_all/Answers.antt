@@ -3,7 +3,7 @@ use Rattle.std.specs.Prelude.{option_map}
 use Rattle.gw_outside.specs.declared.accepts.Accepted.TheVariants.{Connection}
 use Rattle.gw_outside.specs.Accepts.{AcceptFits}
 use Rattle.serve.specs.declared.serving.Served.{Served}
-use Rattle.serve.specs.Working.{WorkerView}
+use Rattle.serve.specs.Working.{WorkerView, worker_view}
 use Rattle.serve.specs.Costs.{tally_of}
 use Rattle.serve.proofs.WorkedCosts.{cost-more, cost-none, cost-same}
 use Rattle.serve.proofs.WorkingLemmas.{ended-same, failed-same, worked-more, worked-none, worked-same}
@@ -11,12 +11,7 @@ use Rattle.serve.proofs.working.serve_all.Goals as goal
 
 pub loop-round-init : goal.loop-round-init
 loop-round-init g c = record {
-  worked = worked-none g.W.World g.A.In.Source g.A.Out.Sink c.args.route.now (record {
-    served = c.args.served.now.items;
-    left = g.A.Accept.left c.args.accept.now;
-    closed = g.A.Accept.closed c.args.accept.now;
-    out = g.A.Accept.out c.args.accept.now;
-  });
+  worked = worked-none g.W.World g.A.In.Source g.A.Out.Sink c.args.route.now (worker_view g.A.Accept c.args.served.now.items c.args.accept.now);
   cost = cost-none c.args.route.now.pool c.args.served.now.items (tally_of g.D.Door g.B.Watched c.args.door.now c.args.backend.now);
   faults = omega arith;
   most = refl;
@@ -24,41 +19,16 @@ loop-round-init g c = record {
 
 pub returns-then-is_err-clause-worked : goal.returns-then-is_err-clause-worked
 returns-then-is_err-clause-worked g c =
-    let old : WorkerView g.row.A-In.Denot g.row.A-Out.Denot = record {
-      served = c.args.served.now.items;
-      left = g.A.Accept.left c.args.accept.now;
-      closed = g.A.Accept.closed c.args.accept.now;
-      out = g.A.Accept.out c.args.accept.now;
-    } in
-    let mid : WorkerView g.row.A-In.Denot g.row.A-Out.Denot = record {
-      served = c.loop-round.served.items;
-      left = g.A.Accept.left c.loop-round.accept;
-      closed = g.A.Accept.closed c.loop-round.accept;
-      out = g.A.Accept.out c.loop-round.accept;
-    } in
+    let old : WorkerView g.row.A-In.Denot g.row.A-Out.Denot = worker_view g.A.Accept c.args.served.now.items c.args.accept.now in
+    let mid : WorkerView g.row.A-In.Denot g.row.A-Out.Denot = worker_view g.A.Accept c.loop-round.served.items c.loop-round.accept in
     worked-same g.W.World g.A.In.Source g.A.Out.Sink c.args.route.now old mid (record mid { served = c.reserve.new.self.items })
     c.loop-round.invariant.worked c.reserve.ensures.items refl refl refl
 
 pub returns-in-Ended-clause-worked : goal.returns-in-Ended-clause-worked
 returns-in-Ended-clause-worked g c =
-    let old : WorkerView g.row.A-In.Denot g.row.A-Out.Denot = record {
-      served = c.args.served.now.items;
-      left = g.A.Accept.left c.args.accept.now;
-      closed = g.A.Accept.closed c.args.accept.now;
-      out = g.A.Accept.out c.args.accept.now;
-    } in
-    let mid : WorkerView g.row.A-In.Denot g.row.A-Out.Denot = record {
-      served = c.loop-round.served.items;
-      left = g.A.Accept.left c.loop-round.accept;
-      closed = g.A.Accept.closed c.loop-round.accept;
-      out = g.A.Accept.out c.loop-round.accept;
-    } in
-    let new : WorkerView g.row.A-In.Denot g.row.A-Out.Denot = record {
-      served = c.reserve.new.self.items;
-      left = g.A.Accept.left c.accept.new.self;
-      closed = g.A.Accept.closed c.accept.new.self;
-      out = g.A.Accept.out c.accept.new.self;
-    } in
+    let old : WorkerView g.row.A-In.Denot g.row.A-Out.Denot = worker_view g.A.Accept c.args.served.now.items c.args.accept.now in
+    let mid : WorkerView g.row.A-In.Denot g.row.A-Out.Denot = worker_view g.A.Accept c.loop-round.served.items c.loop-round.accept in
+    let new : WorkerView g.row.A-In.Denot g.row.A-Out.Denot = worker_view g.A.Accept c.reserve.new.self.items c.accept.new.self in
     worked-same g.W.World g.A.In.Source g.A.Out.Sink c.args.route.now old mid new c.loop-round.invariant.worked
     c.reserve.ensures.items
     (ended-same g.row.A-In.Denot g.row.A-Out.Denot (g.A.Accept.left c.loop-round.accept) (g.A.Accept.left c.accept.new.self)
@@ -66,24 +36,9 @@ returns-in-Ended-clause-worked g c =
 
 pub returns-in-Failed-clause-worked : goal.returns-in-Failed-clause-worked
 returns-in-Failed-clause-worked g c =
-    let old : WorkerView g.row.A-In.Denot g.row.A-Out.Denot = record {
-      served = c.args.served.now.items;
-      left = g.A.Accept.left c.args.accept.now;
-      closed = g.A.Accept.closed c.args.accept.now;
-      out = g.A.Accept.out c.args.accept.now;
-    } in
-    let mid : WorkerView g.row.A-In.Denot g.row.A-Out.Denot = record {
-      served = c.loop-round.served.items;
-      left = g.A.Accept.left c.loop-round.accept;
-      closed = g.A.Accept.closed c.loop-round.accept;
-      out = g.A.Accept.out c.loop-round.accept;
-    } in
-    let new : WorkerView g.row.A-In.Denot g.row.A-Out.Denot = record {
-      served = c.reserve.new.self.items;
-      left = g.A.Accept.left c.accept.new.self;
-      closed = g.A.Accept.closed c.accept.new.self;
-      out = g.A.Accept.out c.accept.new.self;
-    } in
+    let old : WorkerView g.row.A-In.Denot g.row.A-Out.Denot = worker_view g.A.Accept c.args.served.now.items c.args.accept.now in
+    let mid : WorkerView g.row.A-In.Denot g.row.A-Out.Denot = worker_view g.A.Accept c.loop-round.served.items c.loop-round.accept in
+    let new : WorkerView g.row.A-In.Denot g.row.A-Out.Denot = worker_view g.A.Accept c.reserve.new.self.items c.accept.new.self in
     worked-same g.W.World g.A.In.Source g.A.Out.Sink c.args.route.now old mid new c.loop-round.invariant.worked
     c.reserve.ensures.items
     (failed-same g.row.A-In.Denot g.row.A-Out.Denot (g.A.Accept.left c.loop-round.accept) (g.A.Accept.left c.accept.new.self)
@@ -94,24 +49,9 @@ returns-in-Failed-clause-failed g c e = omega (arith, c.loop-round.invariant.fau
 
 pub loop-round-preserved : goal.loop-round-preserved
 loop-round-preserved g c =
-    let old : WorkerView g.row.A-In.Denot g.row.A-Out.Denot = record {
-      served = c.args.served.now.items;
-      left = g.A.Accept.left c.args.accept.now;
-      closed = g.A.Accept.closed c.args.accept.now;
-      out = g.A.Accept.out c.args.accept.now;
-    } in
-    let mid : WorkerView g.row.A-In.Denot g.row.A-Out.Denot = record {
-      served = c.loop-round.served.items;
-      left = g.A.Accept.left c.loop-round.accept;
-      closed = g.A.Accept.closed c.loop-round.accept;
-      out = g.A.Accept.out c.loop-round.accept;
-    } in
-    let new : WorkerView g.row.A-In.Denot g.row.A-Out.Denot = record {
-      served = c.push_reserved.new.self.items;
-      left = g.A.Accept.left c.close.new.self;
-      closed = g.A.Accept.closed c.close.new.self;
-      out = g.A.Accept.out c.close.new.self;
-    } in
+    let old : WorkerView g.row.A-In.Denot g.row.A-Out.Denot = worker_view g.A.Accept c.args.served.now.items c.args.accept.now in
+    let mid : WorkerView g.row.A-In.Denot g.row.A-Out.Denot = worker_view g.A.Accept c.loop-round.served.items c.loop-round.accept in
+    let new : WorkerView g.row.A-In.Denot g.row.A-Out.Denot = worker_view g.A.Accept c.push_reserved.new.self.items c.close.new.self in
     let came : Served = c.serve_connection-came.result in
     let closed = c.close.ensures.closed
     ∙ ap (λ told. option_map (λ earlier. earlier ++ (c.serve_connection-came.new.source, c.serve_connection-came.new.sink) ∷ []) told)

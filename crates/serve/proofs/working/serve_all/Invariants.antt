@@ -1,23 +1,13 @@
 use Rattle.std.proofs.Common.{◌≡◌, ◌≤◌}
 use Rattle.serve.specs.Costs.{tally_of}
-use Rattle.serve.specs.Working.{HasWorked, HaveCost}
+use Rattle.serve.specs.Working.{HasWorked, HaveCost, worker_view}
 use Rattle.serve.proofs.working.serve_all.Given as goal
 
 abbrev pub invariant-loop-round : goal.invariant-loop-round
 invariant-loop-round g l = record {
   worked : HasWorked g.W.World g.A.In.Source g.A.Out.Sink l.route
-      (record {
-        served = l.fn.served.items;
-        left = g.A.Accept.left l.fn.accept;
-        closed = g.A.Accept.closed l.fn.accept;
-        out = g.A.Accept.out l.fn.accept;
-      })
-      (record {
-        served = l.served.items;
-        left = g.A.Accept.left l.accept;
-        closed = g.A.Accept.closed l.accept;
-        out = g.A.Accept.out l.accept;
-      });
+      (worker_view g.A.Accept l.fn.served.items l.fn.accept)
+      (worker_view g.A.Accept l.served.items l.accept);
   cost : HaveCost l.route.pool l.fn.served.items l.served.items
       (tally_of g.D.Door g.B.Watched l.fn.door l.fn.backend) (tally_of g.D.Door g.B.Watched l.door l.backend);
   faults : g.A.Accept.faults l.fn.accept ≤ g.A.Accept.faults l.accept;
