@@ -220,4 +220,20 @@ impl<
         self.opens.audit(opens);
         self.most.audit(most);
     }
+
+    /// The door by itself, once its books are of no use any more.
+    pub fn into_door(self) -> P
+        ensures same { result ≡ self.door }
+    {
+        let Counted {
+            door,
+            booked: _,
+            fulls: _,
+            opens: _,
+            most: _,
+            world: _,
+            session: _,
+        } = self;
+        door
+    }
 }
