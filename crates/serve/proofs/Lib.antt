@@ -3,5 +3,6 @@ mod ServingLemmas
 mod LeftLemmas
 mod MarkLemmas
 mod RoundLemmas
+mod SeatLemmas
 mod WorkedCosts
 pub mod WorkingLemmas

@@ -17,7 +17,7 @@ use Rattle.front_conn.specs.declared.stepped.Stepped.{Stepped}
 use Rattle.front_conn.specs.declared.stepped.Stepped.TheVariants.{Went}
 use Rattle.front_conn.specs.steps.Answering.{AnsweringState, Outside, WorksOn, legs_in}
 use Rattle.front_conn.specs.steps.Feeding.{fed_piece, with_end, without_out}
-use Rattle.front_conn.specs.steps.States.{ConnectionState, nothing_yet}
+use Rattle.front_conn.specs.steps.States.{ConnectionState, IsConnOf, nothing_yet}
 use Rattle.front_conn.specs.steps.Steps.{IsStepped, StepsFrom, answering_of}
 use Rattle.conn_costs.specs.steps.Conns.{PaysFor, RestsIfEnded, dues_on, marks_of, met_on, outside_meets}
 use Rattle.conn_costs.specs.steps.Growth.{RisesEnough}
@@ -35,7 +35,7 @@ use Rattle.serve.proofs.LeftLemmas.{ahead-unused, left-unused, none-unused, over
 
 module _ {S : Type 0} where
   -- the request in work, the marks and the end stay the same
-  record CostsSame (old new : ConnectionState S) : Type 0 where
+  pub record CostsSame (old new : ConnectionState S) : Type 0 where
     pub in_work : new.in_work ≡ old.in_work
     pub marks : new.marks ≡ old.marks
     pub end : new.end ≡ old.end
@@ -47,7 +47,7 @@ module _ {S : Type 0} where
   same-as : (old state new : ConnectionState S) → new ≡ state → CostsSame old state → CostsSame old new
   same-as old state new e h = subst (λ (s : ConnectionState S). CostsSame old s) (sym e) h
 
-  calm-same : (old new : ConnectionState S) → IsCalm old new → CostsSame old new
+  pub calm-same : (old new : ConnectionState S) → IsCalm old new → CostsSame old new
   calm-same old new (inl still) = same-as old old new still (record { in_work = refl; marks = refl; end = refl })
   calm-same old new (inr (inl (piece, fed))) = same-as old (fed_piece old.end old piece) new fed (fed-by old.end old piece)
   calm-same old new (inr (inr (inl ended))) = same-as old (with_end old) new ended (record { in_work = refl; marks = refl; end = refl })
@@ -153,16 +153,16 @@ module _ {W S : Type 0} (w : world.Ghosts W) (t : sitting.Ghosts S W) (exact : B
   goes-on first mid last one other = (other.0 ++ one.0, gone-on first mid one.0 one.1 other.0 last other.1)
 
   -- a step
-  pub goes-step : (now : ℕ) (answer : Stepped) (here next : Point S)
+  pub goes-step : (now : ℕ) (answer : Stepped) (here next : Point S) → IsConnOf w t route here.outside.door.counts.most here.conn
       → IsStepped w t exact route now here.conn next.conn answer here.outside next.outside → GoesFrom w t exact route here next
-  goes-step now answer here next h = (here ∷ [], (refl, inl (record { now = now; answer = answer; stepped = h })))
+  goes-step now answer here next of h = (here ∷ [], (refl, inl (record { now = now; answer = answer; of = of; stepped = h })))
 
   -- and what is fed or written behind it
   pub goes-calmly : (now : ℕ) (answer : Stepped) (here mid : Point S) (new : ConnectionState S)
-      → IsStepped w t exact route now here.conn mid.conn answer here.outside mid.outside → IsCalm mid.conn new
+      → IsConnOf w t route here.outside.door.counts.most here.conn → IsStepped w t exact route now here.conn mid.conn answer here.outside mid.outside → IsCalm mid.conn new
       → GoesFrom w t exact route here (record { conn = new; outside = mid.outside })
-  goes-calmly now answer here mid new h calm =
-      (mid ∷ here ∷ [], ((refl, inl (record { now = now; answer = answer; stepped = h })), inr (calm, refl)))
+  goes-calmly now answer here mid new of h calm =
+      (mid ∷ here ∷ [], ((refl, inl (record { now = now; answer = answer; of = of; stepped = h })), inr (calm, refl)))
 
 -- ---- a step
 

@@ -2,4 +2,5 @@ pub mod steps
 pub mod Serving
 pub mod Costs
 pub mod Runs
+pub mod Seats
 pub mod Working

@@ -12,7 +12,7 @@ use Rattle.front_session.specs.Sessions.{new_session}
 use Rattle.front_conn.specs.declared.stepped.Stepped.{Stepped}
 use Rattle.front_conn.specs.steps.Answering.{Outside, legs_in}
 use Rattle.front_conn.specs.steps.Feeding.{with_end, with_piece, without_out}
-use Rattle.front_conn.specs.steps.States.{ConnectionState, nothing_yet}
+use Rattle.front_conn.specs.steps.States.{ConnectionState, IsConnOf, nothing_yet}
 use Rattle.front_conn.specs.steps.Steps.{IsStepped}
 
 -- what is outside, of a door and a backend
@@ -44,10 +44,11 @@ module _ {S : Type 0} where
   }
 
 module _ {W S : Type 0} (w : world.Ghosts W) (t : sitting.Ghosts S W) (exact : Bool) (route : Route) where
-  -- a step was taken, at some moment
+  -- a connection of the route took a step, at some moment
   pub record HasStepped (here next : Point S) : Type 0 where
     pub now : ℕ
     pub answer : Stepped
+    pub of : IsConnOf w t route here.outside.door.counts.most here.conn
     pub stepped : IsStepped w t exact route now here.conn next.conn answer here.outside next.outside
 
   -- or the connection was fed, or written out, and nothing was called

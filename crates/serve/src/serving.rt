@@ -6,6 +6,7 @@ ghost use Rattle.front_session.specs.Sessions.{new_session};
 ghost use Rattle.serve.specs.Costs.{AreMarksOf, ArePaid, HaveCauses, tally_of, undialled};
 ghost use Rattle.serve.specs.Serving.{IsServed, SinkView, SourceView, Streams, sink_view, source_view, streams};
 ghost use Rattle.serve.specs.Runs.{GoesFrom, IsCalm, IsRun, outside_of};
+ghost use Rattle.serve.specs.Seats.{AreGivenBack};
 ghost use Rattle.serve.specs.steps.Rounds.{IsRound, IsWritten};
 ghost use Rattle.serve.specs.steps.Serving.{GoesOn, IsIdle, IsServing, IsWrittenOut};
 ghost use Rattle.front_conn.specs.steps.States.{IsConnOf, nothing_yet};
@@ -15,6 +16,7 @@ use conn_costs::{
     costs_nothing, marks_are_met, pays_on, starts_costless, steps_cost, steps_meet, steps_owe_few,
     steps_pay,
 };
+use conn_seats::{connections_give_back, steps_keep_seats};
 use front_conn::{
     Conn, Stepped, stands_at_start, stands_when_ended, stands_when_fed, stands_when_written,
     stays_of_route,
@@ -83,7 +85,12 @@ pub fn serve_connection<
         (tally_of D.Door B.Watched door.old backend.old)
         (tally_of D.Door B.Watched door.new backend.new) }
     ensures most { (D.counts door.new).most ≡ (D.counts door.old).most }
+
+    // Over a told pool the sessions that are out are those that were out before, whatever its end.
+    ensures seats { AreGivenBack (D.pool door.old) (D.pool door.new) }
 {
+    steps_keep_seats::<W, B::Session>();
+    connections_give_back::<W, B::Session>();
     let mut conn = Conn::new(alloc);
     let end = serve_to_end(alloc, route, &mut conn, door, source, sink, backend, clock);
     conn.give_up(door);

@@ -3,6 +3,7 @@
 ghost use Rattle.std.specs.Prelude.{◌≡◌, ◌≤◌};
 ghost use Rattle.z_types.specs.Counts.{Rose};
 ghost use Rattle.serve.specs.Costs.{tally_of};
+ghost use Rattle.serve.specs.Seats.{AreGivenBack};
 ghost use Rattle.serve.specs.Working.{HasWorked, HaveCost, IsNoneLeft, worker_view};
 
 use crate::{Served, serve_connection};
@@ -58,6 +59,9 @@ pub fn work<W: World, B: Backend<W>, D: Door<W, B::Session>, A: Accept, C: Clock
     ensures cost { HaveCost route.now.pool worker.old.served worker.new.served
         (tally_of D.Door B.Watched door.old worker.old.backend)
         (tally_of D.Door B.Watched door.new worker.new.backend) }
+
+    // Over a told pool the sessions that are out are those that were out before, whatever the ends.
+    ensures seats { AreGivenBack (D.pool door.old) (D.pool door.new) }
     ensures ended { result ≡ Worked.Ended → IsNoneLeft (A.left worker.new.accept) }
     ensures failed { result ≡ Worked.Failed
         → Rose (A.faults worker.old.accept) (A.faults worker.new.accept) }
@@ -94,6 +98,7 @@ fn serve_all<W: World, B: Backend<W>, D: Door<W, B::Session>, A: Accept, C: Cloc
     ensures cost { HaveCost route.now.pool served.old.items served.new.items
         (tally_of D.Door B.Watched door.old backend.old)
         (tally_of D.Door B.Watched door.new backend.new) }
+    ensures seats { AreGivenBack (D.pool door.old) (D.pool door.new) }
     ensures ended { result ≡ Worked.Ended → IsNoneLeft (A.left accept.new) }
     ensures failed { result ≡ Worked.Failed → Rose (A.faults accept.old) (A.faults accept.new) }
     ensures faults { A.faults accept.old ≤ A.faults accept.new }

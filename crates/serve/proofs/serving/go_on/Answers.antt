@@ -104,7 +104,7 @@ returns-in-Memory-clause-round g c =
     let here : Point g.row.S.Denot = record { conn = old; outside = before } in
     let next : Point g.row.S.Denot = record { conn = mid; outside = behind } in
     let stepped = c.in-Memory.ensures.stepped in record {
-      goes = goes-step g.W.World g.S.Sitting exact route now Memory here next stepped;
+      goes = goes-step g.W.World g.S.Sitting exact route now Memory here next c.requires.of stepped;
       met = c.steps_meet.ensures exact route now old mid Memory before behind c.requires.of stepped;
       paid = c.steps_pay.ensures exact route now old mid Memory before behind c.requires.of stepped;
       marks = λ fit. step-marks g.W.World g.S.Sitting exact route behind.door.counts.most old mid fit now Memory before behind refl stepped;
@@ -125,7 +125,7 @@ returns-in-Idle-clause-round g c =
     let stepped = c.in-Idle.ensures.stepped in
     let both = step-idle g.W.World g.S.Sitting exact route now old mid before behind stepped in
     let calm = c.end_or_read.ensures.calm in record {
-      goes = goes-calmly g.W.World g.S.Sitting exact route now Idle here next c.end_or_read.new.conn stepped calm;
+      goes = goes-calmly g.W.World g.S.Sitting exact route now Idle here next c.end_or_read.new.conn c.requires.of stepped calm;
       met = calm-meets route.pool old mid c.end_or_read.new.conn before behind calm
           (c.steps_meet.ensures exact route now old mid Idle before behind c.requires.of stepped);
       paid = calm-pays old mid c.end_or_read.new.conn before behind calm
@@ -150,7 +150,7 @@ returns-in-NotYet-clause-round g c =
     let both = step-not_yet g.W.World g.S.Sitting exact route now old mid before behind stepped in
     let costed : IsCosted exact route old mid before behind =
     c.steps_cost.ensures exact route now old mid NotYet before behind c.parts.ensures.sound c.requires.of stepped in record {
-      goes = goes-step g.W.World g.S.Sitting exact route now NotYet here next stepped;
+      goes = goes-step g.W.World g.S.Sitting exact route now NotYet here next c.requires.of stepped;
       met = costed.met;
       paid = costed.paid;
       marks = λ fit. step-marks g.W.World g.S.Sitting exact route behind.door.counts.most old mid fit now NotYet before behind refl stepped;
@@ -176,7 +176,7 @@ returns-in-Went-clause-round g c =
     let calm = c.write_out.ensures.calm in
     let costed : IsCosted exact route old mid before behind =
     c.steps_cost.ensures exact route now old mid Went before behind c.parts.ensures.sound c.requires.of stepped in record {
-      goes = goes-calmly g.W.World g.S.Sitting exact route now Went here next c.write_out.new.conn stepped calm;
+      goes = goes-calmly g.W.World g.S.Sitting exact route now Went here next c.write_out.new.conn c.requires.of stepped calm;
       met = calm-meets route.pool old mid c.write_out.new.conn before behind calm costed.met;
       paid = calm-pays old mid c.write_out.new.conn before behind calm costed.paid;
       marks = λ fit. calm-marks route.pool behind.door.counts.most mid c.write_out.new.conn calm

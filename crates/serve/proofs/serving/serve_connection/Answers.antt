@@ -6,6 +6,7 @@ use Rattle.front_conn.specs.steps.Answering.{Outside}
 use Rattle.front_conn.specs.steps.States.{ConnectionState}
 use Rattle.serve.specs.Runs.{GoesFrom, Point, outside_of}
 use Rattle.serve.specs.Serving.{IsServed, streams}
+use Rattle.serve.proofs.SeatLemmas.{run-back}
 use Rattle.serve.proofs.serving.serve_connection.Goals as goal
 
 pub returns-clause-served : goal.returns-clause-served
@@ -63,3 +64,10 @@ returns-clause-run g c =
         backend = last.outside.backend;
       };
     }
+
+pub returns-clause-seats : goal.returns-clause-seats
+returns-clause-seats g c =
+    let before : Outside g.row.B-Session.Denot = outside_of g.D.Door g.B.Watched c.args.door.now c.args.backend.now in
+    let behind : Outside g.row.B-Session.Denot = outside_of g.D.Door g.B.Watched c.give_up.new.door c.serve_to_end-end.new.backend in
+    run-back g.W.World g.B.Session.Sitting g.B.Watched.exact c.args.route.now c.steps_keep_seats.ensures c.connections_give_back.ensures
+    c.into_marks.result before behind (returns-clause-run g c)

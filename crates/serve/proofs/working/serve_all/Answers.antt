@@ -5,6 +5,7 @@ use Rattle.gw_outside.specs.Accepts.{AcceptFits}
 use Rattle.serve.specs.declared.serving.Served.{Served}
 use Rattle.serve.specs.Working.{WorkerView, worker_view}
 use Rattle.serve.specs.Costs.{tally_of}
+use Rattle.serve.proofs.SeatLemmas.{back-both, back-none}
 use Rattle.serve.proofs.WorkedCosts.{cost-more, cost-none, cost-same}
 use Rattle.serve.proofs.WorkingLemmas.{ended-same, failed-same, worked-more, worked-none, worked-same}
 use Rattle.serve.proofs.working.serve_all.Goals as goal
@@ -13,6 +14,7 @@ pub loop-round-init : goal.loop-round-init
 loop-round-init g c = record {
   worked = worked-none g.W.World g.A.In.Source g.A.Out.Sink c.args.route.now (worker_view g.A.Accept c.args.served.now.items c.args.accept.now);
   cost = cost-none c.args.route.now.pool c.args.served.now.items (tally_of g.D.Door g.B.Watched c.args.door.now c.args.backend.now);
+  seats = back-none (g.D.Door.pool c.args.door.now);
   faults = omega arith;
   most = refl;
 }
@@ -73,6 +75,8 @@ loop-round-preserved g c =
           (c.push_reserved.ensures.items ∙ ap (λ (xs : List Served). xs ++ came ∷ []) c.reserve.ensures.items)
           c.loop-round.invariant.most c.serve_connection-came.ensures.causes c.serve_connection-came.ensures.marks
           c.serve_connection-came.ensures.paid;
+      seats = back-both (g.D.Door.pool c.args.door.now) (g.D.Door.pool c.loop-round.door)
+          (g.D.Door.pool c.serve_connection-came.new.door) c.loop-round.invariant.seats c.serve_connection-came.ensures.seats;
       faults = omega (arith, c.loop-round.invariant.faults, c.in-Connection.ensures.faults, c.close.ensures.faults);
       most = c.serve_connection-came.ensures.most ∙ c.loop-round.invariant.most;
     }

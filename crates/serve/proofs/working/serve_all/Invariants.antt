@@ -1,5 +1,6 @@
 use Rattle.std.proofs.Common.{◌≡◌, ◌≤◌}
 use Rattle.serve.specs.Costs.{tally_of}
+use Rattle.serve.specs.Seats.{AreGivenBack}
 use Rattle.serve.specs.Working.{HasWorked, HaveCost, worker_view}
 use Rattle.serve.proofs.working.serve_all.Given as goal
 
@@ -10,6 +11,7 @@ invariant-loop-round g l = record {
       (worker_view g.A.Accept l.served.items l.accept);
   cost : HaveCost l.route.pool l.fn.served.items l.served.items
       (tally_of g.D.Door g.B.Watched l.fn.door l.fn.backend) (tally_of g.D.Door g.B.Watched l.door l.backend);
+  seats : AreGivenBack (g.D.Door.pool l.fn.door) (g.D.Door.pool l.door);
   faults : g.A.Accept.faults l.fn.accept ≤ g.A.Accept.faults l.accept;
   most : (g.D.Door.counts l.door).most ≡ (g.D.Door.counts l.fn.door).most;
 }
