@@ -25,7 +25,7 @@ cost-as pool {old = old} {new = new} {before' = before'} {behind = behind} e f h
 
 -- ---- sums of reversed lists
 
-sum-reverse : {X : Type 0} (f : X → ℕ) (xs : List X) → sum_by f (reverse xs) ≡ sum_by f xs
+pub sum-reverse : {X : Type 0} (f : X → ℕ) (xs : List X) → sum_by f (reverse xs) ≡ sum_by f xs
 sum-reverse f [] = refl
 sum-reverse f (x ∷ xs) =
     ap (sum_by f) (reverse-append (x ∷ []) xs) ∙ sum_by_push f (reverse xs) x

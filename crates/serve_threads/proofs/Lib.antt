@@ -1,4 +1,5 @@
 mod Dialled
 mod Lists
 mod MovedOver
+mod Searched
 mod Together

@@ -9,18 +9,19 @@ use Rattle.gw_outside.specs.declared.sinks.Sink as to
 use Rattle.gw_outside.specs.declared.sources.Source as from
 use Rattle.gw_outside.specs.declared.watched.Watched as watched
 use Rattle.conn_costs.specs.steps.Growth.{last64}
-use Rattle.pool_locked.specs.Books.{FullOpens}
+use Rattle.pool_locked.specs.Books.{FullOpens, counted}
 use Rattle.std.proofs.lemmas.List.{append_cancel_left}
 use Rattle.serve.specs.Working.{AreAllMarksOf}
 use Rattle.serve.specs.declared.serving.Served.{Served}
 use Rattle.serve.specs.declared.working.Worked.{Worked}
 use Rattle.serve.specs.declared.working.Worked.TheVariants.{Ended, Failed, Memory}
 use Rattle.serve.specs.declared.working.Worker.{Worker}
-use Rattle.serve_threads.specs.Serving.{HasFailed, HasNoneLeft, HasServed, HaveBackendCauses, HaveServed, SomeZip, view_of}
+use Rattle.serve_threads.specs.Serving.{AreBooked, HasFailed, HasNoneLeft, HasServed, HaveBackendCauses, HaveServed, SomeZip, view_of}
 use Rattle.serve_threads.specs.steps.Jobs.{Amounts, IsDone, amounts, worse, worst_after}
 use Rattle.serve.proofs.WorkingLemmas.{worked-none}
 use Rattle.serve_threads.proofs.Dialled.{Costs, full-caused}
 use Rattle.serve_threads.proofs.Lists.{all-reverse, some-reverse, zip-seen}
+use Rattle.serve_threads.proofs.Searched.{all-booked}
 
 -- ---- ends
 
@@ -112,6 +113,14 @@ module _ {W A B C I K X : Type 0} (w : world.Ghosts W) (i : from.Ghosts I) (k : 
         failed = λ one. rw (← before, e) (some-reverse (HasFailed a) (map worker xs) (map worker ys) (long xs ys did)
             (not-ended (one-failed Ended xs ys did (sym told ∙ one))));
       }
+
+  -- and what all of them searched was booked at the pool
+  pub have-booked : (old new rest : List (Worker B A C)) (xs ys : List X) → reverse (map worker xs) ≡ old → rest ≡ []
+      → new ≡ rest ++ reverse (map worker ys) → AllByRecursion (λ x. held x ≡ amounts 0 0 0) xs → AllZip Did xs ys
+      → AreBooked b (counted (sum_by (λ y. (held y).booked) ys)) old new
+  have-booked old new rest xs ys before left after none did =
+      let e : new ≡ reverse (map worker ys) = rw (after, left) refl in
+      rw (← before, e) (all-booked b route.pool most worker held xs ys none (their-costs xs ys did))
 
 module _ {W A B C I K : Type 0} (w : world.Ghosts W) (i : from.Ghosts I) (k : to.Ghosts K) (a : accept.Ghosts A I K) (b : watched.Ghosts B)
     (route : Route) (most : ℕ) where

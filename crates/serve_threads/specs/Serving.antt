@@ -69,6 +69,29 @@ module _ {A B C : Type 0} (b : watched.Ghosts B) where
       → sum_by (λ (worker : Worker B A C). fulls_in worker.served) old < sum_by (λ (worker : Worker B A C). fulls_in worker.served) new
       → sum_by dialled_by old + most ≤ sum_by dialled_by new
 
+-- ---- what searches are paid by
+
+-- neither searches, nor Gones, nor calls that failed have come to the end of their count
+pub record AreSearchesBelowEnd (counts : Counts) : Type 0 where
+  pub searches : counts.searches < last64
+  pub gones : counts.gones < last64
+  pub faults : counts.faults < last64
+
+module _ {A B C : Type 0} (b : watched.Ghosts B) where
+  abbrev pub searched_by : Worker B A C → ℕ
+  searched_by worker = (b.counts worker.backend).searches
+
+  -- the Gones and the calls that failed, behind each of which a leg may search once more
+  abbrev pub excused_by : Worker B A C → ℕ
+  excused_by worker = (b.counts worker.backend).gones + (b.counts worker.backend).faults
+
+  -- All workers together searched no more often than their pool booked, and sets were gone and calls failed: no search went round the
+  -- pool.
+  abbrev pub AreBooked : (booked : ℕ) → (old new : List (Worker B A C)) → Type 0
+  AreBooked booked old new =
+      AllByRecursion (λ (worker : Worker B A C). AreSearchesBelowEnd (b.counts worker.backend)) new → booked < last64
+      → sum_by searched_by new + sum_by excused_by old ≤ sum_by searched_by old + sum_by excused_by new + booked
+
 -- ---- workers
 
 module _ {W A B C I K : Type 0} (w : world.Ghosts W) (i : from.Ghosts I) (k : to.Ghosts K) (a : accept.Ghosts A I K) (b : watched.Ghosts B)

@@ -60,6 +60,8 @@ pub(crate) fn take_back<B: Drop, A: Drop, C: Drop, L: Ledger, M: Ledger, O: Ledg
         × (opens.old.parts ≤ O.parts) }
     ensures moved { workers.new.items
         ≡ workers.old.items ++ reverse (map (λ job. job.worker) jobs.items) }
+    ensures booked { booked.new.amount
+        ≡ booked.old.amount + sum_by (λ job. job.booked.amount) jobs.items }
     ensures fulls { fulls.new.amount
         ≡ fulls.old.amount + sum_by (λ job. job.fulls.amount) jobs.items }
     ensures opens { opens.new.amount

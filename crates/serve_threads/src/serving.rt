@@ -2,7 +2,7 @@
 
 ghost use Rattle.std.specs.Prelude.{◌≡◌, vec_len, is_some, true};
 ghost use Rattle.pool_locked.specs.Books.{counts_of};
-ghost use Rattle.serve_threads.specs.Serving.{HaveServed};
+ghost use Rattle.serve_threads.specs.Serving.{AreBooked, HaveServed};
 
 use crate::ends::worst;
 use crate::moving::{make_jobs, take_back};
@@ -31,7 +31,7 @@ struct Blanks {
 /// Serves the workers' connections, each worker in a thread of its own, over one new pool, which they
 /// share behind a lock. `most` is the pool's most sessions of a class. It tells how they ended: by a
 /// failed accept (`Failed`), for want of memory (`Memory`), or each by the end of its connections
-/// (`Ended`). In any case the workers stay the same, in the same order.
+/// (`Ended`), and hands the pool back. In any case the workers stay the same, in the same order.
 pub fn serve_all<
     R: Threads + Wait + Sync,
     W: World + Send + Sync,
@@ -46,11 +46,15 @@ pub fn serve_all<
     pool: P,
     most: u32,
     workers: &mut Vec<Worker<B, A, C>>,
-) -> Worked
+) -> (Worked, P)
     requires told { is_some (P.pool pool) ≡ true }
     requires new { P.counts pool ≡ counts_of most 0 0 0 }
     ensures served { HaveServed W.World A.In.Source A.Out.Sink A.Accept B.Watched route.now most
-        workers.old.items workers.new.items result }
+        workers.old.items workers.new.items result.0 }
+
+    // What all of them searched was booked at the pool.
+    ensures booked { AreBooked B.Watched
+        (P.counts result.1).booked workers.old.items workers.new.items }
 {
     let parts = workers.len() as u64;
     let blanks = Blanks {
@@ -84,7 +88,7 @@ fn serve_over<
     most: u32,
     workers: &mut Vec<Worker<B, A, C>>,
     blanks: Blanks,
-) -> Worked
+) -> (Worked, P)
     requires told { is_some (P.pool pool) ≡ true }
     requires new { P.counts pool ≡ counts_of most 0 0 0 }
     requires names { (blanks.booked.name ≡ L.name) × (blanks.fulls.name ≡ M.name)
@@ -97,7 +101,9 @@ fn serve_over<
         × (blanks.opens.parts ≡ vec_len workers.old) }
     requires most { (blanks.most.parts ≡ Q.parts) × (blanks.most.parts ≡ 1) }
     ensures served { HaveServed W.World A.In.Source A.Out.Sink A.Accept B.Watched route.now most
-        workers.old.items workers.new.items result }
+        workers.old.items workers.new.items result.0 }
+    ensures booked { AreBooked B.Watched
+        (P.counts result.1).booked workers.old.items workers.new.items }
 {
     let (booked_book, mut booked) = blanks.booked.open::<L>();
     let (fulls_book, mut fulls) = blanks.fulls.open::<M>();
@@ -107,12 +113,12 @@ fn serve_over<
     let counted = Counted::new(pool, booked_book, fulls_book, opens_book, most_book);
     let pool = Mutex::new(counted);
     let Ok(mut jobs) = make_jobs(alloc, workers, &mut booked, &mut fulls, &mut opens) else {
-        return Worked::Memory;
+        return (Worked::Memory, pool.into_inner().into_door());
     };
     do_jobs(rt, alloc, route, &pool, most, &mut jobs);
     let worked = worst(jobs.as_slice());
     take_back(jobs, workers, &mut booked, &mut fulls, &mut opens);
     let mut pool = pool.into_inner();
     pool.audit(&mut booked, &mut fulls, &mut opens, &mut most_share);
-    worked
+    (worked, pool.into_door())
 }

@@ -129,14 +129,15 @@ fn serve_over_pool<
 {
     let numbers = route.parts().pool;
     let pool: IndexedPool<W, B::Session> = IndexedPool::after(alloc, numbers, 0);
-    serve_all::<R, W, B, IndexedPool<W, B::Session>, A, C>(
+    let (worked, _) = serve_all::<R, W, B, IndexedPool<W, B::Session>, A, C>(
         rt,
         alloc,
         route,
         pool,
         numbers.max_sessions,
         workers,
-    )
+    );
+    worked
 }
 
 /// Prints how many connections were served.

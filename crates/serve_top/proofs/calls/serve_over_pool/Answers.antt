@@ -9,23 +9,23 @@ use Rattle.route_config.specs.declared.route.Route.{Route}
 use Rattle.serve_threads.specs.Serving.{HaveServed}
 use Rattle.serve_top.proofs.calls.serve_over_pool.Goals as goal
 
-pub serve_all-requires-send-P : goal.serve_all-requires-send-P
-serve_all-requires-send-P g c κs within =
+pub serve_all-worked-requires-send-P : goal.serve_all-worked-requires-send-P
+serve_all-worked-requires-send-P g c κs within =
     let f = indexed_send (param 1 g.row.W) (param 5 g.row.B-Session) key_digest.the_row g.W.World g.B.Session.Sitting digest.ghosts c.type_bounds.send-B-Session in
     record { owned = f.owned; leaving = λ k x w. unseen_quiet (k (of_param 3)) x w }
 
-pub serve_all-requires-clause-told : goal.serve_all-requires-clause-told
-serve_all-requires-clause-told g c κs within = refl
+pub serve_all-worked-requires-clause-told : goal.serve_all-worked-requires-clause-told
+serve_all-worked-requires-clause-told g c κs within = refl
 
-pub serve_all-requires-clause-new : goal.serve_all-requires-clause-new
-serve_all-requires-clause-new g c κs within = rw c.after-pool.ensures refl
+pub serve_all-worked-requires-clause-new : goal.serve_all-worked-requires-clause-new
+serve_all-worked-requires-clause-new g c κs within = rw c.after-pool.ensures refl
 
 pub returns : goal.returns
 returns g c = record {
   served = subst
       (λ (r : Route).
       HaveServed g.W.World g.A.In.Source g.A.Out.Sink g.A.Accept g.B.Watched c.args.route.now r.pool.max_sessions
-      c.args.workers.now.items c.serve_all.new.workers.items c.serve_all.result)
-      c.parts.ensures.same c.serve_all.ensures.served;
-  len = sym (length_all_zip _ _ _ c.serve_all.ensures.served.each);
+      c.args.workers.now.items c.serve_all-worked.new.workers.items c.serve_all-worked.result.0)
+      c.parts.ensures.same c.serve_all-worked.ensures.served;
+  len = sym (length_all_zip _ _ _ c.serve_all-worked.ensures.served.each);
 }
