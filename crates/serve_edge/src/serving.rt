@@ -1,5 +1,8 @@
 //! The command over the system.
 
+ghost use Rattle.gateway_config.specs.Outside.{sink_writes};
+ghost use Rattle.serve_top.specs.Outcome.{IsPrinted};
+
 use crate::listening::listen;
 use crate::workers::{Edge, workers};
 use gateway_config::Status;
@@ -30,7 +33,9 @@ pub fn serve<
         + Sync,
     L: Log + Sync,
     K: Sink,
->(runtime: &R, alloc: Global, log: &L, words: &[Text], out: &mut K) -> Status {
+>(runtime: &R, alloc: Global, log: &L, words: &[Text], out: &mut K) -> Status
+    ensures printed { IsPrinted (sink_writes K.Sink out.old out.new) result }
+{
     let accepted = AtomicU64::new(0);
     let (listener, count) = match asked_of(words) {
         Some(asked) => (listen(runtime, log, asked), asked.workers),
@@ -53,13 +58,9 @@ fn serve_sockets<
         + Sync,
     L: Log + Sync,
     K: Sink,
->(
-    runtime: &R,
-    alloc: Global,
-    words: &[Text],
-    out: &mut K,
-    workers: &mut Vec<Edge<R, L>>,
-) -> Status {
+>(runtime: &R, alloc: Global, words: &[Text], out: &mut K, workers: &mut Vec<Edge<R, L>>) -> Status
+    ensures printed { IsPrinted (sink_writes K.Sink out.old out.new) result }
+{
     let mut files = SystemFiles::new(runtime);
     serve_over(runtime, alloc, words, &mut files, out, workers)
 }
@@ -79,6 +80,8 @@ pub(crate) fn serve_over<
     files: &mut F,
     out: &mut K,
     workers: &mut Vec<Worker<ZBackend<N>, A, C>>,
-) -> Status {
+) -> Status
+    ensures printed { IsPrinted (sink_writes K.Sink out.old out.new) result }
+{
     top_serve::<R, TestWorld, ZBackend<N>, A, C, F, K>(runtime, alloc, words, files, out, workers)
 }

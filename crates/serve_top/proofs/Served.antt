@@ -1,5 +1,5 @@
 -- From how workers served, and what was printed of it, to what the command did
-use Rattle.std.proofs.Common.{◌≡◌, ◌≤◌, ◌+◌, ◌-◌, ℕ, List, [], ◌∷◌, length, arith, refl, inl, inr, ap, ◌∙◌}
+use Rattle.std.proofs.Common.{◌≡◌, ◌⊎◌, ◌≤◌, ◌+◌, ◌-◌, ℕ, List, [], ◌∷◌, length, arith, refl, inl, inr, ap, ◌∙◌}
 use Rattle.std.specs.List.{AllZip}
 use Rattle.std.proofs.lemmas.List.{length-append}
 use Rattle.std.proofs.lemmas.List.Sums.{sum_by-cons}
@@ -12,6 +12,7 @@ use Rattle.gw_outside.specs.declared.sources.Source as from
 use Rattle.gw_outside.specs.declared.watched.Watched as watched
 use Rattle.gateway_config.specs.ConfigRead.{HasFailed, IsConfigRefusal, IsUnreadTold}
 use Rattle.gateway_config.specs.Configs.{IsNotTaken, IsTaken}
+use Rattle.gateway_config.specs.Lines.{ReceivedNothing}
 use Rattle.gateway_config.specs.Outside.{FileReads, SinkWrites}
 use Rattle.gateway_config.specs.declared.status.Status.{Status}
 use Rattle.gateway_config.specs.declared.status.Status.TheVariants as status
@@ -19,7 +20,7 @@ use Rattle.serve.specs.declared.working.Worked.TheVariants.{Ended}
 use Rattle.serve.specs.declared.working.Worker.{Worker}
 use Rattle.serve_threads.specs.Serving.{HasServed, HaveServed}
 use Rattle.serve_top.specs.Lines.{served_count}
-use Rattle.serve_top.specs.Outcome.{IsServedTold, RouteServed, ServeDone}
+use Rattle.serve_top.specs.Outcome.{IsPrinted, IsServedTold, RouteServed, ServeDone, TakenAndServed}
 
 module _ {W A B C I K : Type 0} (w : world.Ghosts W) (i : from.Ghosts I) (k : to.Ghosts K) (a : accept.Ghosts A I K) (b : watched.Ghosts B)
   where
@@ -105,3 +106,35 @@ module _ {W A B C I K : Type 0} (w : world.Ghosts W) (i : from.Ghosts I) (k : to
     not-read config reads writes workers status.WriteFault failed said = absurd said
     not-read config reads writes workers status.AcceptFault failed said = absurd said
     not-read config reads writes workers status.RealTarget failed said = absurd said
+
+    -- ---- what is printed
+
+    route-printed : (route : Route) (writes : SinkWrites) (old new : List (Worker B A C)) (ended : Status)
+        → RouteServed w i k a b route writes old new ended → IsPrinted writes ended
+    route-printed route writes old new status.Ok done = (done.number, done.printed)
+    route-printed route writes old new status.WriteFault done = (done.number, done.printed)
+    route-printed route writes old new status.AcceptFault done = done.1
+    route-printed route writes old new status.Memory done = done.0
+    route-printed route writes old new status.Words done = absurd done
+    route-printed route writes old new status.Config done = absurd done
+    route-printed route writes old new status.Script done = absurd done
+    route-printed route writes old new status.ReadFault done = absurd done
+    route-printed route writes old new status.RealTarget done = absurd done
+
+    memory-printed : (config : List ℕ) (reads : FileReads) (writes : SinkWrites) (old new : List (Worker B A C))
+        → (ReceivedNothing writes × (new ≡ old)) ⊎ TakenAndServed w i k a b config reads writes old new status.Memory
+        → IsPrinted writes status.Memory
+    memory-printed config reads writes old new (inl none) = none.0
+    memory-printed config reads writes old new (inr done) = route-printed done.0 writes old new status.Memory done.2
+
+    pub printed : (config : List ℕ) (reads : FileReads) (writes : SinkWrites) (old new : List (Worker B A C)) (ended : Status)
+        → ServeDone w i k a b config reads writes old new ended → IsPrinted writes ended
+    printed config reads writes old new status.Ok done = route-printed done.0 writes old new status.Ok done.2
+    printed config reads writes old new status.WriteFault done = route-printed done.0 writes old new status.WriteFault done.2
+    printed config reads writes old new status.AcceptFault done = route-printed done.0 writes old new status.AcceptFault done.2
+    printed config reads writes old new status.Memory done = memory-printed config reads writes old new done
+    printed config reads writes old new status.Config done = (done.0.0, done.0.2)
+    printed config reads writes old new status.ReadFault done = (config, done.0.1)
+    printed config reads writes old new status.Words done = route-printed done.0 writes old new status.Words done.2
+    printed config reads writes old new status.Script done = route-printed done.0 writes old new status.Script done.2
+    printed config reads writes old new status.RealTarget done = route-printed done.0 writes old new status.RealTarget done.2

@@ -3,13 +3,14 @@
 use Rattle.std.specs.Prelude.{◌≡◌, ◌⊎◌, ℕ, ◌+◌, List, length, Option, None, Some}
 use Rattle.z_types.specs.declared.world.World as world
 use Rattle.route_config.specs.declared.route.Route.{Route}
+use Rattle.route_text.specs.declared.fault.RouteFault.{RouteFault}
 use Rattle.gw_outside.specs.declared.accepts.Accept as accept
 use Rattle.gw_outside.specs.declared.sinks.Sink as to
 use Rattle.gw_outside.specs.declared.sources.Source as from
 use Rattle.gw_outside.specs.declared.watched.Watched as watched
 use Rattle.gateway_config.specs.ConfigRead.{IsUnread}
 use Rattle.gateway_config.specs.Configs.{IsTaken, IsRefusedConfig}
-use Rattle.gateway_config.specs.Lines.{Received, ReceivedNothing, FailedWithin, Says, usage_line}
+use Rattle.gateway_config.specs.Lines.{Received, ReceivedNothing, FailedWithin, Says, config_line, fault_line, usage_line}
 use Rattle.gateway_config.specs.Outside.{FileReads, SinkWrites}
 use Rattle.gateway_config.specs.declared.status.Status.{Status}
 use Rattle.gateway_config.specs.declared.status.Status.TheVariants as status
@@ -26,6 +27,17 @@ IsServedTold number writes status.Ok = Received writes (served_line number)
 IsServedTold number writes status.WriteFault = FailedWithin writes (served_line number)
 IsServedTold number writes status.Memory = ReceivedNothing writes
 IsServedTold number writes other = ⊥
+
+-- What is printed at each status, whatever becomes of the workers: how many connections were served, or why none were, or none any more
+abbrev pub IsPrinted : SinkWrites → Status → Type 0
+IsPrinted writes status.Ok = (number : ℕ) × Received writes (served_line number)
+IsPrinted writes status.WriteFault = (number : ℕ) × FailedWithin writes (served_line number)
+IsPrinted writes status.AcceptFault = Says writes accept_line
+IsPrinted writes status.Words = Says writes usage_line
+IsPrinted writes status.Config = (fault : RouteFault) × Says writes (config_line fault)
+IsPrinted writes status.ReadFault = (name : List ℕ) × Says writes (fault_line name)
+IsPrinted writes status.Memory = ReceivedNothing writes
+IsPrinted writes other = ⊥
 
 module _ {W A B C I K : Type 0} (w : world.Ghosts W) (i : from.Ghosts I) (k : to.Ghosts K) (a : accept.Ghosts A I K) (b : watched.Ghosts B)
   where

@@ -3,7 +3,7 @@
 ghost use Rattle.std.specs.Prelude.{◌≡◌, ◌≤◌, length};
 ghost use Rattle.gateway_config.specs.Outside.{file_reads, sink_writes};
 ghost use Rattle.serve_threads.specs.Serving.{HaveServed};
-ghost use Rattle.serve_top.specs.Outcome.{IsDone, IsServedTold, RouteServed, ServeDone};
+ghost use Rattle.serve_top.specs.Outcome.{IsDone, IsPrinted, IsServedTold, RouteServed, ServeDone};
 
 use crate::lines::{ACCEPT_FAULT, listed, served_line};
 use crate::words::serve_of;
@@ -46,6 +46,9 @@ pub fn top_serve<
     ensures done { IsDone W.World A.In.Source A.Out.Sink A.Accept B.Watched words.now
         (file_reads F.Files files.old files.new) (sink_writes K.Sink out.old out.new)
         workers.old.items workers.new.items result }
+
+    // So one line is printed, which its status names, or nothing for want of memory.
+    ensures printed { IsPrinted (sink_writes K.Sink out.old out.new) result }
 {
     match serve_of(words, workers.len()) {
         Some(config) => serve::<R, W, B, A, C, F, K>(rt, alloc, config, files, out, workers),
