@@ -1,10 +1,9 @@
 //! Clients that are answered over links with test targets and a pool.
 
-ghost use Rattle.std.specs.Prelude.{◌≡◌, ℕ};
+ghost use Rattle.std.specs.Prelude.{◌≡◌, ℕ, false};
 ghost use Rattle.route_config.specs.declared.route.Route.{Route};
 ghost use Rattle.front_conn.specs.steps.States.{IsConnOf};
-ghost use Rattle.front_session.specs.Sessions.{new_session};
-ghost use Rattle.front_conn.specs.steps.States.{nothing_yet};
+ghost use Rattle.bench_conn.specs.Fed.{GoesOn, StaysOn};
 
 use crate::answers::Answers;
 use crate::sent::below;
@@ -68,8 +67,18 @@ impl Links {
         for unit in units.as_slice() {
             sent.append(unit.as_slice())?;
         }
-        let mut conn = Conn::new(alloc);
-        let fed = feed(&mut conn, sent.as_slice());
+        self.answers_to(alloc, route, sent.as_slice())
+    }
+
+    /// What a client is answered whose octets come whole.
+    pub(crate) fn answers_to(
+        &mut self,
+        alloc: Global,
+        route: &Route,
+        sent: &[u8],
+    ) -> Result<Answers, Memory> {
+        let mut conn = new_conn(alloc);
+        let fed = feed(&mut conn, sent);
         run(
             alloc,
             route,
@@ -83,16 +92,76 @@ impl Links {
         fed?;
         answers
     }
+
+    /// What a client is answered whose octets come one by one, with a step behind each.
+    pub(crate) fn answers_to_each(
+        &mut self,
+        alloc: Global,
+        route: &Route,
+        sent: &[u8],
+    ) -> Result<Answers, Memory> {
+        let (backend, pool, now) = (&mut self.backend, &mut self.pool, self.now);
+        let mut conn = new_conn(alloc);
+        let fed = feed_each(alloc, route, backend, pool, &mut conn, sent, now);
+        run(alloc, route, backend, pool, &mut conn, now);
+        let answers = answers_of(alloc, &conn);
+        drop(conn.into_marks());
+        fed?;
+        answers
+    }
 }
 
-/// Hands a new connection what a client sends.
-fn feed<W: World, S: Sitting<W>>(conn: &mut Conn<W, S>, sent: &[u8]) -> Result<(), Memory>
-    requires new { conn.old ≡ nothing_yet new_session }
-    ensures of { (route : Route) (most : ℕ) → IsConnOf W.World S.Sitting route most conn.old
-        → IsConnOf W.World S.Sitting route most conn.new }
+/// A connection of which nothing has come.
+fn new_conn<W: World, S: Sitting<W>>(alloc: Global) -> Conn<W, S>
+    ensures goes_on { result.has_ended ≡ false }
+    ensures of { (route : Route) (most : ℕ) → GoesOn W.World S.Sitting route most result }
+{
+    Conn::new(alloc)
+}
+
+/// Hands a connection a piece of what a client sends.
+fn feed<W: World, S: Sitting<W>>(conn: &mut Conn<W, S>, piece: &[u8]) -> Result<(), Memory>
+    requires { conn.old.has_ended ≡ false }
+    ensures { StaysOn W.World S.Sitting conn.old conn.new }
 {
     stays_of_route::<W, S>();
-    conn.feed(sent)
+    conn.feed(piece)?;
+    Ok(())
+}
+
+/// Steps a connection once.
+fn step<W: World, S: Sitting<W>, B: Backend<W, Session = S>, D: Door<W, S>>(
+    alloc: Global,
+    route: &Route,
+    backend: &mut B,
+    door: &mut D,
+    conn: &mut Conn<W, S>,
+    now: u64,
+)
+    requires { GoesOn W.World S.Sitting route.now (D.counts door.old).most conn.old }
+    ensures { GoesOn W.World S.Sitting route.now (D.counts door.new).most conn.new }
+{
+    conn.step(alloc, route, backend, door, now);
+}
+
+/// Hands a connection what a client sends, octet by octet, with a step behind each.
+fn feed_each<W: World, S: Sitting<W>, B: Backend<W, Session = S>, D: Door<W, S>>(
+    alloc: Global,
+    route: &Route,
+    backend: &mut B,
+    door: &mut D,
+    conn: &mut Conn<W, S>,
+    sent: &[u8],
+    now: u64,
+) -> Result<(), Memory>
+    requires { GoesOn W.World S.Sitting route.now (D.counts door.old).most conn.old }
+    ensures { GoesOn W.World S.Sitting route.now (D.counts door.new).most conn.new }
+{
+    for octet in sent {
+        feed(conn, &[*octet])?;
+        step(alloc, route, backend, door, conn, now);
+    }
+    Ok(())
 }
 
 /// Steps a connection until it has nothing to do.

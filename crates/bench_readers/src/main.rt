@@ -115,6 +115,7 @@ fn text_sample_named(word: &str) -> Option<Sample> {
         "write-records" => Some(Sample::Written(writes::Shape::Records)),
         "write-record" => Some(Sample::Written(writes::Shape::Record)),
         "sru-reply" => Some(Sample::Sru(sru::Shape::Reply)),
+        "sru-hundred" => Some(Sample::Sru(sru::Shape::Hundred)),
         "sru-packed" => Some(Sample::Sru(sru::Shape::Packed)),
         "sru-names" => Some(Sample::Sru(sru::Shape::Names)),
         "merge-places" => Some(Sample::Located),

@@ -12,6 +12,8 @@ use z_types::{List, Memory, Schema, SruAnswer, SruItem, Text};
 pub enum Shape {
     /// A reply of ten records as they are, which have all octets.
     Reply,
+    /// The same of a hundred records.
+    Hundred,
     /// The same with packed records.
     Packed,
     /// A query of names without values, which have all octets.
@@ -20,25 +22,25 @@ pub enum Shape {
     Head,
 }
 
-/// Ten records that have these octets each.
-fn records(alloc: Global, octets: usize) -> Result<List<SruItem>, Memory> {
+/// Records that have these octets each.
+fn records(alloc: Global, count: u32, octets: usize) -> Result<List<SruItem>, Memory> {
     let mut items = List::new(alloc);
-    for _ in 0..10 {
+    for _ in 0..count {
         let record = vec![in alloc; b'a'; octets]?;
         items.push(SruItem::Data(Text::from_vec(record)))?;
     }
     Ok(items)
 }
 
-/// An answer of ten records.
-fn answer(alloc: Global, escaped: bool, size: usize) -> Result<SruAnswer, Memory> {
+/// An answer of these records, of a hundred and one.
+fn answer(alloc: Global, escaped: bool, items: List<SruItem>) -> Result<SruAnswer, Memory> {
     Ok(SruAnswer {
         version: Text::copy_of(alloc, b"1.2")?,
         escaped,
-        count: 11,
+        count: 101,
         start: 1,
         uri: Text::copy_of(alloc, b"info:srw/schema/1/dc-v1.1")?,
-        items: records(alloc, size / 10)?,
+        items,
         refused: None,
     })
 }
@@ -90,6 +92,21 @@ fn write(alloc: Global, answer: &SruAnswer, times: u32) -> Result<(usize, u64), 
     Ok((octets, written))
 }
 
+/// Writes a reply of so many records of these octets each `times` times, and answers its octets and how
+/// often it was written.
+fn replies(
+    alloc: Global,
+    escaped: bool,
+    count: u32,
+    octets: usize,
+    times: u32,
+) -> Result<(usize, u64), Memory>
+    ensures { times ≡ 0 → IfOk result (λ written. written.1 ≡ 0) }
+{
+    let items = records(alloc, count, octets)?;
+    write(alloc, &answer(alloc, escaped, items)?, times)
+}
+
 /// Reads a query `times` times, and answers its octets and how often it was taken.
 fn read(alloc: Global, get: &Get, times: u32) -> Result<(usize, u64), Memory>
     ensures { times ≡ 0 → IfOk result (λ taken. taken.1 ≡ 0) }
@@ -128,8 +145,9 @@ pub(crate) fn run(
     ensures { times ≡ 0 → IfOk result (λ done. done.1 ≡ 0) }
 {
     match shape {
-        Shape::Reply => write(alloc, &answer(alloc, false, size)?, times),
-        Shape::Packed => write(alloc, &answer(alloc, true, size)?, times),
+        Shape::Reply => replies(alloc, false, 10, size / 10, times),
+        Shape::Hundred => replies(alloc, false, 100, size / 100, times),
+        Shape::Packed => replies(alloc, true, 10, size / 10, times),
         Shape::Names => {
             let path = Text::new(alloc);
             let query = query(alloc, size)?;

@@ -1,5 +1,0 @@
-use Rattle.bench_conn.proofs.links.Links.answers.Goals as goal
-
--- it is a connection of the route when it is new, and still when it is fed
-pub run-requires : goal.run-requires
-run-requires c = c.feed-fed.ensures.of _ _ (c.new-conn.ensures.of _ _)
