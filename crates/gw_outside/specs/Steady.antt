@@ -29,10 +29,10 @@ module _ {W S : Type 0} (t : sitting.Ghosts S W) (exact : Bool) (happening : Hap
     pub number : exact ≡ true → (t.link session).number ≡ dials
     pub delays : (t.link session).delays ≡ happening.delay ∷ []
 
-  -- one that fails is cut
+  -- one that fails had a link, which is cut
   abbrev pub OpensSteadily : Opening S → Type 0
   OpensSteadily (opened.Session session) = HasNewLink session
-  OpensSteadily (opened.Failed linked) = exact ≡ true → is_cut happening dials ≡ true
+  OpensSteadily (opened.Failed linked) = (linked ≡ true) × (exact ≡ true → is_cut happening dials ≡ true)
   OpensSteadily opened.Memory = Unit {0}
 
 -- ---- an ask
