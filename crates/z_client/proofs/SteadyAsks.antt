@@ -86,7 +86,7 @@ module _ {W : Type 0} (w : world.Ghosts W) (address : Address) (made : Made) (at
         let here : Answered (Some may.key) = subst (λ set. Answered set) e said in
         let not : gone_said (present_said answer) ≡ false =
         held_not_gone (λ position. w.record_ address may.key position syntax element) first count (present_said answer)
-            (here first may.hits refl right may.from_one may.some may.within) (w.whole_is_not_gone address may.key first syntax element) in
+        (here first may.hits refl right may.from_one may.some may.within) (w.whole_is_not_gone address may.key first syntax element) in
         let no_way : true ≡ false = sym gone ∙ not in absurd cc
     present_gone may right (inr e) stay said gone =
         sym (some_found (nat_lt 0 at.presents) old.sets name) ∙ ap is_some (sym (stay name)) ∙ ap is_some e
@@ -128,8 +128,7 @@ module _ {W : Type 0} (w : world.Ghosts W) (address : Address) (made : Made) (as
       → TakesRequest w h.steady (sets_found (at_address h old.address) (request_of ask) old.sets) (request_of ask) old new → Took (Some old) (Some new)
   peer_took old new t steady takes =
       let step = subst (λ at. IsPeerStep w at (request_of ask) takes.left new.sets takes.answer) t.same_address takes.step in
-      let stay = subst (λ at. StayHeld (sets_found (at_address h at) (request_of ask) old.sets) takes.left) t.same_address (takes.are_found steady) in
-      (
+      let stay = subst (λ at. StayHeld (sets_found (at_address h at) (request_of ask) old.sets) takes.left) t.same_address (takes.are_found steady) in (
         asked_holds w address made (at_address h address) old new takes.left takes.answer ask may stay step,
         asked_gone w address made (at_address h address) old new takes.left takes.answer ask t may
             (λ key name hits m. holds_left old.sets takes.left name key (t.sets.holds name key hits refl m) (takes.are_left name))

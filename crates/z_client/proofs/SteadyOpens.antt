@@ -56,7 +56,10 @@ module _ {W S : Type 0} (t : sitting.Ghosts S W) (exact : Bool) (address : Addre
     number = λ x. o.number x ∙ sym (over_dials exact wire own x);
     delays = o.delays ∙ ap (λ here. here.delay ∷ []) (address_again h then_ address same);
   }
-  opened_steadily (opened.Failed linked) o = (o.0, λ x.
-      cut_again (at_address then_ address) (at_address h address) wire.dials (counts_over exact wire own).dials (address_again h then_ address same)
-      (sym (over_dials exact wire own x)) (o.1 x))
+  opened_steadily (opened.Failed linked) o = (
+    o.0,
+    λ x.
+        cut_again (at_address then_ address) (at_address h address) wire.dials (counts_over exact wire own).dials (address_again h then_ address same)
+        (sym (over_dials exact wire own x)) (o.1 x),
+  )
   opened_steadily opened.Memory o = tt

@@ -61,9 +61,9 @@ returns-in-Sent-clause-steady g c = λ told steady. record {
 
 pub returns-in-Failed-clause-steady : goal.returns-in-Failed-clause-steady
 returns-in-Failed-clause-steady g c = λ told steady. (
-    refl,
-    ungreeted_cut g.W.World g.N.Link.Linked g.N.Watched.exact c.args.address c.as_slice.result.now c.args.link c.send.new.link
-    (g.N.Watched.happened c.args.wire.now) (g.N.Watched.happened c.send.new.self) (g.N.Watched.counts c.args.wire.now) (g.N.Watched.counts c.send.new.self)
-    c.requires.link told steady (subst (λ octets. IsRequestUnit octets init_request) (sym c.as_slice.ensures) c.requires.unit)
-    c.in-Failed.ensures.steady c.in-Failed.ensures.counts,
+  refl,
+  ungreeted_cut g.W.World g.N.Link.Linked g.N.Watched.exact c.args.address c.as_slice.result.now c.args.link c.send.new.link
+      (g.N.Watched.happened c.args.wire.now) (g.N.Watched.happened c.send.new.self) (g.N.Watched.counts c.args.wire.now) (g.N.Watched.counts c.send.new.self)
+      c.requires.link told steady (subst (λ octets. IsRequestUnit octets init_request) (sym c.as_slice.ensures) c.requires.unit)
+      c.in-Failed.ensures.steady c.in-Failed.ensures.counts,
 )
