@@ -1,0 +1,14 @@
+//! The laws of what goes on over a quiet backend, over targets in memory.
+
+use crate::{begun_is_well, packages_go_well, turns_go_well};
+use gw_memory::FakeSession;
+use std::test::Fail;
+use test_target::TestWorld;
+
+#[test]
+fn the_laws_of_quiet_backends_hold_over_targets_in_memory(_: HostRuntime) -> Result<(), Fail> {
+    turns_go_well::<TestWorld, FakeSession>();
+    begun_is_well::<TestWorld, FakeSession>();
+    packages_go_well::<TestWorld, FakeSession>();
+    Ok(())
+}
