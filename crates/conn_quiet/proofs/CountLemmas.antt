@@ -29,18 +29,20 @@ IsWell deed = Unit {0}
 
 -- ---- links that were made
 
-more-linked : (b : Bool) (old new : ℕ) → 1 ≤ old → new ≡ one_more b old → 1 ≤ new
-more-linked true old new h e = omega (arith, h, e)
-more-linked false old new h e = omega (arith, h, e)
+-- a link was got
+abbrev pub GotLink : {S : Type 0} → Opening S → Type 0
+GotLink (opening.Session session) = Unit {0}
+GotLink (opening.Failed linked) = linked ≡ true
+GotLink opening.Memory = ⊥
 
-call-linked : (told : Type 0) (call : Counted) (old new : Counts) → 1 ≤ old.dials → BackendCounts true told call old new → 1 ≤ new.dials
-call-linked told call old new h k = more-linked call.dial old.dials new.dials h (ap (λ (c : Counts). c.dials) k.others)
+one-linked : (b : Bool) (old new : ℕ) → b ≡ true → new ≡ one_more b old → 1 ≤ new
+one-linked true old new is e = omega (arith, e)
+one-linked false old new is e = absurd cc
 
-pub linked-then : {S : Type 0} (made : Opening S) (old new : Counts) → 1 ≤ old.dials → OpenCounts true made old new → 1 ≤ new.dials
-linked-then {S = S} (opening.Session session) old new h k = call-linked (Unit {0}) (open_counted (opening.Session session)) old new h k
-linked-then {S = S} (opening.Failed linked) old new h k = call-linked (Unit {0}) (open_counted {S = S} (opening.Failed linked)) old new h k
-linked-then opening.Memory old new h (inl k) = call-linked (Unit {0}) _ old new h k
-linked-then opening.Memory old new h (inr k) = call-linked (Unit {0}) _ old new h k
+pub linked-then : {S : Type 0} (made : Opening S) (old new : Counts) → GotLink made → OpenCounts true made old new → 1 ≤ new.dials
+linked-then {S = S} (opening.Session session) old new got h = one-linked true old.dials new.dials refl (ap (λ (c : Counts). c.dials) h.others)
+linked-then {S = S} (opening.Failed linked) old new got h = one-linked linked old.dials new.dials got (ap (λ (c : Counts). c.dials) h.others)
+linked-then opening.Memory old new got h = absurd got
 
 -- ---- the counts of the backend
 
@@ -91,30 +93,6 @@ module _ {W S : Type 0} (w : world.Ghosts W) (t : sitting.Ghosts S W) where
   counts-stay (redialled member) old new well h = by-none _ old new h
   counts-stay no_memory old new well h = by-none _ old new h
   counts-stay nothing old new well h = by-none _ old new h
-
-  same-linked : (old new : Counts) → 1 ≤ old.dials → new ≡ old → 1 ≤ new.dials
-  same-linked old new h e = subst (λ (c : Counts). 1 ≤ c.dials) (sym e) h
-
-  -- a link was made before
-  pub stays-linked : (deed : Deed S) (old new : Counts) → 1 ≤ old.dials → CountsMove w t true deed old new → 1 ≤ new.dials
-  stays-linked (took gives) old new l h = same-linked old new l h
-  stays-linked (opened made) old new l h = linked-then made old new l h
-  stays-linked (began ask reply session) old new l h = call-linked _ (start_counted ask reply) old new l h
-  stays-linked (heard look.Opened session) old new l h = call-linked _ (heard_counted look.Opened) old new l h
-  stays-linked (heard (look.Hits hits) session) old new l h = call-linked _ (heard_counted (look.Hits hits)) old new l h
-  stays-linked (heard (look.Refused diag) session) old new l h = call-linked _ (heard_counted (look.Refused diag)) old new l h
-  stays-linked (heard (look.Items items) session) old new l h = call-linked _ (heard_counted (look.Items items)) old new l h
-  stays-linked (heard look.Gone session) old new l h = call-linked _ (heard_counted look.Gone) old new l h
-  stays-linked (heard (look.Scanned entries) session) old new l h = call-linked _ (heard_counted (look.Scanned entries)) old new l h
-  stays-linked (heard look.NotYet session) old new l h = call-linked _ (heard_counted look.NotYet) old new l h
-  stays-linked (heard look.Failed session) old new l h = call-linked _ (heard_counted look.Failed) old new l h
-  stays-linked (heard look.Memory session) old new l (inl h) = call-linked _ _ old new l h
-  stays-linked (heard look.Memory session) old new l (inr h) = call-linked _ _ old new l h
-  stays-linked put_back old new l h = same-linked old new l h
-  stays-linked gave_up old new l h = same-linked old new l h
-  stays-linked (redialled member) old new l h = same-linked old new l h
-  stays-linked no_memory old new l h = same-linked old new l h
-  stays-linked nothing old new l h = same-linked old new l h
 
   -- ---- what happens to links
 

@@ -272,7 +272,7 @@ module _ {W S : Type 0} (w : world.Ghosts W) (t : sitting.Ghosts S W) (terms : T
 
 module _ {W S : Type 0} (w : world.Ghosts W) (t : sitting.Ghosts S W) (terms : Terms) (most : ℕ) (task : Task) (now gones : ℕ)
     (backend moved : BackendView) (p : Pool S) (behind : Option (Pool S)) (told : AreTold w terms.at) (quiet : AreQuiet backend.happened)
-    (linked : 1 ≤ backend.counts.dials) (are : IsWholePool w t (Some p)) where
+    (are : IsWholePool w t (Some p)) where
   -- it goes well, and leaves the leg and the pool whole
   pub record GoesWell (old : Phase S) (deed : Deed S) : Type 0 where
     pub well : IsWell deed
@@ -324,12 +324,12 @@ module _ {W S : Type 0} (w : world.Ghosts W) (t : sitting.Ghosts S W) (terms : T
   open-goes seat member (opening.Session session) due links counts at k = record {
     well = tt;
     whole = new-whole w t (opened_at terms member) backend.happened moved.counts.dials session quiet at
-        (linked-then (opening.Session session) backend.counts moved.counts linked counts) due (links at quiet.steady);
+        (linked-then (opening.Session session) backend.counts moved.counts tt counts) due (links at quiet.steady);
     pool = same-pool k;
   }
   open-goes seat member (opening.Failed made) due links counts at k =
       absurd (uncut backend.happened (opened_at terms member) moved.counts.dials quiet
-      (linked-then {S = S} (opening.Failed made) backend.counts moved.counts linked counts) (links at quiet.steady refl))
+      (linked-then {S = S} (opening.Failed made) backend.counts moved.counts (links at quiet.steady).0 counts) ((links at quiet.steady).1 refl))
   open-goes seat member opening.Memory due links counts at k = record { well = tt; whole = tt; pool = same-pool k }
 
   -- ---- an ask

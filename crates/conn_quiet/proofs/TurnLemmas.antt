@@ -18,7 +18,7 @@ use Rattle.leg.specs.declared.tasks.Task.{Task}
 use Rattle.leg.specs.Tasks.{want_of}
 use Rattle.conn_quiet.specs.steps.Quiet.{AreTold, CountsStay, IsCalm, IsWellAt, WentWell}
 use Rattle.conn_quiet.specs.steps.Whole.{IsWholeIn}
-use Rattle.conn_quiet.proofs.CountLemmas.{counts-stay, no-cause, stays-linked, stays-quiet}
+use Rattle.conn_quiet.proofs.CountLemmas.{counts-stay, no-cause, stays-quiet}
 use Rattle.conn_quiet.proofs.LegLemmas.{deed-goes, left-whole}
 
 -- ---- memory
@@ -97,7 +97,7 @@ module _ {W S : Type 0} (w : world.Ghosts W) (t : sitting.Ghosts S W) where
       → IsWellAt w t terms new b × WentWell w t (HadMemory answer old new) after.pool backend moved
   turn-told terms task now old new a b answer door after backend moved None e told h calm is = absurd calm.sessions
   turn-told terms task now old new a b answer door after backend moved (Some p) e told h calm is =
-      let goes = deed-goes w t terms door.counts.most task now b.gones backend moved p after.pool told calm.quiet calm.linked calm.sessions old
+      let goes = deed-goes w t terms door.counts.most task now b.gones backend moved p after.pool told calm.quiet calm.sessions old
       h.deed h.due h.links h.backend_moves.counts is.whole
       (subst (λ (q : Option (Pool S)). PoolMoves terms task now old h.deed q after.pool) e h.pool) in (
         record {
@@ -108,7 +108,6 @@ module _ {W S : Type 0} (w : world.Ghosts W) (t : sitting.Ghosts S W) where
         record {
           calm = record {
             quiet = stays-quiet w t h.deed backend.happened moved.happened calm.quiet h.backend_moves.happened;
-            linked = stays-linked w t h.deed backend.counts moved.counts calm.linked h.backend_moves.counts;
             sessions = goes.pool;
           };
           counts = stay-where ((lack_of h.deed ≡ always) → ⊥) (HadMemory answer old new) backend.counts moved.counts

@@ -1,5 +1,5 @@
 -- For contracts alone: what it is that nothing goes wrong over a quiet backend, at addresses that are told (this project's own)
-use Rattle.std.specs.Prelude.{◌≡◌, ◌≤◌, List, Contains, Option}
+use Rattle.std.specs.Prelude.{◌≡◌, List, Contains, Option}
 use Rattle.std.specs.List.{AllByRecursion}
 use Rattle.z_types.specs.declared.address.Address.{Address}
 use Rattle.z_types.specs.declared.sitting.Sitting as sitting
@@ -20,11 +20,10 @@ use Rattle.conn_quiet.specs.steps.Whole.{IsWholeIn, IsWholePool}
 abbrev pub AreTold : {W : Type 0} → world.Ghosts W → List Address → Type 0
 AreTold w at = (address : Address) → Contains at address → w.told address
 
--- nothing is made to happen to any link, a link was made before, and the sessions of the pool that are idle are whole
+-- nothing is made to happen to any link, and the sessions of the pool that are idle are whole
 pub record IsCalm {W S : Type 0} (w : world.Ghosts W) (t : sitting.Ghosts S W) (pool : Option (Pool S)) (backend : BackendView)
     : Type 0 where
   pub quiet : AreQuiet backend.happened
-  pub linked : 1 ≤ backend.counts.dials
   pub sessions : IsWholePool w t pool
 
 -- no call failed and no look was in vain; and no set was gone, where memory was not wanting
