@@ -1,5 +1,5 @@
 -- One turn of a leg over a quiet backend: nothing goes wrong, and the sessions of the leg and of the pool are whole behind it
-use Rattle.std.proofs.Common.{◌≡◌, ◌∙◌, ℕ, ◌+◌, ◌-◌, ◌<◌, ◌≤◌, Bool, true, false, cond, if◌then◌else◌, List, [], ◌++◌, length, Option, None, Some, is_some, refl, sym, ap, subst, nat_lt}
+use Rattle.std.proofs.Common.{◌≡◌, ◌∙◌, ℕ, ◌+◌, ◌-◌, ◌<◌, Bool, true, false, cond, if◌then◌else◌, List, [], ◌++◌, length, Option, None, Some, is_some, refl, sym, ap, subst, nat_lt}
 use Rattle.std.proofs.lemmas.Cmp.{nat_list_eq_equiv}
 use Rattle.std.proofs.lemmas.List.Elements.{All-contains, Contains-get_or}
 use Rattle.z_types.specs.Pending.{IsPending, Pending, resting, asked}
