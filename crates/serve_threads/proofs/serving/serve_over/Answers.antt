@@ -18,7 +18,7 @@ returns g c =
           (summed c.audit.ensures.opens.1 c.take_back.ensures.opens c.in-Ok.ensures.none.2) c.audit.ensures.full_opens)
           c.do_jobs.ensures.done;
       booked = booked-as g.B.Watched c.args.workers.now.items c.take_back.new.workers.items
-          (ap (λ (d : DoorCounts). d.booked) (ap g.P.Door.counts c.into_door.ensures.same ∙ c.audit.ensures.counts)
+          (ap (λ (d : DoorCounts). d.booked) (ap g.P.Door.counts c.into_door-2.ensures.same ∙ c.audit.ensures.counts)
           ∙ ap counted (summed c.audit.ensures.booked.1 c.take_back.ensures.booked c.in-Ok.ensures.none.0))
           (have-booked g.W.World g.A.In.Source g.A.Out.Sink g.A.Accept g.B.Watched c.args.route.now c.args.most (λ j. j.worker)
           (λ j. amounts j.fulls.amount j.opens.amount j.booked.amount) (λ j. j.worked) _ _ _ _ _
