@@ -175,7 +175,7 @@ module _ {W S : Type 0} (w : world.Ghosts W) (t : sitting.Ghosts S W) (exact : B
   -- the events that close clients are such
   closings-may : (clients : List ℕ) → AllByRecursion A (flat_map closing clients)
   closings-may [] = tt
-  closings-may (client ∷ clients) = let one = closes client in (one.0, one.1, closings-may clients)
+  closings-may (client ∷ clients) = let one = closes client in (one.0, (one.1, closings-may clients))
 
   pub whole-keeps : (events : List Event) (before behind : Outside S) (report : Report) → AllByRecursion A events → most_of before ≡ most
       → J before → (h : IsRunOf w t exact route events before behind report) → IsKeptWhole K most R before behind h.finish
