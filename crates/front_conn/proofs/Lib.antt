@@ -2,6 +2,8 @@ mod WorkLemmas
 mod SetLemmas
 pub mod StateLemmas
 mod FeedLemmas
+mod DriveLemmas
+mod DrivenLemmas
 pub mod EndLemmas
 mod AheadLemmas
 mod UnitLemmas

@@ -305,7 +305,7 @@ module _ {W S : Type 0} (w : world.Ghosts W) (t : sitting.Ghosts S W) (route : R
       works-get w route fed written new next goes (ap (λ (a : AnsweringState S). a.in_work) is)
       (get-on w t route fed written old new view next k same is)
 
-  goes-keeps : old.end ≡ None → old.in_work ≡ Some view
+  pub goes-keeps : old.end ≡ None → old.in_work ≡ Some view
       → answering_of new ≡ record (answering_of old) { in_work = Some next } → new.end ≡ None → new.at ≡ old.at → new.left ≡ old.left
       → KeepsState w route old new
   goes-keeps goes works is ended at left = λ fair fed written h.

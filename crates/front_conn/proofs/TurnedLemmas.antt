@@ -17,7 +17,7 @@ use Rattle.front_conn.proofs.StepLemmas.{state_of}
 use Rattle.front_conn.proofs.TurnLemmas.{TurnLaws, turned-keeps, turned-sets}
 
 -- what is so of the thing that is there
-at-some : {A P : Type 0} (thing : Option A) → IsSome thing → ((x : A) → thing ≡ Some x → P) → P
+pub at-some : {A P : Type 0} (thing : Option A) → IsSome thing → ((x : A) → thing ≡ Some x → P) → P
 at-some None some f = let wrong : false ≡ true = some in absurd cc
 at-some (Some x) some f = f x refl
 

@@ -5,3 +5,4 @@ pub mod Answering
 pub mod Ahead
 pub mod Steps
 pub mod Feeding
+pub mod Drives

@@ -14,6 +14,7 @@ ghost use Rattle.package.specs.steps.Packages.{AsksSo, IsOver, IsPackageOf};
 ghost use Rattle.package_rules.specs.Planned.{AreThere};
 ghost use Rattle.front_sru.specs.Gets.{work_of};
 ghost use Rattle.front_conn.specs.steps.Answering.{EndsWork, IsBegunSo, IsGetEndedIf, IsHeadBegunSo, IsListed, IsReady, IsRequestEndedIf, IsWorkBegun, TurnsWork, given_up, legs_in};
+ghost use Rattle.front_conn.specs.steps.Drives.{DrivesWork, outside_of};
 ghost use Rattle.front_conn.specs.steps.States.{HasLegsOf, IsOneWork, IsWaitedFor};
 
 use crate::Stepped;
@@ -24,7 +25,7 @@ use front_session::FrontSession;
 use front_sru::{SruState, end_get};
 use front_z::{Begun, begin_unit, end_unit};
 use gateway_rules::{bad_unit_reply, mark_of};
-use gw_outside::Backend;
+use gw_outside::{Backend, Clock};
 use leg::Turned;
 use package::{Package, package_outcome_fits};
 use package_rules::finished_has_mark;
@@ -33,6 +34,7 @@ use route_config::Route;
 use sru_request::{Get, HeadFault};
 use std::alloc::Global;
 use std::marker::Model;
+use std::sync::Wait;
 use z_types::{End, List, Mark, Memory, Sitting, Text, Work, World};
 use z_write::put_reply;
 
@@ -317,6 +319,43 @@ impl<W: World, S: Sitting<W>> Answering<W, S> {
             Turned::NotYet => Stepped::NotYet,
             Turned::Memory => end_step(end, Err(Memory)),
             Turned::Done => {
+                let done = self.end_work(alloc, route);
+                end_step(end, done)
+            }
+        }
+    }
+
+    /// Drives the legs of the request in work until all are done, and answers it, or goes on with the fetch
+    /// of a GET; and how the connection has ended so, if it did. The clock is read before each turn.
+    pub(crate) fn drive<R: Wait, B: Backend<W, Session = S>, D: Door<W, S>, C: Clock>(
+        &mut self,
+        rt: &R,
+        alloc: Global,
+        route: &Route,
+        backend: &mut B,
+        door: &mut D,
+        clock: &mut C,
+        end: &mut Option<End>,
+    ) -> Stepped
+        requires goes_on { end.old ≡ None }
+        requires works { IsSome self.old.in_work }
+        requires one_work { IsOneWork route.now
+            self.old.session.waiting self.old.stage self.old.in_work }
+        requires of { IfSome self.old.in_work
+            (IsPackageOf W.World S.Sitting route.now (D.counts door.old).most) }
+        ensures most { (D.counts door.new).most ≡ (D.counts door.old).most }
+        ensures drives { IfSome self.old.in_work (λ view.
+            DrivesWork W.World S.Sitting B.exact route.now view self.old self.new result end.new
+            (outside_of D.Door B.Watched door.old backend.old)
+            (outside_of D.Door B.Watched door.new backend.new)) }
+    {
+        package_outcome_fits::<W, S>();
+        let Some(package) = &mut self.work else {
+            unreachable!()
+        };
+        match package.drive(rt, alloc, route, backend, door, clock) {
+            Err(memory) => end_step(end, Err(memory)),
+            Ok(()) => {
                 let done = self.end_work(alloc, route);
                 end_step(end, done)
             }

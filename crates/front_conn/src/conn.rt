@@ -1,6 +1,6 @@
 //! A connection.
 
-ghost use Rattle.std.specs.Prelude.{◌≡◌, ℕ, IfSome, IsSome, None, OnErr, OnOk, Some, false};
+ghost use Rattle.std.specs.Prelude.{◌≡◌, ◌↔◌, ℕ, IfSome, IsSome, IsTrue, None, OnErr, OnOk, Some, false};
 ghost use Rattle.std.specs.List.{AllByRecursion};
 ghost use Rattle.std.specs.Option.{option_map};
 ghost use Rattle.route_config.specs.declared.route.Route.{Route};
@@ -8,6 +8,7 @@ ghost use Rattle.front_session.specs.Sessions.{new_session};
 ghost use Rattle.package.specs.steps.Ends.{lost_seats};
 ghost use Rattle.package.specs.steps.Packages.{IsPackageOf};
 ghost use Rattle.front_conn.specs.steps.Answering.{legs_in};
+ghost use Rattle.front_conn.specs.steps.Drives.{HasDriven, IsInWork, conn_at};
 ghost use Rattle.front_conn.specs.steps.Feeding.{with_end, with_piece, without_out, without_work};
 ghost use Rattle.front_conn.specs.steps.States.{HasLegsOf, IsConnOf, IsOneWork, nothing_yet};
 ghost use Rattle.front_conn.specs.steps.Steps.{GoesAhead, HasTurned, IsStepped, KeepsState, UnlessMemory};
@@ -17,7 +18,7 @@ use crate::answering::Answering;
 use crate::ends::end_step;
 use crate::{Stepped, Total};
 use front_http::{gets_go_on, heads_answer};
-use gw_outside::Backend;
+use gw_outside::{Backend, Clock};
 use package::{package_cause_is_allowed, package_outcome_is_true};
 use package_rules::have_members;
 use pool_sets::Door;
@@ -25,6 +26,7 @@ use route_config::Route;
 use sru_rules::{head_is_refused, works_answer};
 use std::alloc::Global;
 use std::marker::Model;
+use std::sync::Wait;
 use z_frame::Framer;
 use z_types::{End, List, Mark, Memory, Sitting, World};
 
@@ -38,9 +40,10 @@ use z_types::{End, List, Mark, Memory, Sitting, World};
 /// end_input   once no more will come
 /// step   after each piece, and after the end of the input, again until it is Idle or Memory, also
 ///        after NotYet; with one route for all, and doors that open as many sessions at most
+/// drive  in place of steps, where a request is_in_work: until it is answered
 /// out, clear_out   after steps: what is to be written, then cleared once it is written
 /// end    tells whether it has ended: from then on feed and step do nothing
-/// give_up   where it is left before its end, and after Memory
+/// give_up   where it is left before its end, and after a step's Memory
 /// marks, totals, into_marks   last
 /// ```
 #[derive(Drop)]
@@ -231,6 +234,44 @@ impl<W: World, S: Sitting<W>> Conn<W, S> {
         gets_go_on::<W>();
         let end = &mut self.end;
         self.answering.turn(alloc, route, backend, door, now, end)
+    }
+
+    /// Whether a request is in work, so that the connection is to be driven.
+    pub fn is_in_work(&self) -> bool
+        ensures { IsTrue result ↔ IsInWork self.now }
+    {
+        self.end.is_none() && self.answering.is_in_work()
+    }
+
+    /// Drives the package in work until all its legs are done, and answers its request, or goes on with the
+    /// fetch of a GET.
+    pub(crate) fn drive_package<R: Wait, B: Backend<W, Session = S>, D: Door<W, S>, C: Clock>(
+        &mut self,
+        rt: &R,
+        alloc: Global,
+        route: &Route,
+        backend: &mut B,
+        door: &mut D,
+        clock: &mut C,
+    ) -> Stepped
+        requires in_work { IsInWork self.old }
+        requires of { IsConnOf W.World S.Sitting route.now (D.counts door.old).most self.old }
+        ensures of { IsConnOf W.World S.Sitting route.now (D.counts door.new).most self.new }
+        ensures most { (D.counts door.new).most ≡ (D.counts door.old).most }
+        ensures driven { HasDriven W.World S.Sitting B.exact route.now
+            (conn_at D.Door B.Watched self.old door.old backend.old)
+            (conn_at D.Door B.Watched self.new door.new backend.new) result }
+        ensures keeps { UnlessMemory result (KeepsState W.World route.now self.old self.new) }
+    {
+        let _ = route.parts();
+        have_members(route);
+        package_cause_is_allowed::<W, S>();
+        package_outcome_is_true::<W, S>();
+        works_answer::<W>();
+        gets_go_on::<W>();
+        let end = &mut self.end;
+        self.answering
+            .drive(rt, alloc, route, backend, door, clock, end)
     }
 
     /// Goes ahead where no request is in work: takes and begins the next unit, or the head of an HTTP

@@ -5,6 +5,7 @@
 mod ahead;
 mod answering;
 mod conn;
+mod driving;
 mod ends;
 mod laws;
 mod stepped;

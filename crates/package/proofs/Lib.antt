@@ -2,7 +2,9 @@ mod BegunLemmas
 mod CauseLemmas
 mod CountLemmas
 mod DoneLemmas
+mod DriveLemmas
 mod FinishLemmas
+mod FlightLemmas
 mod GivenLemmas
 mod KindLemmas
 mod MadeLemmas
@@ -11,6 +13,7 @@ mod OverLemmas
 mod PlaceLemmas
 mod PlanLemmas
 mod SaidLemmas
+mod SliceLemmas
 mod SuppliesLemmas
 mod SupplyLemmas
 mod ThenLemmas

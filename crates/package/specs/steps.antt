@@ -2,5 +2,7 @@
 pub mod Kinds
 pub mod Packages
 pub mod Turns
+pub mod Drives
+pub mod Flights
 pub mod Ends
 pub mod Laws

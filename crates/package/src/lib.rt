@@ -5,20 +5,25 @@
 //! pool and no mark (ANSI/NISO Z39.50-2003, 3.2.2.1, 3.2.3.1 and 3.2.8.1): a yardstick for tests.
 #![tactic(auto)]
 
+mod answers;
 mod asking;
+mod drive;
 mod finishing;
+mod flight;
 mod hits;
 mod laws;
 mod outcomes;
 mod package;
 mod records;
+mod rounds;
 mod said;
 mod supplies;
 mod turning;
 
+pub use flight::AllLegs;
 pub use laws::{
     package_cause_is_allowed, package_is_answered, package_outcome_fits, package_outcome_is_true,
 };
 pub use outcomes::plain_outcome;
 pub use package::Package;
-pub use turning::{Round, all_done, turn_each};
+pub use turning::Round;

@@ -99,7 +99,7 @@ fn turn_one<W: World, S: Sitting<W>, B: Backend<W, Session = S>, D: Door<W, S>>(
 
 /// Turns each leg that is not done once, one after another, and says what they answered. Legs go on behind
 /// one that has no memory.
-pub fn turn_each<W: World, S: Sitting<W>, B: Backend<W, Session = S>, D: Door<W, S>>(
+pub(crate) fn turn_each<W: World, S: Sitting<W>, B: Backend<W, Session = S>, D: Door<W, S>>(
     alloc: Global,
     route: &Route,
     legs: &mut [Leg<W, S>],
@@ -126,7 +126,7 @@ pub fn turn_each<W: World, S: Sitting<W>, B: Backend<W, Session = S>, D: Door<W,
 }
 
 /// Whether all legs are done.
-pub fn all_done<W: World, S: Sitting<W>>(legs: &[Leg<W, S>]) -> bool
+pub(crate) fn all_done<W: World, S: Sitting<W>>(legs: &[Leg<W, S>]) -> bool
     ensures done { result ≡ all_done legs.now }
     ensures fits { IsTrue result → AreDone legs.now }
 {

@@ -8,7 +8,6 @@ use Rattle.gateway_rules.specs.Fair.{IsFair}
 use Rattle.gateway_rules.specs.Marks.{IsAllowed}
 use Rattle.gateway_rules.specs.Outcomes.{classes_asked, outcome_of}
 use Rattle.gateway_rules.specs.Works.{FitsWork}
-use Rattle.leg.specs.declared.answers.LegAnswer.TheVariants as answer
 use Rattle.package_rules.specs.Truth.{AreAnswered, HasWorldsHits, HaveMembers}
 use Rattle.package.specs.steps.Ends.{cause_in, outcome_in}
 use Rattle.package.specs.steps.Packages.{IsOver, IsPackageOf, PackageView, answers_of}

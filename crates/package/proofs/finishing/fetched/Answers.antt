@@ -1,6 +1,5 @@
 use Rattle.std.proofs.Common.{◌∙◌, ℕ, List, length, ap, sym}
 use Rattle.std.proofs.lemmas.List.{length-map}
-use Rattle.z_types.specs.declared.outcome.Fetched.{Fetched}
 use Rattle.z_types.specs.declared.outcome.Outcome.TheVariants as outcome
 use Rattle.gateway_rules.specs.Outcomes.{places_from, whole}
 use Rattle.package_rules.specs.Asked.{Asked, records_asked, spans_of}

@@ -1,2 +1,0 @@
-mod SaidLemmas
-mod TurnLemmas

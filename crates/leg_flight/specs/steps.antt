@@ -1,2 +1,0 @@
--- For contracts alone (this project's own)
-pub mod Flights
