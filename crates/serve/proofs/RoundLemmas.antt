@@ -16,20 +16,22 @@ use Rattle.front_session.specs.Sessions.{new_session}
 use Rattle.front_conn.specs.declared.stepped.Stepped.{Stepped}
 use Rattle.front_conn.specs.declared.stepped.Stepped.TheVariants.{Went}
 use Rattle.front_conn.specs.steps.Answering.{AnsweringState, Outside, WorksOn, legs_in}
+use Rattle.front_conn.specs.steps.Drives.{ConnAt, StepsTo}
 use Rattle.front_conn.specs.steps.Feeding.{fed_piece, with_end, without_out}
-use Rattle.front_conn.specs.steps.States.{ConnectionState, IsConnOf, nothing_yet}
+use Rattle.front_conn.specs.steps.States.{ConnectionState, nothing_yet}
 use Rattle.front_conn.specs.steps.Steps.{IsStepped, StepsFrom, answering_of}
 use Rattle.conn_costs.specs.steps.Conns.{PaysFor, RestsIfEnded, dues_on, marks_of, met_on, outside_meets}
 use Rattle.conn_costs.specs.steps.Growth.{RisesEnough}
-use Rattle.conn_costs.specs.steps.Laws.{MarksAreMet, MeetsEnough, StartsCostless, StepsOweFew}
+use Rattle.conn_costs.specs.steps.Laws.{MarksAreMet, MeetsEnough, PaysOn, StartsCostless, StepsMeet, StepsOweFew, StepsPay}
 use Rattle.conn_costs.specs.steps.Ledgers.{Dues, IsPaid, dues_in}
 use Rattle.conn_costs.specs.steps.Numbers.{Caused, met_by, weight}
 use Rattle.conn_costs.proofs.GrowthLemmas.{enough-less}
 use Rattle.serve.specs.Costs.{AreMarksOf, ArePaid, HaveCauses, Tally, undialled}
-use Rattle.serve.specs.Runs.{GoesFrom, HasGone, IsCalm, Point}
-use Rattle.serve.specs.steps.Rounds.{IsBehind, IsBetween, IsWritten}
+use Rattle.serve.specs.Runs.{GoesFrom, HasGone, IsCalm}
+use Rattle.serve.specs.steps.Rounds.{GoesSo, IsBehind, IsBetween, IsLeft, IsRound, IsWritten}
 use Rattle.serve.specs.steps.Serving.{IsIdle, IsIdleAt}
 use Rattle.serve.proofs.LeftLemmas.{ahead-unused, left-unused, none-unused, over-left}
+use Rattle.serve.proofs.MarkLemmas.{step-marks}
 
 -- ---- what costs nothing
 
@@ -91,6 +93,11 @@ module _ {S : Type 0} where
       → AreMarksOf pool most new.marks
   calm-marks pool most mid new calm fit = subst (λ (ms : List Mark). AreMarksOf pool most ms) (sym (calm-same mid new calm).marks) fit
 
+  -- of steps, and of others behind them
+  pub round-meets : (pool : PoolNumbers) (old mid new : ConnectionState S) (before amid behind : Outside S)
+      → MeetsEnough pool old mid before amid → MeetsEnough pool mid new amid behind → MeetsEnough pool old new before behind
+  round-meets pool old mid new before amid behind one other = λ kind others h. other kind others (one kind others h)
+
   -- ---- behind a step that found nothing to do
 
   rests-at : (end : Option End) (state : ConnectionState S) → state.end ≡ end → IsIdleAt end state → RestsIfEnded state → state.in_work ≡ None
@@ -136,33 +143,78 @@ module _ {S : Type 0} where
   behind-went old mid new end rests few went calm written at =
       went-same old mid new end rests few went (calm-same mid new calm) written at
 
+  -- where no request is in work any more
+  pub behind-answered : (old mid new : ConnectionState S) (end : Option End) → mid.in_work ≡ None → IsCalm mid new → IsWritten mid new end
+      → IsBetween old → IsBehind new end
+  behind-answered old mid new end none calm written at =
+      let zero = none-unused mid none in
+      behind-went old mid new end (λ ended. none) (omega (arith, zero)) (inr zero) calm written at
+
+  -- a round whose steps led to where it stands
+  pub left-here : (here : ConnAt S) (end : Option End) → IsLeft here here end
+  left-here here None = refl
+  left-here here (Some end) = refl
+
 -- ---- the way
 
 module _ {W S : Type 0} (w : world.Ghosts W) (t : sitting.Ghosts S W) (exact : Bool) (route : Route) where
-  pub goes-nowhere : (first : Point S) → GoesFrom w t exact route first first
+  pub goes-nowhere : (first : ConnAt S) → GoesFrom w t exact route first first
   goes-nowhere first = ([], refl)
 
-  gone-on : (first mid : Point S) (earlier : List (Point S)) → HasGone w t exact route first earlier mid → (later : List (Point S)) (last : Point S)
+  gone-on : (first mid : ConnAt S) (earlier : List (ConnAt S)) → HasGone w t exact route first earlier mid → (later : List (ConnAt S)) (last : ConnAt S)
       → HasGone w t exact route mid later last → HasGone w t exact route first (later ++ earlier) last
-  gone-on first mid earlier h [] last k = subst (λ (p : Point S). HasGone w t exact route first earlier p) (sym k) h
+  gone-on first mid earlier h [] last k = subst (λ (p : ConnAt S). HasGone w t exact route first earlier p) (sym k) h
   gone-on first mid earlier h (next ∷ later) last k = (gone-on first mid earlier h later next k.0, k.1)
 
   -- one way behind another
-  pub goes-on : (first mid last : Point S) → GoesFrom w t exact route first mid → GoesFrom w t exact route mid last
+  pub goes-on : (first mid last : ConnAt S) → GoesFrom w t exact route first mid → GoesFrom w t exact route mid last
       → GoesFrom w t exact route first last
   goes-on first mid last one other = (other.0 ++ one.0, gone-on first mid one.0 one.1 other.0 last other.1)
 
   -- a step
-  pub goes-step : (now : ℕ) (answer : Stepped) (here next : Point S) → IsConnOf w t route here.outside.door.counts.most here.conn
-      → IsStepped w t exact route now here.conn next.conn answer here.outside next.outside → GoesFrom w t exact route here next
-  goes-step now answer here next of h = (here ∷ [], (refl, inl (record { now = now; answer = answer; of = of; stepped = h })))
+  pub step-so : StepsMeet w t → StepsPay w t → (here next : ConnAt S) (answer : Stepped) → StepsTo w t exact route here next answer
+      → GoesSo w t exact route here next
+  step-so meet pay here next answer step = record {
+    goes = (here ∷ [], (refl, inl (answer, step)));
+    met = meet exact route step.now here.conn next.conn answer here.outside next.outside step.of step.stepped;
+    paid = pay exact route step.now here.conn next.conn answer here.outside next.outside step.of step.stepped;
+    marks = λ fit.
+        step-marks w t exact route next.outside.door.counts.most here.conn next.conn fit step.now answer here.outside next.outside refl
+        step.stepped;
+  }
 
-  -- and what is fed or written behind it
-  pub goes-calmly : (now : ℕ) (answer : Stepped) (here mid : Point S) (new : ConnectionState S)
-      → IsConnOf w t route here.outside.door.counts.most here.conn → IsStepped w t exact route now here.conn mid.conn answer here.outside mid.outside → IsCalm mid.conn new
-      → GoesFrom w t exact route here (record { conn = new; outside = mid.outside })
-  goes-calmly now answer here mid new of h calm =
-      (mid ∷ here ∷ [], ((refl, inl (record { now = now; answer = answer; of = of; stepped = h })), inr (calm, refl)))
+  -- steps behind others that listed no mark
+  pub so-on : PaysOn S → (first mid last : ConnAt S) → mid.conn.marks ≡ first.conn.marks → GoesSo w t exact route first mid
+      → GoesSo w t exact route mid last → GoesSo w t exact route first last
+  so-on pays first mid last same one other = record {
+    goes = goes-on first mid last one.goes other.goes;
+    met = round-meets route.pool first.conn mid.conn last.conn first.outside mid.outside last.outside one.met other.met;
+    paid = pays first.conn mid.conn last.conn first.outside mid.outside last.outside one.paid other.paid;
+    marks = λ fit.
+        other.marks (subst (λ (ms : List Mark). AreMarksOf route.pool last.outside.door.counts.most ms) (sym same) fit);
+  }
+
+  -- and what is fed or written behind them
+  pub so-calmly : (first mid : ConnAt S) (new : ConnectionState S) → GoesSo w t exact route first mid → IsCalm mid.conn new
+      → GoesSo w t exact route first (record { conn = new; outside = mid.outside })
+  so-calmly first mid new so calm = record {
+    goes = (mid ∷ so.goes.0, (so.goes.1, inr (calm, refl)));
+    met = calm-meets route.pool first.conn mid.conn new first.outside mid.outside calm so.met;
+    paid = calm-pays first.conn mid.conn new first.outside mid.outside calm so.paid;
+    marks = λ fit. calm-marks route.pool mid.outside.door.counts.most mid.conn new calm (so.marks fit);
+  }
+
+  -- ---- a round
+
+  -- a round behind which it goes on
+  pub record StandsSo (first here : ConnAt S) : Type 0 where
+    pub so : GoesSo w t exact route first here
+    pub leaves : IsBetween first.conn → IsBetween here.conn
+
+  pub stands-so : (first here : ConnAt S) (end : Option End) → end ≡ None → IsRound w t exact route first here end → StandsSo first here
+  stands-so first here None none round =
+      subst (λ (p : ConnAt S). StandsSo first p) (sym round.left) (record { so = round.so; leaves = round.leaves })
+  stands-so first here (Some end) none round = absurd cc
 
 -- ---- a step
 
@@ -215,10 +267,6 @@ module _ {S : Type 0} where
   -- a new connection
   pub between-starts : IsBetween (nothing_yet {S = S} new_session)
   between-starts = record { nothing_out = refl; rests = λ ended. refl; few = omega arith }
-
-  pub round-meets : (pool : PoolNumbers) (old mid new : ConnectionState S) (before amid behind : Outside S)
-      → MeetsEnough pool old mid before amid → MeetsEnough pool mid new amid behind → MeetsEnough pool old new before behind
-  round-meets pool old mid new before amid behind one other = λ kind others h. other kind others (one kind others h)
 
   pub all-caused : MarksAreMet S → StartsCostless S → (route : Route) (old new : ConnectionState S) (before behind : Outside S)
       → old ≡ nothing_yet new_session → MeetsEnough route.pool old new before behind

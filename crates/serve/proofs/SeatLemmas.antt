@@ -10,10 +10,11 @@ use Rattle.pool_core.specs.PoolView.{Ascends}
 use Rattle.package.specs.steps.Packages.{PackageView}
 use Rattle.front_session.specs.Sessions.{new_session}
 use Rattle.front_conn.specs.steps.Answering.{Outside, legs_in}
+use Rattle.front_conn.specs.steps.Drives.{ConnAt}
 use Rattle.front_conn.specs.steps.States.{ConnectionState, nothing_yet}
 use Rattle.conn_seats.specs.steps.Laws.{ConnectionsGiveBack, StepsKeepSeats}
 use Rattle.conn_seats.specs.steps.Seats.{AreHeld, AreHeldOn, AreOutOf, no_seat, out_of}
-use Rattle.serve.specs.Runs.{GoesOnTo, HasGone, IsCalm, IsRun, Point}
+use Rattle.serve.specs.Runs.{GoesOnTo, HasGone, IsCalm, IsRun}
 use Rattle.serve.specs.Seats.{AreGivenBack}
 use Rattle.serve.proofs.RoundLemmas.{calm-same}
 
@@ -56,26 +57,26 @@ module _ {S : Type 0} where
 
 module _ {W S : Type 0} (w : world.Ghosts W) (t : sitting.Ghosts S W) (exact : Bool) (route : Route) (keeps : StepsKeepSeats w t)
     (gives : ConnectionsGiveBack S) where
-  goes-held : (here next : Point S) (others : Seat → ℕ) → GoesOnTo w t exact route here next
+  goes-held : (here next : ConnAt S) (others : Seat → ℕ) → GoesOnTo w t exact route here next
       → AreHeldOn here.conn others here.outside.door.pool → AreHeldOn next.conn others next.outside.door.pool
   goes-held here next others (inl step) held =
-      keeps exact route step.now here.conn next.conn step.answer here.outside next.outside others step.of step.stepped held
+      keeps exact route step.1.now here.conn next.conn step.0 here.outside next.outside others step.1.of step.1.stepped held
   goes-held here next others (inr (calm, same)) held =
       subst (λ (o : Outside S). AreHeldOn next.conn others o.door.pool) (sym same)
       (calm-held here.conn next.conn others here.outside.door.pool calm held)
 
   -- whatever it goes through, each seat that is out is held by it, or was out before it
-  gone-held : (first : Point S) (earlier : List (Point S)) (last : Point S) (others : Seat → ℕ) → HasGone w t exact route first earlier last
+  gone-held : (first : ConnAt S) (earlier : List (ConnAt S)) (last : ConnAt S) (others : Seat → ℕ) → HasGone w t exact route first earlier last
       → AreHeldOn first.conn others first.outside.door.pool → AreHeldOn last.conn others last.outside.door.pool
   gone-held first [] last others gone held =
-      subst (λ (p : Point S). AreHeldOn p.conn others p.outside.door.pool) (sym gone) held
+      subst (λ (p : ConnAt S). AreHeldOn p.conn others p.outside.door.pool) (sym gone) held
   gone-held first (mid ∷ earlier) last others gone held =
       goes-held mid last others gone.1 (gone-held first earlier mid others gone.0 held)
 
   told-back : (marks : List Mark) (before behind : Outside S) (pool : Pool S) → IsRun w t exact route marks before behind
       → before.door.pool ≡ Some pool → Ascends 0 pool.given pool.sessions → AreOutOf no_seat (out_of pool) behind.door.pool
   told-back marks before behind pool run e ascend =
-      let first : Point S = record { conn = nothing_yet new_session; outside = before } in
+      let first : ConnAt S = record { conn = nothing_yet new_session; outside = before } in
       let held = gone-held first run.gone.0 run.last (out_of pool) run.gone.1 (first-held pool before.door.pool e ascend) in
       (gives run.last.conn run.last.outside.door.pool behind.door.pool (out_of pool) (ap (λ (o : Outside S). o.door.pool) run.left) held).1
 

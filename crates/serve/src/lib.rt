@@ -2,6 +2,8 @@
 //! after another and serves each, over a door to the pool that all workers share.
 #![tactic(auto)]
 
+mod clocks;
+mod rounds;
 mod serving;
 mod working;
 

@@ -12,6 +12,7 @@ use pool_sets::Door;
 use route_config::Route;
 use std::alloc::Global;
 use std::mem;
+use std::sync::Wait;
 use z_types::{List, World};
 
 /// How a worker's loop ended.
@@ -45,7 +46,8 @@ pub struct Worker<B, A, C> {
 /// listed. A connection that ends without memory does not end its worker.
 ///
 /// It waits where a call of the acceptor, a connection, the backend or the door does.
-pub fn work<W: World, B: Backend<W>, D: Door<W, B::Session>, A: Accept, C: Clock>(
+pub fn work<R: Wait, W: World, B: Backend<W>, D: Door<W, B::Session>, A: Accept, C: Clock>(
+    rt: &R,
     alloc: Global,
     route: &Route,
     door: &mut D,
@@ -70,6 +72,7 @@ pub fn work<W: World, B: Backend<W>, D: Door<W, B::Session>, A: Accept, C: Clock
 {
     let mut served = mem::replace(&mut worker.served, List::new(alloc)).into_vec();
     let worked = serve_all(
+        rt,
         alloc,
         route,
         door,
@@ -83,7 +86,8 @@ pub fn work<W: World, B: Backend<W>, D: Door<W, B::Session>, A: Accept, C: Clock
 }
 
 /// Serves connections until none is left, and lists what came of each.
-fn serve_all<W: World, B: Backend<W>, D: Door<W, B::Session>, A: Accept, C: Clock>(
+fn serve_all<R: Wait, W: World, B: Backend<W>, D: Door<W, B::Session>, A: Accept, C: Clock>(
+    rt: &R,
     alloc: Global,
     route: &Route,
     door: &mut D,
@@ -111,7 +115,7 @@ fn serve_all<W: World, B: Backend<W>, D: Door<W, B::Session>, A: Accept, C: Cloc
         match accept.accept() {
             Accepted::Connection(mut source, mut sink) => {
                 let (from, to) = (&mut source, &mut sink);
-                let came = serve_connection(alloc, route, door, from, to, backend, clock);
+                let came = serve_connection(rt, alloc, route, door, from, to, backend, clock);
                 accept.close(source, sink, came.marks.as_slice(), came.end);
                 served.push_reserved(came);
             }

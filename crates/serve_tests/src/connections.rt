@@ -11,6 +11,7 @@ use pool_core::Pool;
 use route_config::{Route, RouteParts};
 use serve::{Served, serve_connection};
 use std::alloc::Global;
+use std::sync::Wait;
 use std::test::Fail;
 use test_target::TestWorld;
 use z_types::{End, List, Mark, Memory, Text};
@@ -72,7 +73,8 @@ pub(crate) fn are_plain(marks: &List<Mark>, count: usize) -> bool {
 }
 
 /// What comes of a connection over targets in memory.
-fn served(
+fn served<R: Wait>(
+    rt: &R,
     alloc: Global,
     route: &Route,
     source: &mut MemorySource,
@@ -82,6 +84,7 @@ fn served(
     let mut backend = FakeBackend::new(TestWorld, List::new(alloc));
     let mut clock = MemoryClock::new(List::new(alloc));
     Ok(serve_connection(
+        rt,
         alloc,
         route,
         &mut pool,
@@ -93,14 +96,14 @@ fn served(
 }
 
 /// Whether a connection is served as its case has it, to a sink that takes so many octets at once.
-fn is_so(alloc: Global, case: &Case, most: usize) -> Result<bool, Memory>
+fn is_so<R: Wait>(rt: &R, alloc: Global, case: &Case, most: usize) -> Result<bool, Memory>
     requires { 1 ≤ most }
 {
     let route = route_of(alloc, case.most_units)?;
     let reads = one_number(alloc, case.failing_read)?;
     let mut source = MemorySource::new(text_of(alloc, case.sent)?, reads);
     let mut sink = MemorySink::taking(alloc, most, one_number(alloc, case.failing_write)?);
-    let served = served(alloc, &route, &mut source, &mut sink)?;
+    let served = served(rt, alloc, &route, &mut source, &mut sink)?;
     let written = text_of(alloc, case.written)?;
     Ok(
         served.end == case.end
@@ -226,7 +229,7 @@ const CASES: [Case; 17] = [
 #[test]
 fn a_connection_is_answered_up_to_its_end(rt: HostRuntime) -> Result<(), Fail> {
     for case in &CASES {
-        assert!(rt; is_so(rt.alloc(), case, usize::MAX)?, "{:?}", case.end);
+        assert!(rt; is_so(&rt, rt.alloc(), case, usize::MAX)?, "{:?}", case.end);
     }
     Ok(())
 }
@@ -260,7 +263,7 @@ const PARTS: [Case; 4] = [
 #[test]
 fn a_reply_of_which_a_part_is_written_is_the_last(rt: HostRuntime) -> Result<(), Fail> {
     for case in &PARTS {
-        assert!(rt; is_so(rt.alloc(), case, 1)?, "{}", case.failing_write);
+        assert!(rt; is_so(&rt, rt.alloc(), case, 1)?, "{}", case.failing_write);
     }
     Ok(())
 }

@@ -5,6 +5,8 @@
 #[cfg(test)]
 mod connections;
 #[cfg(test)]
+mod flights;
+#[cfg(test)]
 mod octets;
 #[cfg(test)]
 mod workers;

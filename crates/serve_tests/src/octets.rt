@@ -53,3 +53,26 @@ pub(crate) const BAD_HEAD_REPLY: &[u8] =
 
 /// The Close of a unit beyond the most.
 pub(crate) const LIMIT_REPLY: &[u8] = &[0xbf, 0x30, 0x05, 0x9f, 0x81, 0x53, 0x01, 0x04];
+
+/// Three legs of different targets: the hits of all of them, four.
+pub(crate) const MERGED_SEARCH_REPLY: &[u8] = &[
+    0xb7, 0x0c, 0x97, 0x01, 0x04, 0x98, 0x01, 0x00, 0x99, 0x01, 0x01, 0x96, 0x01, 0xff,
+];
+
+/// A Present of all four records.
+pub(crate) const PRESENT_ALL: &[u8] = &[
+    0xb8, 0x15, 0x9f, 0x1f, 0x01, 0x31, 0x9e, 0x01, 0x01, 0x9d, 0x01, 0x04, 0x9f, 0x68, 0x08, 0x2a,
+    0x86, 0x48, 0xce, 0x13, 0x05, 0x6d, 0x0a,
+];
+
+/// The records, in their merged order: of the first leg, of the third, and two more of the first.
+pub(crate) const MERGED_PRESENT_REPLY: &[u8] = b"\
+    \xb9\x81\xc8\x98\x01\x04\x99\x01\x00\x9b\x01\x00\xbc\x81\xbc\
+    \x30\x2d\x80\x07Default\xa1\x22\xa1\x20\x28\x1e\x06\x08\x2a\x86\x48\xce\x13\x05\x6d\x0a\
+    \x81\x12<r>0.Default.4</r>\
+    \x30\x2b\x80\x07Default\xa1\x20\xa1\x1e\x28\x1c\x06\x08\x2a\x86\x48\xce\x13\x05\x6d\x0a\
+    \x81\x10<r>1.Small.3</r>\
+    \x30\x2e\x80\x07Default\xa1\x23\xa1\x21\x28\x1f\x06\x08\x2a\x86\x48\xce\x13\x05\x6d\x0a\
+    \x81\x13<r>0.Default.12</r>\
+    \x30\x2e\x80\x07Default\xa1\x23\xa1\x21\x28\x1f\x06\x08\x2a\x86\x48\xce\x13\x05\x6d\x0a\
+    \x81\x13<r>0.Default.20</r>";

@@ -11,6 +11,7 @@ use pool_core::Pool;
 use route_config::Route;
 use serve::{Served, Worked, Worker, work};
 use std::alloc::Global;
+use std::sync::Wait;
 use std::test::Fail;
 use test_target::TestWorld;
 use z_types::{End, List, Memory};
@@ -114,7 +115,8 @@ fn are_so(alloc: Global, worker: &Memories, count: usize) -> Result<bool, Memory
 
 /// Whether a worker whose accept of this number fails ends so, when so many clients were served, and
 /// goes on to the last of them.
-fn works_so(
+fn works_so<R: Wait>(
+    rt: &R,
     alloc: Global,
     route: &Route,
     failing_accept: u64,
@@ -123,9 +125,9 @@ fn works_so(
 ) -> Result<bool, Memory> {
     let mut pool: Pool<TestWorld, FakeSession> = Pool::new(alloc, route)?;
     let mut worker = worker(alloc, failing_accept)?;
-    let first = work(alloc, route, &mut pool, &mut worker) == worked
+    let first = work(rt, alloc, route, &mut pool, &mut worker) == worked
         && are_so(alloc, &worker, count)?;
-    let second = work(alloc, route, &mut pool, &mut worker) == Worked::Ended;
+    let second = work(rt, alloc, route, &mut pool, &mut worker) == Worked::Ended;
     Ok(first && second && are_so(alloc, &worker, CLIENTS.len())?)
 }
 
@@ -140,7 +142,7 @@ fn a_worker_serves_each_connection_and_ends_with_its_listener(rt: HostRuntime) -
         (5, Worked::Failed, 4),
     ] {
         assert!(rt;
-            works_so(alloc, &route, failing_accept, worked, count)?,
+            works_so(&rt, alloc, &route, failing_accept, worked, count)?,
             "{failing_accept}"
         );
     }

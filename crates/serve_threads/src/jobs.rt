@@ -59,7 +59,7 @@ pub(crate) fn run<
     let none = job.opens.empty();
     let opens = mem::replace(&mut job.opens, none);
     let mut door = LockedDoor::new(rt, pool, most, booked, fulls, opens);
-    job.worked = work(alloc, route, &mut door, &mut job.worker);
+    job.worked = work(rt, alloc, route, &mut door, &mut job.worker);
     let (booked, fulls, opens) = door.shares();
     job.booked = booked;
     job.fulls = fulls;

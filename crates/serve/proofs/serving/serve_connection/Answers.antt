@@ -1,10 +1,11 @@
-use Rattle.std.proofs.Common.{List, ◌∙◌, ap, sym, subst}
+use Rattle.std.proofs.Common.{◌≡◌, List, ◌∙◌, ap, sym, subst}
 use Rattle.z_types.specs.declared.marks.Mark.{Mark}
 use Rattle.pool_sets.specs.Counts.{DoorCounts}
 use Rattle.serve.specs.Costs.{AreMarksOf, ArePaid, HaveCauses, tally_of, undialled}
 use Rattle.front_conn.specs.steps.Answering.{Outside}
+use Rattle.front_conn.specs.steps.Drives.{ConnAt, conn_at, given_up_at, outside_of}
 use Rattle.front_conn.specs.steps.States.{ConnectionState}
-use Rattle.serve.specs.Runs.{GoesFrom, Point, outside_of}
+use Rattle.serve.specs.Runs.{GoesFrom}
 use Rattle.serve.specs.Serving.{IsServed, streams}
 use Rattle.serve.proofs.SeatLemmas.{run-back}
 use Rattle.serve.proofs.serving.serve_connection.Goals as goal
@@ -49,20 +50,22 @@ returns-clause-marks g c =
 pub returns-clause-run : goal.returns-clause-run
 returns-clause-run g c =
     let before : Outside g.row.B-Session.Denot = outside_of g.D.Door g.B.Watched c.args.door.now c.args.backend.now in
-    let last : Point g.row.B-Session.Denot = record {
-      conn = c.serve_to_end-end.new.conn;
-      outside = outside_of g.D.Door g.B.Watched c.serve_to_end-end.new.door c.serve_to_end-end.new.backend;
+    let here : ConnAt g.row.B-Session.Denot =
+    conn_at g.D.Door g.B.Watched c.serve_to_end-end.new.conn c.serve_to_end-end.new.door c.serve_to_end-end.new.backend in
+    let comes = c.serve_to_end-end.ensures.comes in
+    let given : outside_of g.D.Door g.B.Watched c.give_up.new.door c.serve_to_end-end.new.backend ≡ (given_up_at here).outside =
+    λ i. record {
+      door = record { pool = c.give_up.ensures.pool i; counts = c.give_up.ensures.counts i };
+      backend = here.outside.backend;
     } in record {
-      last = last;
+      last = comes.last;
       gone = subst
           (λ (s : ConnectionState g.row.B-Session.Denot).
-          GoesFrom g.W.World g.B.Session.Sitting g.B.Watched.exact c.args.route.now (record { conn = s; outside = before }) last)
-          c.new-conn.ensures.new c.serve_to_end-end.ensures.goes;
-      marks = c.into_marks.ensures ∙ ap (λ s. s.marks) c.give_up.ensures.state;
-      left = λ i. record {
-        door = record { pool = c.give_up.ensures.pool i; counts = c.give_up.ensures.counts i };
-        backend = last.outside.backend;
-      };
+          GoesFrom g.W.World g.B.Session.Sitting g.B.Watched.exact c.args.route.now (record { conn = s; outside = before }) comes.last)
+          c.new-conn.ensures.new comes.gone;
+      marks = c.into_marks.ensures ∙ ap (λ s. s.marks) c.give_up.ensures.state
+          ∙ ap (λ (p : ConnAt g.row.B-Session.Denot). p.conn.marks) comes.left;
+      left = given ∙ ap (λ (p : ConnAt g.row.B-Session.Denot). p.outside) comes.left;
     }
 
 pub returns-clause-seats : goal.returns-clause-seats

@@ -1,14 +1,13 @@
-use Rattle.std.proofs.Common.{◌≡◌, ◌∙◌, Option, None, refl, sym, subst}
+use Rattle.std.proofs.Common.{◌≡◌, ◌∙◌, Option, None, ap, refl, sym, subst}
 use Rattle.z_types.specs.declared.marks.End.{End}
 use Rattle.serve.specs.Serving.{Streams, streams}
-use Rattle.front_conn.specs.steps.Answering.{Outside}
-use Rattle.serve.specs.Runs.{outside_of}
-use Rattle.serve.specs.steps.Rounds.{IsBehind, IsBetween}
+use Rattle.front_conn.specs.steps.Drives.{ConnAt, conn_at, outside_of}
+use Rattle.serve.specs.steps.Rounds.{IsBetween}
 use Rattle.z_types.specs.declared.marks.End.TheVariants.{Memory}
 use Rattle.serve.specs.steps.Serving.{GoesOn, IsWrittenOut}
 use Rattle.front_conn.specs.steps.States.{ConnectionState, IsConnOf}
-use Rattle.serve.specs.Costs.{AreMarksOf}
-use Rattle.serve.proofs.RoundLemmas.{all-caused, all-paid, between-starts, goes-nowhere, goes-on, marks-on, round-meets}
+use Rattle.serve.specs.Costs.{AreMarksOf, ArePaid, HaveCauses, undialled}
+use Rattle.serve.proofs.RoundLemmas.{all-caused, all-paid, between-starts, goes-nowhere, goes-on, marks-on, round-meets, stands-so, tally_in}
 use Rattle.serve.proofs.ServingLemmas.{serving-memory, serving-starts}
 use Rattle.serve.proofs.serving.serve_to_end.Goals as goal
 
@@ -22,7 +21,7 @@ loop-round-init g c =
           IsConnOf g.W.World g.S.Sitting c.args.route.now (g.D.Door.counts c.args.door.now).most s)
           (sym c.requires.new) (λ e. record { sets = tt; in_work = tt; one_work = tt });
       goes = goes-nowhere g.W.World g.S.Sitting g.B.Watched.exact c.args.route.now
-          (record { conn = c.args.conn.now; outside = outside_of g.D.Door g.B.Watched c.args.door.now c.args.backend.now });
+          (conn_at g.D.Door g.B.Watched c.args.conn.now c.args.door.now c.args.backend.now);
       met = λ kind others h. h;
       paid = (c.costs_nothing.ensures g.B.Watched.exact c.args.route.now c.args.conn.now
           (outside_of g.D.Door g.B.Watched c.args.door.now c.args.backend.now)).paid;
@@ -46,70 +45,84 @@ returns-clause-served g c =
 pub loop-round-preserved : goal.loop-round-preserved
 loop-round-preserved g c =
     let start : Streams = streams g.I.Source g.K.Sink c.args.source.now c.args.sink.now in
-    let before : Outside g.row.S.Denot = outside_of g.D.Door g.B.Watched c.args.door.now c.args.backend.now in
-    let amid : Outside g.row.S.Denot = outside_of g.D.Door g.B.Watched c.loop-round.door c.loop-round.backend in
-    let behind : Outside g.row.S.Denot = outside_of g.D.Door g.B.Watched c.go_on.new.door c.go_on.new.backend in
-    let none : c.go_on.result ≡ None = c.in_default.is in record {
+    let first : ConnAt g.row.S.Denot = conn_at g.D.Door g.B.Watched c.args.conn.now c.args.door.now c.args.backend.now in
+    let mid : ConnAt g.row.S.Denot = conn_at g.D.Door g.B.Watched c.loop-round.conn c.loop-round.door c.loop-round.backend in
+    let here : ConnAt g.row.S.Denot = conn_at g.D.Door g.B.Watched c.go_on.new.conn c.go_on.new.door c.go_on.new.backend in
+    let none : c.go_on.result ≡ None = c.in_default.is in
+    let round = stands-so g.W.World g.S.Sitting g.B.Watched.exact c.args.route.now mid here c.go_on.result none c.go_on.ensures.round in record {
       at = subst
           (λ (e : Option End).
           GoesOn g.W.World c.args.route.now start (streams g.I.Source g.K.Sink c.go_on.new.source c.go_on.new.sink) c.go_on.new.conn e)
           none (c.go_on.ensures.goes start c.loop-round.invariant.at);
       of = c.go_on.ensures.of;
-      goes = goes-on g.W.World g.S.Sitting g.B.Watched.exact c.args.route.now (record { conn = c.args.conn.now; outside = before })
-          (record { conn = c.loop-round.conn; outside = amid }) (record { conn = c.go_on.new.conn; outside = behind })
-          c.loop-round.invariant.goes c.go_on.ensures.round.goes;
-      met = round-meets c.args.route.now.pool c.args.conn.now c.loop-round.conn c.go_on.new.conn before amid behind
-          c.loop-round.invariant.met c.go_on.ensures.round.met;
-      paid = c.pays_on.ensures c.args.conn.now c.loop-round.conn c.go_on.new.conn before amid behind
-          c.loop-round.invariant.paid c.go_on.ensures.round.paid;
-      marks = marks-on c.args.route.now.pool (c.go_on.ensures.most ∙ c.loop-round.invariant.most) c.loop-round.conn.marks
-          c.go_on.new.conn.marks c.go_on.ensures.round.marks c.loop-round.invariant.marks;
-      between = subst (λ (e : Option End). IsBehind c.go_on.new.conn e) none (c.go_on.ensures.round.leaves c.loop-round.invariant.between);
+      goes = goes-on g.W.World g.S.Sitting g.B.Watched.exact c.args.route.now first mid here c.loop-round.invariant.goes round.so.goes;
+      met = round-meets c.args.route.now.pool first.conn mid.conn here.conn first.outside mid.outside here.outside
+          c.loop-round.invariant.met round.so.met;
+      paid = c.pays_on.ensures first.conn mid.conn here.conn first.outside mid.outside here.outside
+          c.loop-round.invariant.paid round.so.paid;
+      marks = marks-on c.args.route.now.pool (c.go_on.ensures.most ∙ c.loop-round.invariant.most) mid.conn.marks
+          here.conn.marks round.so.marks c.loop-round.invariant.marks;
+      between = round.leaves c.loop-round.invariant.between;
       most = c.go_on.ensures.most ∙ c.loop-round.invariant.most;
     }
 
 pub returns-in-Some-clause-causes : goal.returns-in-Some-clause-causes
 returns-in-Some-clause-causes g c =
-    let before : Outside g.row.S.Denot = outside_of g.D.Door g.B.Watched c.args.door.now c.args.backend.now in
-    let amid : Outside g.row.S.Denot = outside_of g.D.Door g.B.Watched c.loop-round.door c.loop-round.backend in
-    let behind : Outside g.row.S.Denot = outside_of g.D.Door g.B.Watched c.go_on.new.door c.go_on.new.backend in
-    all-caused c.marks_are_met.ensures c.starts_costless.ensures c.args.route.now c.args.conn.now c.go_on.new.conn before behind c.requires.new
-    (round-meets c.args.route.now.pool c.args.conn.now c.loop-round.conn c.go_on.new.conn before amid behind
-    c.loop-round.invariant.met c.in-Some.ensures.round.met)
+    let first : ConnAt g.row.S.Denot = conn_at g.D.Door g.B.Watched c.args.conn.now c.args.door.now c.args.backend.now in
+    let mid : ConnAt g.row.S.Denot = conn_at g.D.Door g.B.Watched c.loop-round.conn c.loop-round.door c.loop-round.backend in
+    let round = c.in-Some.ensures.round in
+    let last = round.last in
+    subst (λ (p : ConnAt g.row.S.Denot). HaveCauses c.args.route.now.pool p.conn.marks (tally_in first.outside) (tally_in p.outside))
+    (sym round.left)
+    (all-caused c.marks_are_met.ensures c.starts_costless.ensures c.args.route.now first.conn last.conn first.outside last.outside c.requires.new
+    (round-meets c.args.route.now.pool first.conn mid.conn last.conn first.outside mid.outside last.outside
+    c.loop-round.invariant.met round.so.met))
 
 pub returns-in-Some-clause-paid : goal.returns-in-Some-clause-paid
 returns-in-Some-clause-paid g c =
-    let before : Outside g.row.S.Denot = outside_of g.D.Door g.B.Watched c.args.door.now c.args.backend.now in
-    let amid : Outside g.row.S.Denot = outside_of g.D.Door g.B.Watched c.loop-round.door c.loop-round.backend in
-    let behind : Outside g.row.S.Denot = outside_of g.D.Door g.B.Watched c.go_on.new.door c.go_on.new.backend in
-    all-paid c.args.conn.now c.go_on.new.conn before behind c.in-Some.end c.requires.new
-    (c.in-Some.ensures.round.leaves c.loop-round.invariant.between)
-    (c.pays_on.ensures c.args.conn.now c.loop-round.conn c.go_on.new.conn before amid behind
-    c.loop-round.invariant.paid c.in-Some.ensures.round.paid)
+    let first : ConnAt g.row.S.Denot = conn_at g.D.Door g.B.Watched c.args.conn.now c.args.door.now c.args.backend.now in
+    let mid : ConnAt g.row.S.Denot = conn_at g.D.Door g.B.Watched c.loop-round.conn c.loop-round.door c.loop-round.backend in
+    let round = c.in-Some.ensures.round in
+    let last = round.last in
+    subst (λ (p : ConnAt g.row.S.Denot). ArePaid (undialled c.in-Some.end) (tally_in first.outside) (tally_in p.outside)) (sym round.left)
+    (all-paid first.conn last.conn first.outside last.outside c.in-Some.end c.requires.new
+    (round.leaves c.loop-round.invariant.between)
+    (c.pays_on.ensures first.conn mid.conn last.conn first.outside mid.outside last.outside c.loop-round.invariant.paid round.so.paid))
+
+pub returns-in-Some-clause-marks : goal.returns-in-Some-clause-marks
+returns-in-Some-clause-marks g c =
+    let mid : ConnAt g.row.S.Denot = conn_at g.D.Door g.B.Watched c.loop-round.conn c.loop-round.door c.loop-round.backend in
+    let round = c.in-Some.ensures.round in
+    let most = ap (λ (p : ConnAt g.row.S.Denot). p.outside.door.counts.most) (sym round.left) ∙ c.in-Some.ensures.most ∙ c.loop-round.invariant.most in
+    subst (λ (p : ConnAt g.row.S.Denot). AreMarksOf c.args.route.now.pool (g.D.Door.counts c.args.door.now).most p.conn.marks) (sym round.left)
+    (marks-on c.args.route.now.pool most mid.conn.marks round.last.conn.marks round.so.marks c.loop-round.invariant.marks)
+
+pub returns-in-Some-clause-comes : goal.returns-in-Some-clause-comes
+returns-in-Some-clause-comes g c =
+    let first : ConnAt g.row.S.Denot = conn_at g.D.Door g.B.Watched c.args.conn.now c.args.door.now c.args.backend.now in
+    let mid : ConnAt g.row.S.Denot = conn_at g.D.Door g.B.Watched c.loop-round.conn c.loop-round.door c.loop-round.backend in
+    let round = c.in-Some.ensures.round in record {
+      last = round.last;
+      gone = goes-on g.W.World g.S.Sitting g.B.Watched.exact c.args.route.now first mid round.last c.loop-round.invariant.goes round.so.goes;
+      left = round.left;
+    }
 
 pub returns-clause-causes : goal.returns-clause-causes
 returns-clause-causes g c =
-    let before : Outside g.row.S.Denot = outside_of g.D.Door g.B.Watched c.args.door.now c.args.backend.now in
-    let amid : Outside g.row.S.Denot = outside_of g.D.Door g.B.Watched c.loop-round.door c.loop-round.backend in
-    all-caused c.marks_are_met.ensures c.starts_costless.ensures c.args.route.now c.args.conn.now c.loop-round.conn before amid c.requires.new
+    let first : ConnAt g.row.S.Denot = conn_at g.D.Door g.B.Watched c.args.conn.now c.args.door.now c.args.backend.now in
+    let mid : ConnAt g.row.S.Denot = conn_at g.D.Door g.B.Watched c.loop-round.conn c.loop-round.door c.loop-round.backend in
+    all-caused c.marks_are_met.ensures c.starts_costless.ensures c.args.route.now first.conn mid.conn first.outside mid.outside c.requires.new
     c.loop-round.invariant.met
 
 pub returns-clause-paid : goal.returns-clause-paid
 returns-clause-paid g c =
-    let before : Outside g.row.S.Denot = outside_of g.D.Door g.B.Watched c.args.door.now c.args.backend.now in
-    let amid : Outside g.row.S.Denot = outside_of g.D.Door g.B.Watched c.loop-round.door c.loop-round.backend in
-    all-paid c.args.conn.now c.loop-round.conn before amid Memory c.requires.new c.loop-round.invariant.between.few c.loop-round.invariant.paid
+    let first : ConnAt g.row.S.Denot = conn_at g.D.Door g.B.Watched c.args.conn.now c.args.door.now c.args.backend.now in
+    let mid : ConnAt g.row.S.Denot = conn_at g.D.Door g.B.Watched c.loop-round.conn c.loop-round.door c.loop-round.backend in
+    all-paid first.conn mid.conn first.outside mid.outside Memory c.requires.new c.loop-round.invariant.between.few c.loop-round.invariant.paid
 
-pub returns-in-Some-clause-marks : goal.returns-in-Some-clause-marks
-returns-in-Some-clause-marks g c =
-    marks-on c.args.route.now.pool (c.in-Some.ensures.most ∙ c.loop-round.invariant.most) c.loop-round.conn.marks
-    c.go_on.new.conn.marks c.in-Some.ensures.round.marks c.loop-round.invariant.marks
-
-pub returns-in-Some-clause-goes : goal.returns-in-Some-clause-goes
-returns-in-Some-clause-goes g c =
-    let before : Outside g.row.S.Denot = outside_of g.D.Door g.B.Watched c.args.door.now c.args.backend.now in
-    let amid : Outside g.row.S.Denot = outside_of g.D.Door g.B.Watched c.loop-round.door c.loop-round.backend in
-    let behind : Outside g.row.S.Denot = outside_of g.D.Door g.B.Watched c.go_on.new.door c.go_on.new.backend in
-    goes-on g.W.World g.S.Sitting g.B.Watched.exact c.args.route.now (record { conn = c.args.conn.now; outside = before })
-    (record { conn = c.loop-round.conn; outside = amid }) (record { conn = c.go_on.new.conn; outside = behind })
-    c.loop-round.invariant.goes c.in-Some.ensures.round.goes
+pub returns-clause-comes : goal.returns-clause-comes
+returns-clause-comes g c = record {
+  last = conn_at g.D.Door g.B.Watched c.loop-round.conn c.loop-round.door c.loop-round.backend;
+  gone = c.loop-round.invariant.goes;
+  left = refl;
+}

@@ -3,9 +3,10 @@ use Rattle.conn_costs.specs.steps.Conns.{PaysFor}
 use Rattle.conn_costs.specs.steps.Laws.{MeetsEnough}
 use Rattle.serve.specs.Serving.{streams}
 use Rattle.serve.specs.Costs.{AreMarksOf}
-use Rattle.serve.specs.Runs.{GoesFrom, outside_of}
+use Rattle.serve.specs.Runs.{GoesFrom}
 use Rattle.serve.specs.steps.Rounds.{IsBetween}
 use Rattle.serve.specs.steps.Serving.{IsWrittenOut}
+use Rattle.front_conn.specs.steps.Drives.{conn_at, outside_of}
 use Rattle.front_conn.specs.steps.States.{IsConnOf}
 use Rattle.serve.proofs.serving.serve_to_end.Given as goal
 
@@ -14,8 +15,7 @@ invariant-loop-round g l = record {
   at : IsWrittenOut g.W.World l.route (streams g.I.Source g.K.Sink l.fn.source l.fn.sink) (streams g.I.Source g.K.Sink l.source l.sink) l.conn;
   of : IsConnOf g.W.World g.S.Sitting l.route (g.D.Door.counts l.door).most l.conn;
   goes : GoesFrom g.W.World g.S.Sitting g.B.Watched.exact l.route
-      (record { conn = l.fn.conn; outside = outside_of g.D.Door g.B.Watched l.fn.door l.fn.backend })
-      (record { conn = l.conn; outside = outside_of g.D.Door g.B.Watched l.door l.backend });
+      (conn_at g.D.Door g.B.Watched l.fn.conn l.fn.door l.fn.backend) (conn_at g.D.Door g.B.Watched l.conn l.door l.backend);
   met : MeetsEnough l.route.pool l.fn.conn l.conn
       (outside_of g.D.Door g.B.Watched l.fn.door l.fn.backend) (outside_of g.D.Door g.B.Watched l.door l.backend);
   paid : PaysFor l.fn.conn l.conn

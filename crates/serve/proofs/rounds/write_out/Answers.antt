@@ -5,7 +5,7 @@ use Rattle.serve.specs.Serving.{sink_view}
 use Rattle.serve.specs.steps.Serving.{IsWrittenOut}
 use Rattle.front_conn.specs.steps.States.{ConnectionState, IsConnOf}
 use Rattle.serve.proofs.ServingLemmas.{serving-unwritten, serving-written}
-use Rattle.serve.proofs.serving.write_out.Goals as goal
+use Rattle.serve.proofs.rounds.write_out.Goals as goal
 
 nil-out : (octets : List ℕ) → nat_eq (length octets) 0 ≡ true → octets ≡ []
 nil-out octets e = nil_from_length octets (eqb-true (length octets) 0 e)

@@ -5,7 +5,7 @@ use Rattle.serve.specs.steps.Serving.{IsWrittenOut}
 use Rattle.front_conn.specs.steps.States.{ConnectionState}
 use Rattle.serve.proofs.RoundLemmas.{fed-writes}
 use Rattle.serve.proofs.ServingLemmas.{serving-fed, serving-unfed, serving-unread}
-use Rattle.serve.proofs.serving.read_on.Goals as goal
+use Rattle.serve.proofs.rounds.read_on.Goals as goal
 
 pub returns-in-Failed-clause-goes : goal.returns-in-Failed-clause-goes
 returns-in-Failed-clause-goes g c = λ route start output at.

@@ -3,7 +3,7 @@ use Rattle.z_types.specs.declared.marks.End.{End}
 use Rattle.serve.specs.Serving.{source_view}
 use Rattle.serve.specs.steps.Serving.{IsIdleAt}
 use Rattle.serve.proofs.ServingLemmas.{serving-ended}
-use Rattle.serve.proofs.serving.end_or_read.Goals as goal
+use Rattle.serve.proofs.rounds.end_or_read.Goals as goal
 
 pub returns-in-Some-clause-goes : goal.returns-in-Some-clause-goes
 returns-in-Some-clause-goes g c = λ route start output at.
