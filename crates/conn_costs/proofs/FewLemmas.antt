@@ -24,6 +24,7 @@ use Rattle.leg.specs.Phases.{is_done}
 use Rattle.leg.specs.declared.answers.Turned.{Turned}
 use Rattle.leg.specs.declared.answers.Turned.TheVariants as turned
 use Rattle.package_rules.specs.Asked.{Asked, all_records_asked, element_shown, first_asked, hits_asked, places_shown, ranks_of, records_asked, span_of, spans_of, then_asked}
+use Rattle.package_rules.specs.declared.answered.Answered.{Answered}
 use Rattle.package_rules.specs.Planned.{by_hits, then_asked_by, unless_marked}
 use Rattle.package_rules.specs.Said.{all_hits, cause_of}
 use Rattle.package.specs.steps.Packages.{IsPackageOf, IsPlanned, PackageView, answers_of, asked_of}
@@ -57,7 +58,7 @@ few-records route legs query syntax element places few =
     let spans = few-spans (length legs) places in
     omega (arith, all, spans, few)
 
-few-first : (route : Route) (job : Work) → CanBegin job → length (first_asked route job) ≤ most_legs
+pub few-first : (route : Route) (job : Work) → CanBegin job → length (first_asked route job) ≤ most_legs
 few-first route (work.Search login legs query small large medium small_element medium_element syntax room) can =
     let all = length-map legs (hits_asked route query) in
     let few = can.0 in
@@ -83,6 +84,9 @@ few-unless mark.Link asked few = omega arith
 few-unless (mark.Silent looks) asked few = omega arith
 few-unless mark.Gone asked few = omega arith
 few-unless (mark.Full sessions) asked few = omega arith
+
+pub few-then-by : (route : Route) (job : Work) (first : List Answered) → CanBegin job → length (then_asked_by route job first) ≤ most_legs
+few-then-by route job first can = few-unless (cause_of route first).mark _ (few-by route job (all_hits route first) can)
 
 -- ---- legs
 
@@ -127,8 +131,7 @@ module _ {S : Type 0} where
       let parts = unused-parts view.first view.later in
       let none = over-unused view.first later.0 in
       let few = asked-few view.later (then_asked_by route view.work (answers_of view.first)) later.1
-      (few-unless (cause_of route (answers_of view.first)).mark _
-      (few-by route view.work (all_hits route (answers_of view.first)) can)) in
+      (few-then-by route view.work (answers_of view.first) can) in
       omega (arith, parts, none, few)
 
 -- ---- a step

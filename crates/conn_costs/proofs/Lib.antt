@@ -9,5 +9,5 @@ mod KeptLemmas
 mod PhaseLemmas
 mod LedgerLemmas
 mod PaidLemmas
-mod FewLemmas
+pub mod FewLemmas
 mod CostLemmas

@@ -12,6 +12,10 @@
 -- repeats for each Gone; and where one is Full, as many links were made, or failed, as there may be sessions. The sums
 -- that are printed, of links made, Searches sent, sets that were gone and calls that failed, are what the wire counted.
 -- (A target that tells what it answers makes no other fault.)
+-- Where the script cuts and slows no link and deletes no set, over a wire to which nothing was made to happen before and
+-- whose counts are exact and stood at 0, at targets that tell what they answer, no call failed and no set was gone, and
+-- every mark is Plain or Full; and Plain, where fewer links were made than there may be sessions of a class, or where
+-- there may be 16 of them for each client that the script names.
 -- Where every mark is Plain, octets have one answer (`one_answer` of `sru_rules`), and how a connection ends follows
 -- from its octets and the route alone (`one_end`). So two replays that feed a client the same octets, with all its
 -- marks Plain, write it the same and end its connection the same.

@@ -11,6 +11,7 @@ use Rattle.replay.specs.declared.reports.ClientReport.{ClientReport}
 use Rattle.replay.specs.declared.reports.Report.{Report}
 use Rattle.replay.specs.Page.{requests}
 use Rattle.replay.specs.Report.{IsReportOf}
+use Rattle.replay.specs.Undisturbed.{IsUntroubledIf}
 use Rattle.replay.specs.Wires.{IsCountedBy}
 use Rattle.gateway_config.specs.Lines.{Received, ReceivedNothing, FailedWithin, line_of}
 use Rattle.gateway_config.specs.Outside.{SinkWrites}
@@ -57,6 +58,7 @@ pub record HasLoaded {W : Type 0} (w : world.Ghosts W) (calls : WireCalls) (clie
   pub report : Report
   pub right : IsReportOf w smallest_route (load_events clients) report
   pub counted : IsCountedBy w calls.exact smallest_route calls.before calls.behind report
+  pub untroubled : IsUntroubledIf w calls.exact smallest_route (load_events clients) calls.before calls.happened report
   pub printed : Received writes (load_line clients report)
 
 -- the same, of which a front of the line was printed, and nothing else, since a write failed
@@ -64,6 +66,7 @@ pub record HasLoadedPart {W : Type 0} (w : world.Ghosts W) (calls : WireCalls) (
   pub report : Report
   pub right : IsReportOf w smallest_route (load_events clients) report
   pub counted : IsCountedBy w calls.exact smallest_route calls.before calls.behind report
+  pub untroubled : IsUntroubledIf w calls.exact smallest_route (load_events clients) calls.before calls.happened report
   pub printed : FailedWithin writes (load_line clients report)
 
 -- the load of so many clients was played: its line is printed, or a front of it where the sink failed,

@@ -9,6 +9,7 @@ use Rattle.script.specs.Script.{script_of}
 use Rattle.replay.specs.declared.reports.Report.{Report}
 use Rattle.replay.specs.Report.{IsReportOf}
 use Rattle.replay.specs.Page.{page}
+use Rattle.replay.specs.Undisturbed.{IsUntroubledIf}
 use Rattle.replay.specs.Wires.{IsCountedBy}
 use Rattle.gateway_config.specs.ConfigRead.{IsUnread}
 use Rattle.gateway_config.specs.Configs.{IsTaken, IsRefusedConfig}
@@ -28,6 +29,7 @@ pub record HasPrinted {W : Type 0} (w : world.Ghosts W) (calls : WireCalls) (rou
   pub report : Report
   pub right : IsReportOf w route events report
   pub counted : IsCountedBy w calls.exact route calls.before calls.behind report
+  pub untroubled : IsUntroubledIf w calls.exact route events calls.before calls.happened report
   pub printed : Received writes (page report)
 
 -- a front of the page of one report of the events was printed, and nothing else, since a write failed
@@ -36,6 +38,7 @@ pub record HasPrintedPart {W : Type 0} (w : world.Ghosts W) (calls : WireCalls) 
   pub report : Report
   pub right : IsReportOf w route events report
   pub counted : IsCountedBy w calls.exact route calls.before calls.behind report
+  pub untroubled : IsUntroubledIf w calls.exact route events calls.before calls.happened report
   pub printed : FailedWithin writes (page report)
 
 -- the events were played: their page is printed, or a front of it where the sink failed, or nothing

@@ -7,6 +7,7 @@ ghost use Rattle.route_config.specs.Smallest.{smallest_route};
 ghost use Rattle.sample_maker.specs.Load.{load_events};
 ghost use Rattle.replay.specs.Page.{requests};
 ghost use Rattle.replay.specs.Report.{IsReportOf};
+ghost use Rattle.replay.specs.Undisturbed.{IsUntroubledIf};
 ghost use Rattle.replay.specs.Wires.{IsCountedBy};
 ghost use Rattle.gateway_top.specs.Load.{LoadDone, is_plain, links_made, load_line, octets_written, plain_requests, searches_sent};
 ghost use Rattle.gateway_config.specs.Outside.{sink_writes};
@@ -54,6 +55,8 @@ fn play_load<W: World, N: Wire<W> + Events>(
     ensures report { IfOk result (IsReportOf W.World smallest_route (load_events clients)) }
     ensures counted { IfOk result (IsCountedBy W.World N.exact smallest_route
         (N.counts wire.old) (N.counts wire.new)) }
+    ensures untroubled { IfOk result (IsUntroubledIf W.World N.exact smallest_route
+        (load_events clients) (N.counts wire.old) (N.happened wire.old)) }
 {
     let route = Route::smallest(alloc)?;
     let events = make(alloc, clients)?;

@@ -44,7 +44,7 @@ named_upto-without last events e =
 abbrev pub closings_upto : ℕ → List Event → List Event
 closings_upto last events = flat_map closing (named_upto last events)
 
-closings-none : (events : List Event) → closings_upto 0 events ≡ []
+pub closings-none : (events : List Event) → closings_upto 0 events ≡ []
 unfolding named_upto
 closings-none events = refl
 
@@ -52,14 +52,14 @@ pub closings-all : (events : List Event) → closings_upto most_clients events �
 unfolding named
 closings-all events = refl
 
-closings-with : (last : ℕ) (events : List Event) → is_named events (suc last) ≡ true
+pub closings-with : (last : ℕ) (events : List Event) → is_named events (suc last) ≡ true
     → closings_upto (suc last) events ≡ (closings_upto last events ++ End (suc last) ∷ []) ++ Run (suc last) ∷ []
 closings-with last events e =
     ap (λ (cs : List ℕ). flat_map closing cs) (named_upto-with last events e)
     ∙ flat_map-append closing (named_upto last events) (suc last ∷ [])
     ∙ sym (append_assoc (closings_upto last events) (End (suc last) ∷ []) (Run (suc last) ∷ []))
 
-closings-without : (last : ℕ) (events : List Event) → is_named events (suc last) ≡ false → closings_upto (suc last) events ≡ closings_upto last events
+pub closings-without : (last : ℕ) (events : List Event) → is_named events (suc last) ≡ false → closings_upto (suc last) events ≡ closings_upto last events
 closings-without last events e = ap (λ (cs : List ℕ). flat_map closing cs) (named_upto-without last events e)
 
 -- ---- so far

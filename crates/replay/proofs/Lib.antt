@@ -19,3 +19,7 @@ pub mod MarkLemmas
 pub mod FullLemmas
 pub mod TwiceLemmas
 pub mod UncausedLemmas
+pub mod RoomLemmas
+pub mod PlacesLemmas
+pub mod TraceRoom
+pub mod UndisturbedLemmas

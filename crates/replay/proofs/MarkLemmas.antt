@@ -287,6 +287,6 @@ module _ {W S : Type 0} (w : world.Ghosts W) (t : sitting.Ghosts S W) (exact : B
       let kept = whole-keeps w t exact route most (λ (c : ConnectionState S). Fit c.marks) (λ o. Unit {0}) (λ one other. Unit {0}) (λ e. Unit {0})
       (λ client. (tt, tt)) (λ here j. tt) (λ one other f. tt) (λ one mid other f g. tt)
       tt (λ state piece f. piece-fits state.end state piece f) (λ state f. f) (λ state f. f)
-      (λ now old new answer one other is f j g. (from-fits now old.end old.in_work old new answer one other is f g, tt))
+      (λ now old new answer one other had is f j g. (from-fits now old.end old.in_work old new answer one other is f g, tt))
       (λ event one other may j d g. tt) events before behind report (any-may events) m tt h in
       reported-fit (length h.finish) h.finish report.clients kept.clients h.reported.clients_of

@@ -1,5 +1,5 @@
 -- what a whole replay leaves: by which reference a wire is lent, and where all targets tell what they answer, the breaches
-use Rattle.std.proofs.Common.{◌≡◌, ◌∙◌, ◌<◌, ◌≤◌, ℕ, Bool, true, List, [], Option, None, Some, Result, Ok, Err, slice_get, refl, sym, ap, subst, arith}
+use Rattle.std.proofs.Common.{◌≡◌, ◌≢◌, ◌∙◌, ◌<◌, ◌≤◌, ℕ, Bool, true, List, [], Option, None, Some, Result, Ok, Err, slice_get, refl, sym, ap, subst, arith}
 use Rattle.std.specs.List.{AllByRecursion}
 use Rattle.std.specs.Option.{option_map_or}
 use Rattle.std.specs.Prelude.{Contains, IfOk, OnOk}
@@ -24,9 +24,10 @@ use Rattle.leg.specs.LegView.{LegView}
 use Rattle.leg.specs.Terms.{class_of, terms_of}
 use Rattle.leg.specs.Turns.{DoorView}
 use Rattle.leg.specs.declared.answers.Turned.{Turned}
+use Rattle.leg.specs.declared.answers.Turned.TheVariants as turned
 use Rattle.package_rules.specs.Asked.{Asked}
 use Rattle.package.specs.steps.Packages.{PackageView, begun}
-use Rattle.package.specs.steps.Turns.{HadTurn}
+use Rattle.package.specs.steps.Turns.{HadTurn, IsPackageTurn}
 use Rattle.front_conn.specs.steps.Answering.{Outside}
 use Rattle.front_conn.specs.steps.Feeding.{fed_piece}
 use Rattle.front_conn.specs.steps.States.{ConnectionState}
@@ -40,7 +41,7 @@ use Rattle.replay.proofs.FullLemmas.{IsFullKept, IsToldFull, turn_full}
 use Rattle.replay.proofs.MarkLemmas.{run-marks}
 use Rattle.replay.proofs.RunKeeps.{any-may, most_of, run-most, whole-keeps}
 use Rattle.replay.proofs.SitsLemmas.{SitsAt}
-use Rattle.replay.proofs.TurnKeeps.{LegsKept, step-keeps}
+use Rattle.replay.proofs.TurnKeeps.{AreKept, LegsKept, package-keeps, step-keeps}
 use Rattle.replay.proofs.WireLemmas.{causes_over, full_over, over_breaches, sums_over}
 use Rattle.replay.proofs.TurnMoves.{turn-breaches, turn-lent, turn-sits}
 
@@ -98,7 +99,7 @@ piece-work None state piece = refl
 piece-work (Some end) state piece = refl
 
 module _ {W S : Type 0} (w : world.Ghosts W) (t : sitting.Ghosts S W) (exact : Bool) (route : Route) where
-  -- what legs keep of a connection, and what each turn leaves of a backend, a whole replay does
+  -- what the legs of a request keep over a turn of them all that had memory, and what it leaves of what is outside, a whole replay does
   module _ (P : LegView S → Type 0) (J : DoorView S → BackendView → Type 0) (R : (door after : DoorView S) → (backend moved : BackendView) → Type 0)
       (A : Event → Type 0) (closes : (client : ℕ) → A (End client) × A (Run client))
       (same : (door : DoorView S) (backend : BackendView) → J door backend → R door door backend backend)
@@ -106,13 +107,15 @@ module _ {W S : Type 0} (w : world.Ghosts W) (t : sitting.Ghosts S W) (exact : B
       (next : (door mid after : DoorView S) (backend amid moved : BackendView) → R door mid backend amid → R mid after amid moved
       → R door after backend moved)
       (fresh : (asked : Asked) → P (begun asked))
-      (turn : (now : ℕ) (old new : LegView S) (answer : Turned) (door after : DoorView S) (backend moved : BackendView) → P old → J door backend
-      → HadTurn w t exact route now old new answer door after backend moved → P new × R door after backend moved)
+      (turns : (now : ℕ) (old new : PackageView S) (answer : Turned) (door after : DoorView S) (backend moved : BackendView)
+      → answer ≢ turned.Memory → AreKept P old → J door backend
+      → IsPackageTurn w t exact route now old new answer door after backend moved → AreKept P new × R door after backend moved)
       (befallen : (event : Event) (door : DoorView S) (old new : BackendView) → A event → J door old → IsBefallen exact route event old new
       → R door door old new) where
-    pub legs-whole : (events : List Event) (before behind : Outside S) (report : Report) → AllByRecursion A events → J before.door before.backend
-        → IsRunOf w t exact route events before behind report → R before.door behind.door before.backend behind.backend
-    legs-whole events before behind report may j h =
+    pub packages-whole : (events : List Event) (before behind : Outside S) (report : Report) → AllByRecursion A events
+        → J before.door before.backend → IsRunOf w t exact route events before behind report
+        → R before.door behind.door before.backend behind.backend
+    packages-whole events before behind report may j h =
         (whole-keeps w t exact route (most_of before) (λ (c : ConnectionState S). LegsKept P c.in_work) (λ (here : Outside S). J here.door here.backend)
         (λ (one other : Outside S). R one.door other.door one.backend other.backend) A closes
         (λ here k. same here.door here.backend k)
@@ -120,13 +123,12 @@ module _ {W S : Type 0} (w : world.Ghosts W) (t : sitting.Ghosts S W) (exact : B
         (λ one mid other f g. next one.door mid.door other.door one.backend mid.backend other.backend f g) tt
         (λ state piece k. subst (λ (v : Option (PackageView S)). LegsKept P v) (sym (piece-work state.end state piece)) k)
         (λ state k. k) (λ state k. k)
-        (λ now old new answer one other m k i g.
-        step-keeps w t exact route P J R same then next fresh turn now old new answer one other k i g)
+        (λ now old new answer one other had m k i g. step-keeps w t exact route P J R same fresh turns now old new answer one other had k i g)
         (λ event one other is i d g. subst (λ (door : DoorView S). R one.door door one.backend other.backend) (sym d)
         (befallen event one.door one.backend other.backend is i g))
         events before behind report may refl j h).moves
 
-  -- where nothing has to hold of what is outside
+  -- what each turn of a leg keeps, and leaves of what is outside, a whole replay does
   module _ (P : LegView S → Type 0) (R : (door after : DoorView S) → (backend moved : BackendView) → Type 0)
       (same : (door : DoorView S) (backend : BackendView) → R door door backend backend)
       (next : (door mid after : DoorView S) (backend amid moved : BackendView) → R door mid backend amid → R mid after amid moved
@@ -138,9 +140,12 @@ module _ {W S : Type 0} (w : world.Ghosts W) (t : sitting.Ghosts S W) (exact : B
     legs-move : (events : List Event) (before behind : Outside S) (report : Report) → IsRunOf w t exact route events before behind report
         → R before.door behind.door before.backend behind.backend
     legs-move events before behind report h =
-        legs-whole P (λ door backend. Unit {0}) R (λ event. Unit {0}) (λ client. (tt, tt)) (λ door backend j. same door backend)
+        packages-whole P (λ door backend. Unit {0}) R (λ event. Unit {0}) (λ client. (tt, tt)) (λ door backend j. same door backend)
         (λ door after backend moved f. tt) next fresh
+        (λ now old new answer door after backend moved had are i g.
+        package-keeps w t exact route P (λ door backend. Unit {0}) R (λ door backend j. same door backend) (λ door after backend moved f. tt) next fresh
         (λ now old new answer door after backend moved p j g. turn now old new answer door after backend moved p g)
+        now old new answer door after backend moved are i g)
         (λ event door old new may j g. befallen event door old new g) events before behind report (any-may events) tt h
 
   -- the reference by which a wire is lent
@@ -191,8 +196,14 @@ pub lent_ok : {E : Type 0} (W S : Type 0) (w : world.Ghosts W) (t : sitting.Ghos
 lent_ok W S w t exact route events before behind (Ok report) run = run-lent w t exact route events before behind report run
 lent_ok W S w t exact route events before behind (Err err) run = tt
 
+-- a pool that is told, and has no session
+abbrev pub HasNoSession : {S : Type 0} → Option (Pool S) → Type 0
+HasNoSession None = ⊥
+HasNoSession (Some pool) = pool.sessions ≡ []
+
 -- a new pool: it opens as many sessions of a class as the route says, which is a number of 32 bits; it has none, and has counted nothing
 pub record IsNewPool {S : Type 0} (route : Route) (before : Outside S) : Type 0 where
+  pub none : HasNoSession before.door.pool
   pub most : most_of before ≡ route.pool.max_sessions
   pub few : route.pool.max_sessions < last64
   pub told : IsToldFull before.door.pool before.door.counts
@@ -203,6 +214,7 @@ pub record IsNewPool {S : Type 0} (route : Route) (before : Outside S) : Type 0 
 pub new_pool_is : {S : Type 0} (route : Route) (pool : PoolView S) (backend : BackendView) → pool ≡ new_pool route.pool → ArePoolNumbers route.pool
     → IsNewPool route (record { door = record { pool = Some pool.pool; counts = counts_of pool }; backend = backend })
 new_pool_is {S = S} route pool backend e numbers = record {
+  none = ap (λ (p : PoolView S). p.pool.sessions) e;
   most = ap (λ (p : PoolView S). p.pool.max_sessions) e;
   few = (let most = numbers.max_sessions in omega (arith, most));
   told = subst (λ (p : PoolView S). IsFullKept p.pool (counts_of p)) (sym e)

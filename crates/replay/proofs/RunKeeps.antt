@@ -1,5 +1,5 @@
 -- what each step of a connection keeps, where this holds of what is outside, a whole replay keeps
-use Rattle.std.proofs.Common.{◌≡◌, ◌∙◌, ◌+◌, ◌-◌, ℕ, Bool, true, false, inl, inr, List, [], ◌∷◌, Option, None, Some, IfSome, length, slice_set, sym, ap, subst, arith}
+use Rattle.std.proofs.Common.{◌≡◌, ◌≢◌, ◌∙◌, ◌+◌, ◌-◌, ℕ, Bool, true, false, inl, inr, List, [], ◌∷◌, Option, None, Some, IfSome, length, slice_set, sym, ap, subst, arith}
 use Rattle.std.specs.List.{AllByRecursion, flat_map}
 use Rattle.std.proofs.Math.ListN.{length-set}
 use Rattle.std.proofs.lemmas.Bool.{cases_eq, cases_lt}
@@ -8,6 +8,7 @@ use Rattle.z_types.specs.declared.world.World as world
 use Rattle.route_config.specs.declared.route.Route.{Route}
 use Rattle.front_session.specs.Sessions.{new_session}
 use Rattle.front_conn.specs.declared.stepped.Stepped.{Stepped}
+use Rattle.front_conn.specs.declared.stepped.Stepped.TheVariants.{Memory}
 use Rattle.front_conn.specs.steps.Answering.{Outside}
 use Rattle.front_conn.specs.steps.Feeding.{with_end, with_piece, without_out}
 use Rattle.front_conn.specs.steps.States.{ConnectionState, nothing_yet}
@@ -49,8 +50,8 @@ module _ {W S : Type 0} (w : world.Ghosts W) (t : sitting.Ghosts S W) (exact : B
     (fed : (state : ConnectionState S) (piece : List ℕ) → K state → K (with_piece state piece))
     (ended : (state : ConnectionState S) → K state → K (with_end state))
     (written : (state : ConnectionState S) → K state → K (without_out state))
-    (step : (now : ℕ) (old new : ConnectionState S) (answer : Stepped) (before behind : Outside S) → most_of behind ≡ most → K old → J before
-    → IsStepped w t exact route now old new answer before behind → K new × R before behind)
+    (step : (now : ℕ) (old new : ConnectionState S) (answer : Stepped) (before behind : Outside S) → answer ≢ Memory → most_of behind ≡ most
+    → K old → J before → IsStepped w t exact route now old new answer before behind → K new × R before behind)
     (befallen : (event : Event) (before behind : Outside S) → A event → J before → behind.door ≡ before.door
     → IsBefallen exact route event before.backend behind.backend → R before behind) where
   -- the connection is kept, and so is what is outside
@@ -64,7 +65,7 @@ module _ {W S : Type 0} (w : world.Ghosts W) (t : sitting.Ghosts S W) (exact : B
   client-keeps : (now : ℕ) (idle : Bool) (old new : ClientState S) (before behind : Outside S) → most_of before ≡ most → K old.conn → J before
       → IsClientStep w t exact route now idle old new before behind → Goes new.conn before behind
   client-keeps now idle old new before behind m k j h =
-      let one = step now old.conn h.stepped_to h.answer before behind (h.most ∙ m) k j h.steps in record {
+      let one = step now old.conn h.stepped_to h.answer before behind h.remembers (h.most ∙ m) k j h.steps in record {
         most_is = h.most ∙ m;
         kept = subst (λ (c : ConnectionState S). K c) (sym h.conn) (written h.stepped_to one.0);
         moves = one.1;
@@ -202,4 +203,4 @@ pub run-most : {W S : Type 0} (w : world.Ghosts W) (t : sitting.Ghosts S W) (exa
 run-most w t exact route most events before behind report m h =
     (whole-keeps w t exact route most (λ c. Unit {0}) (λ o. Unit {0}) (λ one other. Unit {0}) (λ e. Unit {0}) (λ client. (tt, tt)) (λ here j. tt)
     (λ one other f. tt) (λ one mid other f g. tt) tt (λ state piece k. tt) (λ state k. tt) (λ state k. tt)
-    (λ now old new answer one other is k j g. (tt, tt)) (λ event one other may j d g. tt) events before behind report (any-may events) m tt h).most_is
+    (λ now old new answer one other had is k j g. (tt, tt)) (λ event one other may j d g. tt) events before behind report (any-may events) m tt h).most_is

@@ -32,7 +32,7 @@ use Rattle.replay.proofs.CostLemmas.{names-costs_upto, names-costs_with}
 
 -- ---- a sum over a list, place by place
 
-sum-next : {X : Type 0} (f : X → ℕ) (xs : List X) (place : ℕ) (d : X) → place < length xs
+pub sum-next : {X : Type 0} (f : X → ℕ) (xs : List X) (place : ℕ) (d : X) → place < length xs
     → sum_by f (take (place + 1) xs) ≡ sum_by f (take place xs) + f (get_or xs place d)
 sum-next f xs place d inside =
     ap (sum_by f) (take_more xs place d inside) ∙ sum_by-append f (take place xs) (get_or xs place d ∷ [])

@@ -1,5 +1,5 @@
 -- what each turn of a leg keeps, where this holds of what is outside, each step of a connection keeps
-use Rattle.std.proofs.Common.{◌≡◌, ◌⊎◌, ℕ, Bool, true, false, inl, inr, List, [], ◌∷◌, map, Option, None, Some, Result, Ok, Err, refl, sym, ap, subst}
+use Rattle.std.proofs.Common.{◌≡◌, ◌≢◌, ◌⊎◌, ℕ, Bool, true, false, inl, inr, List, [], ◌∷◌, map, Option, None, Some, Result, Ok, Err, refl, sym, ap, subst}
 use Rattle.std.specs.List.{AllByRecursion}
 use Rattle.z_types.specs.declared.marks.End.{End}
 use Rattle.z_types.specs.declared.memory.Memory.{Memory as NoMemory}
@@ -18,7 +18,7 @@ use Rattle.package_rules.specs.Asked.{Asked, first_asked}
 use Rattle.package.specs.declared.turning.Round.{Round}
 use Rattle.package.specs.steps.Packages.{PackageView, new_package}
 use Rattle.package.specs.steps.Packages.{begun as leg_begun}
-use Rattle.package.specs.steps.Turns.{GoesOn, HadTurn, HasTurned, HaveTurned, Plans, TakesTurn, all_done, no_round}
+use Rattle.package.specs.steps.Turns.{GoesOn, HadTurn, HasTurned, HaveTurned, IsPackageTurn, Plans, TakesTurn, all_done, no_round}
 use Rattle.front_sru.specs.declared.begun.Begun as sru_begun
 use Rattle.front_sru.specs.declared.begun.Begun.TheVariants as get
 use Rattle.front_sru.specs.declared.state.SruStage.{SruStage}
@@ -39,70 +39,18 @@ module _ {S : Type 0} (P : LegView S → Type 0) where
   LegsKept None = Unit {0}
   LegsKept (Some view) = AreKept view
 
-module _ {W S : Type 0} (w : world.Ghosts W) (t : sitting.Ghosts S W) (exact : Bool) (route : Route)
-    (P : LegView S → Type 0) (J : DoorView S → BackendView → Type 0) (R : (door after : DoorView S) → (backend moved : BackendView) → Type 0)
-    (same : (door : DoorView S) (backend : BackendView) → J door backend → R door door backend backend)
-    (then : (door after : DoorView S) (backend moved : BackendView) → R door after backend moved → J after moved)
-    (next : (door mid after : DoorView S) (backend amid moved : BackendView) → R door mid backend amid → R mid after amid moved
-    → R door after backend moved)
-    (fresh : (asked : Asked) → P (leg_begun asked))
-    (turn : (now : ℕ) (old new : LegView S) (answer : Turned) (door after : DoorView S) (backend moved : BackendView) → P old → J door backend
-    → HadTurn w t exact route now old new answer door after backend moved → P new × R door after backend moved) where
+module _ {S : Type 0} (J : DoorView S → BackendView → Type 0) (R : (door after : DoorView S) → (backend moved : BackendView) → Type 0)
+    (same : (door : DoorView S) (backend : BackendView) → J door backend → R door door backend backend) where
   -- nothing was called
   unmoved : (door after : DoorView S) (backend moved : BackendView) → J door backend → after ≡ door → moved ≡ backend → R door after backend moved
   unmoved door after backend moved j e f =
       subst (λ (d : DoorView S). R door d backend moved) (sym e)
       (subst (λ (b : BackendView). R door door backend b) (sym f) (same door backend j))
 
-  -- ---- legs
-
-  first-keeps : (now : ℕ) (done : Bool) (old new : LegView S) (round last : Round) (door after : DoorView S) (backend moved : BackendView)
-      → P old → J door backend → HasTurned w t exact route now done old new round last door after backend moved → P new × R door after backend moved
-  first-keeps now true old new round last door after backend moved p j h =
-      (subst (λ (l : LegView S). P l) (sym h.0) p, unmoved door after backend moved j h.2 h.3)
-  first-keeps now false old new round last door after backend moved p j h = turn now old new h.0 door after backend moved p j h.2
-
-  legs-keep : (now : ℕ) (olds news : List (LegView S)) (round last : Round) (door after : DoorView S) (backend moved : BackendView)
-      → AllByRecursion P olds → J door backend → HaveTurned w t exact route now olds news round last door after backend moved
-      → AllByRecursion P news × R door after backend moved
-  legs-keep now [] [] round last door after backend moved are j h = (tt, unmoved door after backend moved j h.1 h.2)
-  legs-keep now [] (new ∷ news) round last door after backend moved are j h = absurd h
-  legs-keep now (old ∷ olds) [] round last door after backend moved are j h = absurd h
-  legs-keep now (old ∷ olds) (new ∷ news) round last door after backend moved are j h =
-      let one = first-keeps now (is_done old.phase) old new round h.next door h.between backend h.amid are.0 j h.turned in
-      let others = legs-keep now olds news h.next last h.between after h.amid moved are.1 (then door h.between backend h.amid one.1) h.others in
-      ((one.0, others.0), next door h.between after backend h.amid moved one.1 others.1)
-
+module _ {S : Type 0} (route : Route) (P : LegView S → Type 0) (fresh : (asked : Asked) → P (leg_begun asked)) where
   begun-keep : (asked : List Asked) → AllByRecursion P (map leg_begun asked)
   begun-keep [] = tt
   begun-keep (ask ∷ asked) = (fresh ask, begun-keep asked)
-
-  -- ---- the legs of a request
-
-  none-later : (legs : List (LegView S)) → legs ≡ [] → AllByRecursion P legs
-  none-later legs e = subst (λ (ls : List (LegView S)). AllByRecursion P ls) (sym e) tt
-
-  plans-later : (new : PackageView S) (answer : Turned) → Plans route new answer → AllByRecursion P new.later
-  plans-later new turned.Memory h = none-later new.later h.later
-  plans-later new turned.Went h = subst (λ (ls : List (LegView S)). AllByRecursion P ls) (sym h.0.later) (begun-keep _)
-  plans-later new turned.NotYet h = subst (λ (ls : List (LegView S)). AllByRecursion P ls) (sym h.0.later) (begun-keep _)
-  plans-later new turned.Done h = subst (λ (ls : List (LegView S)). AllByRecursion P ls) (sym h.0.later) (begun-keep _)
-
-  goes-later : (now : ℕ) (over : Bool) (new : PackageView S) (round : Round) (answer : Turned)
-      → GoesOn w t exact route now over new round answer → AllByRecursion P new.later
-  goes-later now false new round answer h = none-later new.later h.0.later
-  goes-later now true new round answer h = plans-later new answer h
-
-  takes-keep : (now : ℕ) (planned : Bool) (old new : PackageView S) (answer : Turned) (round : Round) (door after : DoorView S)
-      (backend moved : BackendView) → AreKept P old → J door backend
-      → TakesTurn w t exact route now planned old new answer round door after backend moved
-      → AreKept P new × R door after backend moved
-  takes-keep now false old new answer round door after backend moved are j h =
-      let first = legs-keep now old.first new.first no_round round door after backend moved are.0 j h.0 in
-      ((first.0, goes-later now (all_done new.first) new round answer h.1), first.1)
-  takes-keep now true old new answer round door after backend moved are j h =
-      let later = legs-keep now old.later new.later no_round round door after backend moved are.1 j h.2 in
-      ((subst (λ (ls : List (LegView S)). AllByRecursion P ls) (sym h.0) are.0, later.0), later.1)
 
   -- ---- a connection
 
@@ -164,25 +112,106 @@ module _ {W S : Type 0} (w : world.Ghosts W) (t : sitting.Ghosts S W) (exact : B
   works-keep turned.Done view old new said end kept h = over-keeps old.stage view old new h.done h.ends.went
   works-keep turned.Memory view old new said end kept h = on-keeps view old new h.1 kept
 
+module _ {W S : Type 0} (w : world.Ghosts W) (t : sitting.Ghosts S W) (exact : Bool) (route : Route)
+    (P : LegView S → Type 0) (J : DoorView S → BackendView → Type 0) (R : (door after : DoorView S) → (backend moved : BackendView) → Type 0)
+    (same : (door : DoorView S) (backend : BackendView) → J door backend → R door door backend backend)
+    (then : (door after : DoorView S) (backend moved : BackendView) → R door after backend moved → J after moved)
+    (next : (door mid after : DoorView S) (backend amid moved : BackendView) → R door mid backend amid → R mid after amid moved
+    → R door after backend moved)
+    (fresh : (asked : Asked) → P (leg_begun asked))
+    (turn : (now : ℕ) (old new : LegView S) (answer : Turned) (door after : DoorView S) (backend moved : BackendView) → P old → J door backend
+    → HadTurn w t exact route now old new answer door after backend moved → P new × R door after backend moved) where
+  -- ---- legs
+
+  first-keeps : (now : ℕ) (done : Bool) (old new : LegView S) (round last : Round) (door after : DoorView S) (backend moved : BackendView)
+      → P old → J door backend → HasTurned w t exact route now done old new round last door after backend moved → P new × R door after backend moved
+  first-keeps now true old new round last door after backend moved p j h =
+      (subst (λ (l : LegView S). P l) (sym h.0) p, unmoved J R same door after backend moved j h.2 h.3)
+  first-keeps now false old new round last door after backend moved p j h = turn now old new h.0 door after backend moved p j h.2
+
+  legs-keep : (now : ℕ) (olds news : List (LegView S)) (round last : Round) (door after : DoorView S) (backend moved : BackendView)
+      → AllByRecursion P olds → J door backend → HaveTurned w t exact route now olds news round last door after backend moved
+      → AllByRecursion P news × R door after backend moved
+  legs-keep now [] [] round last door after backend moved are j h = (tt, unmoved J R same door after backend moved j h.1 h.2)
+  legs-keep now [] (new ∷ news) round last door after backend moved are j h = absurd h
+  legs-keep now (old ∷ olds) [] round last door after backend moved are j h = absurd h
+  legs-keep now (old ∷ olds) (new ∷ news) round last door after backend moved are j h =
+      let one = first-keeps now (is_done old.phase) old new round h.next door h.between backend h.amid are.0 j h.turned in
+      let others = legs-keep now olds news h.next last h.between after h.amid moved are.1 (then door h.between backend h.amid one.1) h.others in
+      ((one.0, others.0), next door h.between after backend h.amid moved one.1 others.1)
+
+  -- ---- the legs of a request
+
+  none-later : (legs : List (LegView S)) → legs ≡ [] → AllByRecursion P legs
+  none-later legs e = subst (λ (ls : List (LegView S)). AllByRecursion P ls) (sym e) tt
+
+  plans-later : (new : PackageView S) (answer : Turned) → Plans route new answer → AllByRecursion P new.later
+  plans-later new turned.Memory h = none-later new.later h.later
+  plans-later new turned.Went h = subst (λ (ls : List (LegView S)). AllByRecursion P ls) (sym h.0.later) (begun-keep route P fresh _)
+  plans-later new turned.NotYet h = subst (λ (ls : List (LegView S)). AllByRecursion P ls) (sym h.0.later) (begun-keep route P fresh _)
+  plans-later new turned.Done h = subst (λ (ls : List (LegView S)). AllByRecursion P ls) (sym h.0.later) (begun-keep route P fresh _)
+
+  goes-later : (now : ℕ) (over : Bool) (new : PackageView S) (round : Round) (answer : Turned)
+      → GoesOn w t exact route now over new round answer → AllByRecursion P new.later
+  goes-later now false new round answer h = none-later new.later h.0.later
+  goes-later now true new round answer h = plans-later new answer h
+
+  takes-keep : (now : ℕ) (planned : Bool) (old new : PackageView S) (answer : Turned) (round : Round) (door after : DoorView S)
+      (backend moved : BackendView) → AreKept P old → J door backend
+      → TakesTurn w t exact route now planned old new answer round door after backend moved
+      → AreKept P new × R door after backend moved
+  takes-keep now false old new answer round door after backend moved are j h =
+      let first = legs-keep now old.first new.first no_round round door after backend moved are.0 j h.0 in
+      ((first.0, goes-later now (all_done new.first) new round answer h.1), first.1)
+  takes-keep now true old new answer round door after backend moved are j h =
+      let later = legs-keep now old.later new.later no_round round door after backend moved are.1 j h.2 in
+      ((subst (λ (ls : List (LegView S)). AllByRecursion P ls) (sym h.0) are.0, later.0), later.1)
+
+  pub package-keeps : (now : ℕ) (old new : PackageView S) (answer : Turned) (door after : DoorView S) (backend moved : BackendView)
+      → AreKept P old → J door backend → IsPackageTurn w t exact route now old new answer door after backend moved
+      → AreKept P new × R door after backend moved
+  package-keeps now old new answer door after backend moved are j h =
+      takes-keep now old.planned old new answer h.round door after backend moved are j h.turns
+
+-- ---- a step of a connection, which did not run out of memory
+
+-- where a step had memory, so had the turn of the package in work
+had-memory : {S : Type 0} (route : Route) (said : Turned) (view : PackageView S) (old new : AnsweringState S) (answer : Stepped) (end : Option End)
+    → WorksOn route said view old new answer end → answer ≢ Memory → said ≢ turned.Memory
+had-memory route turned.Went view old new answer end h had e = absurd cc
+had-memory route turned.NotYet view old new answer end h had e = absurd cc
+had-memory route turned.Done view old new answer end h had e = absurd cc
+had-memory route turned.Memory view old new answer end h had e = had h.0
+
+module _ {W S : Type 0} (w : world.Ghosts W) (t : sitting.Ghosts S W) (exact : Bool) (route : Route)
+    (P : LegView S → Type 0) (J : DoorView S → BackendView → Type 0) (R : (door after : DoorView S) → (backend moved : BackendView) → Type 0)
+    (same : (door : DoorView S) (backend : BackendView) → J door backend → R door door backend backend)
+    (fresh : (asked : Asked) → P (leg_begun asked))
+    (turns : (now : ℕ) (old new : PackageView S) (answer : Turned) (door after : DoorView S) (backend moved : BackendView)
+    → answer ≢ turned.Memory → AreKept P old → J door backend → IsPackageTurn w t exact route now old new answer door after backend moved
+    → AreKept P new × R door after backend moved) where
   from-keeps : (now : ℕ) (end : Option End) (in_work : Option (PackageView S)) (old new : ConnectionState S) (answer : Stepped)
-      (before behind : Outside S) → old.in_work ≡ in_work → LegsKept P old.in_work
+      (before behind : Outside S) → answer ≢ Memory → old.in_work ≡ in_work → LegsKept P old.in_work
       → J before.door before.backend → StepsFrom w t exact route now end in_work old new answer before behind
       → LegsKept P new.in_work × R before.door behind.door before.backend behind.backend
-  from-keeps now (Some end) in_work old new answer before behind e kept j h = (
+  from-keeps now (Some end) in_work old new answer before behind had e kept j h = (
     subst (λ (c : ConnectionState S). LegsKept P c.in_work) (sym h.1) kept,
-    unmoved before.door behind.door before.backend behind.backend j (ap (λ (o : Outside S). o.door) h.2) (ap (λ (o : Outside S). o.backend) h.2),
+    unmoved J R same before.door behind.door before.backend behind.backend j (ap (λ (o : Outside S). o.door) h.2)
+        (ap (λ (o : Outside S). o.backend) h.2),
   )
-  from-keeps now None None old new answer before behind e kept j h = (
-    ahead-keeps old new answer kept h.0,
-    unmoved before.door behind.door before.backend behind.backend j (ap (λ (o : Outside S). o.door) h.1) (ap (λ (o : Outside S). o.backend) h.1),
+  from-keeps now None None old new answer before behind had e kept j h = (
+    ahead-keeps route P fresh old new answer kept h.0,
+    unmoved J R same before.door behind.door before.backend behind.backend j (ap (λ (o : Outside S). o.door) h.1)
+        (ap (λ (o : Outside S). o.backend) h.1),
   )
-  from-keeps now None (Some view) old new answer before behind e kept j h =
-      let law = h.turns.law in
-      let all = takes-keep now view.planned view h.turns.next h.turns.turned law.round before.door behind.door before.backend behind.backend
-      (subst (λ (v : Option (PackageView S)). LegsKept P v) e kept) j law.turns in
-      (works-keep h.turns.turned h.turns.next (answering_of old) (answering_of new) answer new.end all.0 h.turns.works, all.1)
+  from-keeps now None (Some view) old new answer before behind had e kept j h =
+      let goes = h.turns in
+      let all = turns now view goes.next goes.turned before.door behind.door before.backend behind.backend
+      (had-memory route goes.turned goes.next (answering_of old) (answering_of new) answer new.end goes.works had)
+      (subst (λ (v : Option (PackageView S)). LegsKept P v) e kept) j goes.law in
+      (works-keep route P fresh goes.turned goes.next (answering_of old) (answering_of new) answer new.end all.0 goes.works, all.1)
 
-  pub step-keeps : (now : ℕ) (old new : ConnectionState S) (answer : Stepped) (before behind : Outside S) → LegsKept P old.in_work
-      → J before.door before.backend → IsStepped w t exact route now old new answer before behind
+  pub step-keeps : (now : ℕ) (old new : ConnectionState S) (answer : Stepped) (before behind : Outside S) → answer ≢ Memory
+      → LegsKept P old.in_work → J before.door before.backend → IsStepped w t exact route now old new answer before behind
       → LegsKept P new.in_work × R before.door behind.door before.backend behind.backend
-  step-keeps now old new answer before behind kept j h = from-keeps now old.end old.in_work old new answer before behind refl kept j h
+  step-keeps now old new answer before behind had kept j h = from-keeps now old.end old.in_work old new answer before behind had refl kept j h

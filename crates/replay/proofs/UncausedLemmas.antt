@@ -14,10 +14,10 @@ use Rattle.replay.specs.Counts.{met_for}
 use Rattle.replay.specs.Uncaused.{AreAllPlain, UncausedIsPlain}
 use Rattle.replay.specs.declared.reports.ClientReport.{ClientReport}
 
-none-met : (n before behind : ℕ) → before < last64 → behind ≡ before → RisesEnough 0 n before behind → n ≡ 0
+pub none-met : (n before behind : ℕ) → before < last64 → behind ≡ before → RisesEnough 0 n before behind → n ≡ 0
 none-met n before behind below still h = let met = h before (omega arith) in omega (arith, met, below, still)
 
-heavy : (pool : PoolNumbers) (kind : Caused) → ArePoolNumbers pool → 0 < weight pool kind
+pub heavy : (pool : PoolNumbers) (kind : Caused) → ArePoolNumbers pool → 0 < weight pool kind
 heavy pool link numbers = omega arith
 heavy pool silent numbers = let most = numbers.patience.0 in omega (arith, most)
 heavy pool gone numbers = omega arith
@@ -27,7 +27,7 @@ heavy pool full numbers = omega arith
 abbrev AreNot : List Mark → Type 0
 AreNot marks = (kind : Caused) → marks_of kind marks ≡ 0
 
-abbrev one_of : Caused → Mark → ℕ
+abbrev pub one_of : Caused → Mark → ℕ
 one_of kind m = cond (is_of kind m) 1 0
 
 first-plain : (m : Mark) → ((kind : Caused) → one_of kind m ≡ 0) → m ≡ mark.Plain
@@ -44,10 +44,10 @@ marks-plain (m ∷ marks) none = (
   marks-plain marks (λ kind. let all = sum_by-cons (one_of kind) m marks in let own = none kind in omega (arith, all, own)),
 )
 
-no-marks : (w n : ℕ) → 0 < w → w * n ≡ 0 → n ≡ 0
+pub no-marks : (w n : ℕ) → 0 < w → w * n ≡ 0 → n ≡ 0
 no-marks w n heavy none = let least : n ≤ n * w = le-mul_of_pos_right n heavy in grind (arith, least, none)
 
-clients-plain : (pool : PoolNumbers) (clients : List ClientReport) → ArePoolNumbers pool → ((kind : Caused) → met_for pool kind clients ≡ 0)
+pub clients-plain : (pool : PoolNumbers) (clients : List ClientReport) → ArePoolNumbers pool → ((kind : Caused) → met_for pool kind clients ≡ 0)
     → AreAllPlain clients
 clients-plain pool [] numbers none = tt
 clients-plain pool (client ∷ clients) numbers none = (

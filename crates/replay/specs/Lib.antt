@@ -8,4 +8,5 @@ pub mod Marks
 pub mod Wires
 pub mod Twice
 pub mod Uncaused
+pub mod Undisturbed
 pub mod steps

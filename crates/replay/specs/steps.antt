@@ -5,3 +5,5 @@ pub mod Closing
 pub mod Laws
 pub mod Costs
 pub mod Lent
+pub mod Quiet
+pub mod Room

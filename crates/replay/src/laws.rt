@@ -2,11 +2,13 @@
 
 ghost use Rattle.replay.specs.Twice.{IsReadTwice};
 ghost use Rattle.replay.specs.Uncaused.{UncausedIsPlain};
-ghost use Rattle.replay.specs.steps.Laws.{CostLaws, Laws};
+ghost use Rattle.replay.specs.steps.Laws.{CostLaws, Laws, RunLaws};
 
 use conn_costs::{
     costs_nothing, costs_on, marks_are_met, starts_costless, stays_costed, steps_cost, sums_at_rest,
 };
+use conn_quiet::packages_go_well;
+use conn_seats::{steps_keep_seats, turns_keep_seats};
 use front_conn::{
     ends_answered, stands_at_start, stands_when_ended, stands_when_fed, stands_when_written,
     stays_of_route,
@@ -37,6 +39,16 @@ pub(crate) fn cost_laws<W: World, S: Sitting<W>>()
     starts_costless::<W, S>();
     marks_are_met::<W, S>();
     sums_at_rest::<W, S>();
+}
+
+/// The laws of what a run of connections keeps, together. It does nothing; what it ensures are the laws.
+pub(crate) fn run_laws<W: World, S: Sitting<W>>()
+    ensures { RunLaws W.World S.Sitting }
+{
+    packages_go_well::<W, S>();
+    turns_keep_seats::<W, S>();
+    steps_keep_seats::<W, S>();
+    steps_cost::<W, S>();
 }
 
 /// Two replays that feed a client the same octets, with all its marks Plain, write it the same and end

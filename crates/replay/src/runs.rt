@@ -6,14 +6,17 @@ ghost use Rattle.replay.specs.Counts.{AreDialled, AreSums, HaveCauses};
 ghost use Rattle.replay.specs.Marks.{AreMarksOf};
 ghost use Rattle.replay.specs.Report.{IsReportOf};
 ghost use Rattle.replay.specs.Trace.{IsRunOf, outside_of};
+ghost use Rattle.replay.specs.Undisturbed.{IsUntroubledIf};
 ghost use Rattle.replay.specs.Wires.{IsCountedBy};
 ghost use Rattle.replay.specs.steps.Clients.{AreNobody};
+ghost use Rattle.replay.specs.steps.Quiet.{GoesWell};
+ghost use Rattle.replay.specs.steps.Room.{FindsRoom};
 
 use crate::Report;
 use crate::client::Client;
 use crate::clients::{give_up_all, no_clients};
 use crate::closing::close_all;
-use crate::laws::{connection_laws, cost_laws};
+use crate::laws::{connection_laws, cost_laws, run_laws};
 use crate::lent::LentWire;
 use crate::playing::play;
 use crate::reporting::report;
@@ -27,6 +30,7 @@ use z_client::ZBackend;
 use z_types::{List, Memory, World};
 
 /// Plays the events of a script over the links of a wire, with a new pool.
+#[tactic(auto, using(crate::proofs::UndisturbedLemmas::lent_untroubled))]
 pub fn run<W: World, N: Wire<W> + Events>(
     alloc: Global,
     route: &Route,
@@ -40,6 +44,10 @@ pub fn run<W: World, N: Wire<W> + Events>(
     // The sums are what the wire counted, and the marks have their counted cause.
     ensures counted { IfOk result (IsCountedBy W.World N.exact route.now
         (N.counts wire.old) (N.counts wire.new)) }
+
+    // Where nothing befalls links, each request is answered as it asks, or finds the pool full.
+    ensures untroubled { IfOk result (IsUntroubledIf W.World N.exact route.now events.now
+        (N.counts wire.old) (N.happened wire.old)) }
 {
     let mut backend = ZBackend::new(alloc, LentWire::new(wire));
     let report = run_with(alloc, route, events, &mut backend);
@@ -60,6 +68,8 @@ fn run_with<W: World, N: Wire<W> + Events>(
     ensures report { IfOk result (IsReportOf W.World route.now events.now) }
     ensures counted { IfOk result (IsCountedBy W.World N.exact route.now
         (N.counts backend.old.wire) (N.counts backend.new.wire)) }
+    ensures untroubled { IfOk result (IsUntroubledIf W.World N.exact route.now events.now
+        (N.counts backend.old.wire) (N.happened backend.old.wire)) }
     ensures lent { OnOk result
         ((N.happened backend.new.wire).lent ≡ (N.happened backend.old.wire).lent) }
 {
@@ -99,11 +109,23 @@ pub fn run_over<W: World, B: Backend<W> + Events, D: Door<W, B::Session>>(
     ensures marks { IfOk result (λ report. AreMarksOf route.now.pool
         (D.counts door.old).most report.clients) }
 
+    // Over a quiet backend, where no event befalls links, nothing goes wrong.
+    ensures calm { OnOk result (GoesWell W.World B.Session.Sitting B.exact route.now events.now
+        (outside_of D.Door B.Watched door.old backend.old)
+        (outside_of D.Door B.Watched door.new backend.new)) }
+
+    // A new pool that has places for the legs of all clients is never full.
+    ensures room { IfOk result (λ report. FindsRoom report
+        (outside_of D.Door B.Watched door.old backend.old)
+        (outside_of D.Door B.Watched door.new backend.new)) }
+
     // The events were played, one behind another, and the report is of what came of it.
     ensures run { IfOk result (IsRunOf W.World B.Session.Sitting B.exact route.now events.now
         (outside_of D.Door B.Watched door.old backend.old)
         (outside_of D.Door B.Watched door.new backend.new)) }
 {
+    run_laws::<W, B::Session>();
+    let _ = route.parts();
     let mut clients = no_clients(alloc, MOST_CLIENTS as usize)?;
     let slots = clients.as_mut_slice();
     match play_all(alloc, route, events.as_slice(), backend, door, slots) {

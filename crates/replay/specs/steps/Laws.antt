@@ -1,7 +1,9 @@
--- For contracts alone: the laws of connections, together, and of what they cost (this project's own)
+-- For contracts alone: the laws of connections, together, of what they cost, and of what a run of them keeps (this project's own)
 use Rattle.z_types.specs.declared.sitting.Sitting as sitting
 use Rattle.z_types.specs.declared.world.World as world
 use Rattle.conn_costs.specs.steps.Laws.{CostsNothing, CostsOn, MarksAreMet, StartsCostless, StaysSoCosted, StepsCost, SumsAtRest}
+use Rattle.conn_quiet.specs.steps.Laws.{PackagesGoWell}
+use Rattle.conn_seats.specs.steps.Laws.{StepsKeepSeats, TurnsKeepSeats}
 use Rattle.front_conn.specs.steps.Feeding.{EndsAnswered, StandsAtStart, StandsWhenEnded, StandsWhenFed, StandsWhenWritten, StaysOfRoute}
 
 -- where a connection stands at its start, when it is fed, when its input has ended and when its output was written; that it stays of
@@ -24,3 +26,11 @@ pub record CostLaws {W S : Type 0} (w : world.Ghosts W) (t : sitting.Ghosts S W)
   pub start : StartsCostless S
   pub marks : MarksAreMet S
   pub rest : SumsAtRest S
+
+-- what a run keeps: nothing goes wrong over a quiet backend, each seat that is out is held, over a turn and over a step, and what a step
+-- costs
+pub record RunLaws {W S : Type 0} (w : world.Ghosts W) (t : sitting.Ghosts S W) : Type 0 where
+  pub packages : PackagesGoWell w t
+  pub turns : TurnsKeepSeats w t
+  pub seats : StepsKeepSeats w t
+  pub costs : StepsCost w t

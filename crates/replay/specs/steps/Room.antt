@@ -1,0 +1,22 @@
+-- For contracts alone: where a new pool has places for the legs of all clients of a replay (this project's own)
+use Rattle.std.specs.Prelude.{◌≡◌, ℕ, ◌*◌, ◌≤◌, [], length, Option, None, Some}
+use Rattle.z_types.specs.Bounds.{most_legs}
+use Rattle.pool_sets.specs.Plain.{Pool}
+use Rattle.leg.specs.Turns.{DoorView}
+use Rattle.front_conn.specs.steps.Answering.{Outside}
+use Rattle.replay.specs.declared.reports.Report.{Report}
+
+-- a pool that is told, has no session, and opens this many of a class at most
+abbrev pub IsEmptyPool : {S : Type 0} → (most : ℕ) → Option (Pool S) → Type 0
+IsEmptyPool most None = ⊥
+IsEmptyPool most (Some pool) = (pool.sessions ≡ []) × (pool.max_sessions ≡ most)
+
+-- a door over such a pool, which was never full
+pub record IsNewDoor {S : Type 0} (door : DoorView S) : Type 0 where
+  pub empty : IsEmptyPool door.counts.most door.pool
+  pub unfull : door.counts.fulls ≡ 0
+
+-- a new door that opens as many sessions of a class as the clients that are reported have legs at most was never full
+abbrev pub FindsRoom : {S : Type 0} → Report → (before behind : Outside S) → Type 0
+FindsRoom report before behind =
+    IsNewDoor before.door → length report.clients * most_legs ≤ before.door.counts.most → behind.door.counts.fulls ≡ 0
