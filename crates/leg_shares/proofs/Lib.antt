@@ -1,0 +1,9 @@
+pub mod MemberLemmas
+pub mod StayLemmas
+pub mod UseLemmas
+pub mod OtherLemmas
+pub mod PoolLemmas
+pub mod PhaseLemmas
+pub mod DeedLemmas
+pub mod TurnLemmas
+pub mod ThroughLemmas

@@ -1,0 +1,5 @@
+-- For contracts alone, a file for each thing that they speak of (this project's own)
+pub mod Pools
+pub mod Sharing
+pub mod Through
+pub mod Laws

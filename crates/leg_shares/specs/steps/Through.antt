@@ -1,0 +1,60 @@
+-- For contracts alone: all that a leg goes through over a told pool at one moment, where nothing goes wrong, among others that
+-- use other classes (this project's own)
+use Rattle.std.specs.Prelude.{◌≡◌, ◌⊎◌, ℕ, Bool, List, [], ◌∷◌, Some}
+use Rattle.z_types.specs.declared.sitting.Sitting as sitting
+use Rattle.z_types.specs.declared.world.World as world
+use Rattle.route_config.specs.declared.route.Route.{Route}
+use Rattle.pool_sets.specs.Plain.{Pool}
+use Rattle.leg.specs.Accounts.{no_account}
+use Rattle.leg.specs.Deeds.{BackendView}
+use Rattle.leg.specs.Terms.{class_of, terms_of}
+use Rattle.leg.specs.Turns.{DoorView, IsTurn}
+use Rattle.leg.specs.declared.accounts.Account.{Account}
+use Rattle.leg.specs.declared.answers.Turned.{Turned}
+use Rattle.leg.specs.declared.phases.Phase.{Phase}
+use Rattle.leg.specs.declared.phases.Phase.TheVariants.{Begin}
+use Rattle.leg.specs.declared.tasks.Task.{Task}
+use Rattle.sharing_rules.specs.steps.Shared.{of_class}
+use Rattle.leg_shares.specs.steps.Pools.{IsPoolOf, StayOrExpire}
+use Rattle.leg_shares.specs.steps.Sharing.{WentOn}
+
+-- a leg, what it has counted, and the pool
+pub record Point (S : Type 0) : Type 0 where
+  pub phase : Phase S
+  pub account : Account
+  pub pool : Pool S
+
+-- a leg that has not begun
+abbrev pub at_first : {S : Type 0} → Pool S → Point S
+at_first pool = record { phase = Begin; account = no_account; pool = pool }
+
+module _ {W S : Type 0} (w : world.Ghosts W) (t : sitting.Ghosts S W) (exact : Bool) (route : Route) (place : ℕ) (task : Task) (now : ℕ)
+  where
+    -- the leg of a place of the route takes a turn
+    pub record TakesTurn (old new : Point S) : Type 0 where
+      pub answer : Turned
+      pub door : DoorView S
+      pub after : DoorView S
+      pub backend : BackendView
+      pub moved : BackendView
+      pub told : door.pool ≡ Some old.pool
+      pub told_then : after.pool ≡ Some new.pool
+      pub turn : IsTurn w t exact (terms_of route place) task now old.phase new.phase old.account new.account answer door after backend moved
+      pub well : WentOn answer new.account
+
+    -- others use other classes
+    pub record OthersGoOn (old new : Point S) : Type 0 where
+      pub phase : new.phase ≡ old.phase
+      pub account : new.account ≡ old.account
+      pub of : IsPoolOf route new.pool
+      pub own : StayOrExpire route now (of_class (class_of route place) old.pool.sessions) (of_class (class_of route place) new.pool.sessions)
+
+    -- from point to point
+    abbrev pub GoesThrough : Point S → List (Point S) → Type 0
+    GoesThrough point [] = Unit {0}
+    GoesThrough point (next ∷ points) = (TakesTurn point next ⊎ OthersGoOn point next) × GoesThrough next points
+
+-- where points end that begin with this one
+abbrev pub last_of : {S : Type 0} → Point S → List (Point S) → Point S
+last_of point [] = point
+last_of point (next ∷ points) = last_of next points
