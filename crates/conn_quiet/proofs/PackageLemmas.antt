@@ -62,7 +62,7 @@ has-memory turned.Done h = refl
 has-memory turned.Memory h = absurd (h refl)
 
 -- some legs had memory in a round, or all are done behind it
-abbrev HadMemories : {S : Type 0} → Round → List (LegView S) → Type 0
+abbrev pub HadMemories : {S : Type 0} → Round → List (LegView S) → Type 0
 HadMemories last news = (last.lacks ≡ false) ⊎ (all_done news ≡ true)
 
 stay-then : (had one two : Type 0) (a b c : Counts) → (had → one) → (had → two) → CountsStay one a b → CountsStay two b c → CountsStay had a c
@@ -112,7 +112,7 @@ module _ {W S : Type 0} (w : world.Ghosts W) (t : sitting.Ghosts S W) (exact : B
       (neither round.lacks (is_memory h.0) (ap (λ (r : Round). r.lacks) (sym h.1) ∙ has)).0
 
   -- and behind the others
-  lacks-kept : (olds news : List (LegView S)) (round last : Round) (door after : DoorView S) (backend moved : BackendView)
+  pub lacks-kept : (olds news : List (LegView S)) (round last : Round) (door after : DoorView S) (backend moved : BackendView)
       → HaveTurned w t exact route now olds news round last door after backend moved → last.lacks ≡ false → round.lacks ≡ false
   lacks-kept [] [] round last door after backend moved h has = ap (λ (r : Round). r.lacks) (sym h.0) ∙ has
   lacks-kept [] (new ∷ news) round last door after backend moved h has = absurd h
@@ -122,7 +122,7 @@ module _ {W S : Type 0} (w : world.Ghosts W) (t : sitting.Ghosts S W) (exact : B
       (lacks-kept olds news h.next last h.between after h.amid moved h.others has)
 
   -- a leg that was turned had memory
-  leg-memory : (answer : Turned) (old new : LegView S) (news : List (LegView S)) (round next last : Round) → is_done old.phase ≡ false
+  pub leg-memory : (answer : Turned) (old new : LegView S) (news : List (LegView S)) (round next last : Round) → is_done old.phase ≡ false
       → next ≡ round_after round answer → (last.lacks ≡ false → next.lacks ≡ false) → HadMemories last (new ∷ news)
       → HadMemory answer old.phase new.phase
   leg-memory answer old new news round next last goes is kept (inl has) =
@@ -130,7 +130,7 @@ module _ {W S : Type 0} (w : world.Ghosts W) (t : sitting.Ghosts S W) (exact : B
   leg-memory answer old new news round next last goes is kept (inr done) =
       inr (goes, (both-true (is_done new.phase) (all_done news) done).0)
 
-  rest-memory : (new : LegView S) (news : List (LegView S)) (last : Round) → HadMemories last (new ∷ news) → HadMemories last news
+  pub rest-memory : (new : LegView S) (news : List (LegView S)) (last : Round) → HadMemories last (new ∷ news) → HadMemories last news
   rest-memory new news last (inl has) = inl has
   rest-memory new news last (inr done) = inr ((both-true (is_done new.phase) (all_done news) done).1)
 

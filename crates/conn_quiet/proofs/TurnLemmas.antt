@@ -40,7 +40,7 @@ module _ {S : Type 0} where
   left-begin nothing = refl
 
   -- where memory was wanting a leg is not done
-  left-open : (phase : Phase S) (deed : Deed S) → is_done phase ≡ false → is_done (left_by phase deed) ≡ false
+  pub left-open : (phase : Phase S) (deed : Deed S) → is_done phase ≡ false → is_done (left_by phase deed) ≡ false
   left-open Begin deed is = left-begin deed
   left-open (Dialling seat member) deed is = refl
   left-open (Dialled held looks) deed is = refl

@@ -1,0 +1,4 @@
+pub mod UsesLemmas
+pub mod MemoryLemmas
+pub mod RoundLemmas
+pub mod PackageLemmas

@@ -1,0 +1,4 @@
+-- For contracts alone, a file for each thing that they speak of (this project's own)
+pub mod Together
+pub mod Packages
+pub mod Laws

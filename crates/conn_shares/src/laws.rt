@@ -1,0 +1,32 @@
+//! The legs of a request share the sessions of their classes. These functions do nothing; what they ensure is the law.
+//! The legs go to different classes; a pool that is not told is outside of it.
+
+ghost use Rattle.conn_shares.specs.steps.Laws.{BegunShares, DoneLegsLeaveUses, PackagesShare, QuietPackagesShare, RoundsShare};
+
+use z_types::{Sitting, World};
+
+/// A package that is begun over a pool that is kept.
+pub fn begun_shares<W: World, S: Sitting<W>>()
+    ensures { BegunShares W.World S.Sitting }
+{}
+
+/// Legs of which all are done dialled and searched just as their uses need, and left each class kept with
+/// them.
+pub fn done_legs_leave_uses<W: World, S: Sitting<W>>()
+    ensures { DoneLegsLeaveUses W.World S.Sitting }
+{}
+
+/// Legs that have their turns one after another, with memory and with nothing that goes wrong.
+pub fn rounds_share<W: World, S: Sitting<W>>()
+    ensures { RoundsShare W.World S.Sitting }
+{}
+
+/// A turn of a package, with memory and with nothing that goes wrong.
+pub fn packages_share<W: World, S: Sitting<W>>()
+    ensures { PackagesShare W.World S.Sitting }
+{}
+
+/// A turn of a package with memory, over a quiet backend that counts exactly, at told addresses.
+pub fn quiet_packages_share<W: World, S: Sitting<W>>()
+    ensures { QuietPackagesShare W.World S.Sitting }
+{}
