@@ -17,7 +17,8 @@ __attribute__((constructor)) static void begin(void) {
     refused = number ? strtoul(number, NULL, 10) : 0;
 }
 
-static void tell(void) {
+/* A test ends by `exit`. */
+__attribute__((destructor)) static void tell(void) {
     const char *name = getenv("COUNT");
     unsigned long count = asked;
     FILE *file = name ? fopen(name, "w") : NULL;

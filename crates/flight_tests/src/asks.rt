@@ -84,10 +84,13 @@ pub(crate) fn hits_legs<W: World, S: Sitting<W>>(
 {
     let mut legs = List::new(alloc);
     for (place, name) in names.iter().enumerate() {
+        let Ok(leg) = u32::try_from(place) else {
+            return Err(Memory);
+        };
         if route.parts().legs.len() <= place || 7 < name.len() {
             return Err(Memory);
         }
-        legs.push(hits_leg(alloc, route, place as u32, name)?)?;
+        legs.push(hits_leg(alloc, route, leg, name)?)?;
     }
     Ok(legs)
 }
