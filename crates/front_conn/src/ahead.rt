@@ -63,6 +63,7 @@ fn is_letter_first(at: u64, octet: u8) -> bool
 }
 
 /// What octets go on with that begin with no letter at the start.
+#[inline(never)]
 fn unit_ahead(framer: &mut Framer, has_ended: bool) -> Ahead
     requires { framer.old.refused ≡ None }
     ensures { IsUnitAhead has_ended framer.old framer.new result }

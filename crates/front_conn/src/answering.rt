@@ -190,6 +190,7 @@ impl<W: World, S: Sitting<W>> Answering<W, S> {
     }
 
     /// Answers octets that begin no unit, at this offset. Without memory nothing is written.
+    #[inline(never)]
     pub(crate) fn refuse(&mut self, at: u64) -> Result<Option<End>, Memory>
         ensures ok { IfOk result (λ ended. ended ≡ Some (Malformed at)) }
         ensures written { OnOk result
@@ -202,6 +203,7 @@ impl<W: World, S: Sitting<W>> Answering<W, S> {
 
     /// Begins a unit at an offset: it is answered at once, and ends the connection so, if it does, or the
     /// legs for its request are begun. No GET waits where units come. Without memory nothing is written.
+    #[inline(never)]
     pub(crate) fn begin(
         &mut self,
         alloc: Global,
@@ -228,6 +230,7 @@ impl<W: World, S: Sitting<W>> Answering<W, S> {
 
     /// Begins the head of an HTTP connection: it is answered at once, and ends the connection so, or the
     /// legs for the search of a GET are begun. Without memory nothing is written.
+    #[inline(never)]
     pub(crate) fn begin_head(
         &mut self,
         alloc: Global,

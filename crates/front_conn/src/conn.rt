@@ -164,7 +164,8 @@ impl<W: World, S: Sitting<W>> Conn<W, S> {
     /// One step: the request in work has its turn, in which each of its legs that is not done goes on, and
     /// is answered once all are done, or a GET goes on with its fetch; or else the next unit of the client
     /// is begun, or the head of an HTTP connection, and answered at once where it asks nothing of a target;
-    /// or the connection ends, by the end of its input or by octets that are no unit. Without memory the connection ends so, with nothing written in that step.
+    /// or the connection ends, by the end of its input or by octets that are no unit. Without memory the
+    /// connection ends so, with nothing written in that step.
     pub fn step<B: Backend<W, Session = S>, D: Door<W, S>>(
         &mut self,
         alloc: Global,

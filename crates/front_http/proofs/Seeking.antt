@@ -1,13 +1,13 @@
 -- The end of a head is looked for where it can be: behind octets in which none ends.
-use Rattle.std.proofs.Common.{◌≡◌, ◌∙◌, ◌<◌, ◌+◌, ◌-◌, ◌||◌, ℕ, zero, suc, Bool, true, false, List, [], ◌∷◌, length, take, drop, get_or, Option, Some, None, Ok, Err, option_map, refl, sym, ap, subst, arith, add-one, drop-cons, cond}
+use Rattle.std.proofs.Common.{◌≡◌, ◌∙◌, ◌<◌, ◌+◌, ◌-◌, ◌||◌, ℕ, zero, suc, Bool, true, false, if◌then◌else◌, ◌==◌, ◌&&◌, List, [], ◌∷◌, length, take, drop, get_or, Option, Some, None, Ok, Err, option_map, refl, sym, ap, subst, arith, add-one, drop-cons, cond}
 use Rattle.std.specs.Prelude.{is_some}
-use Rattle.sru_request.specs.Head.{head_length, line_behind, or_else}
+use Rattle.sru_request.specs.Head.{empty_line, head_length, line_behind, or_else}
 use Rattle.std.proofs.Math.Seq.{take_all}
 use Rattle.std.proofs.lemmas.Bool.{lt-ltb}
 use Rattle.sru_request.specs.Request.{IsAnswerIn, IsHeadAnswer, most_head_octets}
 use Rattle.sru_request.specs.declared.faults.HeadFault.TheVariants.{HeadTooLarge}
 use Rattle.sru_request.specs.declared.head.HeadGot.TheVariants.{NeedMore}
-use Rattle.front_http.specs.Seeking.{HasPassed, ends_here}
+use Rattle.front_http.specs.Seeking.{HasPassed, ends_here, has_line_feed}
 
 -- ---- by octets
 
@@ -77,6 +77,62 @@ pub passed-from : (octets : List ℕ) (passed : ℕ) → 2 < passed → HasPasse
 passed-from octets passed above h =
     let e : passed ≡ suc (suc (passed - 2)) = omega (arith, above) in
     passed-by (passed - 2) octets (ap (λ n. head_length (take n octets)) (sym e) ∙ h.endless)
+
+-- ---- by line feeds
+
+or-parts : (a b : Bool) → (a || b) ≡ false → (a ≡ false) × (b ≡ false)
+or-parts true b h = absurd cc
+or-parts false b h = (refl, h)
+
+-- an empty line of LF, or of CR LF, by whether the octets are those
+abbrev empty-by : (line_feed return next : Bool) → Option ℕ
+empty-by line_feed return next = if line_feed then Some 1 else (if return && next then Some 2 else None)
+
+none-by : (line_feed return : Bool) → line_feed ≡ false → empty-by line_feed return false ≡ None
+none-by line_feed true h = rw h refl
+none-by line_feed false h = rw h refl
+
+still-none : (line_feed return next : Bool) → empty-by line_feed return false ≡ None → next ≡ false → empty-by line_feed return next ≡ None
+still-none line_feed return next e h = rw h e
+
+-- an empty line has a line feed
+no-empty : (rest : List ℕ) → has_line_feed rest ≡ false → empty_line rest ≡ None
+no-empty [] none = refl
+no-empty (a ∷ []) none = none-by (a == 10) (a == 13) (or-parts (a == 10) false none).0
+no-empty (a ∷ b ∷ rest) none =
+    let parts = or-parts (a == 10) (has_line_feed (b ∷ rest)) none in
+    still-none (a == 10) (a == 13) (b == 10) (none-by (a == 10) (a == 13) parts.0) (or-parts (b == 10) (has_line_feed rest) parts.1).0
+
+-- so none is begun by octets behind which there is no line feed
+no-more-empty : (k : ℕ) (rest : List ℕ) → empty_line (take k rest) ≡ None → has_line_feed (drop k rest) ≡ false → empty_line rest ≡ None
+no-more-empty zero rest e none = no-empty rest none
+no-more-empty (suc k) [] e none = refl
+no-more-empty (suc zero) (a ∷ []) e none = e
+no-more-empty (suc zero) (a ∷ b ∷ rest) e none =
+    still-none (a == 10) (a == 13) (b == 10) e (or-parts (b == 10) (has_line_feed rest) none).0
+no-more-empty (suc (suc k)) (a ∷ []) e none = e
+no-more-empty (suc (suc k)) (a ∷ b ∷ rest) e none = e
+
+line-by : (line_feed : Bool) (few all : Option ℕ) → (if line_feed then few else None) ≡ None → (few ≡ None → all ≡ None)
+    → (if line_feed then all else None) ≡ None
+line-by true few all e more = more e
+line-by false few all e more = refl
+
+none-or : (a b : Option ℕ) → a ≡ None → b ≡ None → option_map suc (or_else a b) ≡ None
+none-or a b e f = rw (e, f) refl
+
+-- no head ends where none did and no line feed has come since
+pub no-new-end : (k : ℕ) (xs : List ℕ) → head_length (take k xs) ≡ None → has_line_feed (drop k xs) ≡ false → head_length xs ≡ None
+no-new-end k [] endless none = refl
+no-new-end zero (x ∷ rest) endless none =
+    let parts = or-parts (x == 10) (has_line_feed rest) none in
+    none-or (line_behind x rest) (head_length rest) (line-by (x == 10) None (empty_line rest) (rw parts.0 refl) (λ e. no-empty rest parts.1))
+    (no-new-end zero rest refl parts.1)
+no-new-end (suc k) (x ∷ rest) endless none =
+    let parts = none-line (line_behind x (take k rest)) (head_length (take k rest)) endless in
+    none-or (line_behind x rest) (head_length rest)
+    (line-by (x == 10) (empty_line (take k rest)) (empty_line rest) parts.0 (λ e. no-more-empty k rest e none))
+    (no-new-end k rest parts.1 none)
 
 -- ---- what is needed
 

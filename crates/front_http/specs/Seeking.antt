@@ -1,5 +1,6 @@
 -- For contracts alone: the head of a request as its octets come (RFC 9112, 2.1 and 2.2)
-use Rattle.std.specs.Prelude.{◌≡◌, ◌≤◌, ℕ, Bool, false, List, [], ◌∷◌, length, take, Option, None, Some, is_some, Result, Ok, Err}
+use Rattle.std.specs.Prelude.{◌≡◌, ◌≤◌, ℕ, Bool, false, ◌==◌, List, [], ◌∷◌, length, take, Option, None, Some, is_some, Result, Ok, Err}
+use Rattle.std.specs.List.{list_any}
 use Rattle.sru_request.specs.Head.{head_length, line_behind}
 use Rattle.sru_request.specs.Request.{IsHeadAnswer}
 use Rattle.sru_request.specs.declared.faults.HeadFault.{HeadFault}
@@ -10,6 +11,10 @@ use Rattle.sru_request.specs.declared.head.HeadGot.TheVariants.{Got, NeedMore}
 abbrev pub ends_here : List ℕ → Bool
 ends_here [] = false
 ends_here (first ∷ rest) = is_some (line_behind first rest)
+
+-- a line feed is among octets
+abbrev pub has_line_feed : List ℕ → Bool
+has_line_feed octets = list_any (λ octet. octet == 10) octets
 
 -- so many octets have come, and no head ends in them
 pub record HasPassed (octets : List ℕ) (passed : ℕ) : Type 0 where

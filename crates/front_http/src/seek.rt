@@ -2,7 +2,7 @@
 
 ghost use Rattle.std.specs.Prelude.{◌≡◌, is_some};
 ghost use Rattle.sru_request.specs.Head.{head_length};
-ghost use Rattle.front_http.specs.Seeking.{HasPassed, IsSought, ends_here};
+ghost use Rattle.front_http.specs.Seeking.{HasPassed, IsSought, ends_here, has_line_feed};
 
 use sru_request::{Get, HeadFault, HeadGot, MOST_HEAD_OCTETS, read_head};
 use std::alloc::Global;
@@ -43,6 +43,22 @@ fn unpassed(octets: &[u8], passed: usize) -> &[u8]
     }
 }
 
+/// Whether a line feed stands among these octets.
+fn has_line_feed(octets: &[u8]) -> bool
+    ensures { result ≡ has_line_feed octets.now }
+{
+    octets.contains(&b'\n')
+}
+
+/// Whether a head ends in octets, where none ends in the first so many: it ends in a line feed, which is
+/// among the others.
+fn has_new_end(octets: &[u8], passed: usize) -> bool
+    requires { HasPassed octets.now passed }
+    ensures { result ≡ is_some (head_length octets.now) }
+{
+    has_line_feed(&octets[passed..]) && has_end(unpassed(octets, passed))
+}
+
 /// The head that the octets of a connection begin with, once it has come, or why they begin with none.
 /// It is `None` exactly where more octets are needed. So many of them were looked through before, in
 /// which no head ends; and so it is told behind. So a head costs the same in whatever pieces it comes.
@@ -51,7 +67,7 @@ pub fn seek_head(alloc: Global, octets: &[u8], passed: &mut usize) -> Option<Res
     ensures sought { IsSought octets.now result }
     ensures passed { HasPassed octets.now passed.new }
 {
-    let ends = has_end(unpassed(octets, *passed));
+    let ends = has_new_end(octets, *passed);
     if ends || octets.len() >= MOST_HEAD_OCTETS {
         return read_whole(alloc, octets);
     }
@@ -60,6 +76,7 @@ pub fn seek_head(alloc: Global, octets: &[u8], passed: &mut usize) -> Option<Res
 }
 
 /// The head that octets begin with.
+#[inline(never)]
 fn read_whole(alloc: Global, octets: &[u8]) -> Option<Result<Get, HeadFault>>
     ensures { IsSought octets.now result }
 {

@@ -4,4 +4,4 @@ use Rattle.front_http.proofs.seek.seek_head.Goals as goal
 
 pub returns-clause-sought : goal.returns-clause-sought
 returns-clause-sought c =
-    wants-more c.args.octets.now (sym c.unpassed.ensures ∙ sym c.has_end-ends.ensures ∙ c.if-ends.false) (omega arith)
+    wants-more c.args.octets.now (sym c.has_new_end-ends.ensures ∙ c.if-ends.false) (omega arith)
