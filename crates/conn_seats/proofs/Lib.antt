@@ -4,3 +4,4 @@ pub mod LegLemmas
 pub mod PackageLemmas
 pub mod ConnLemmas
 pub mod ThroughLemmas
+pub mod WayLemmas

@@ -2,6 +2,7 @@
 //! that is not told is outside of it.
 
 ghost use Rattle.conn_seats.specs.steps.Laws.{BegunHoldsNone, ConnectionsGiveBack, GoesParted, LegsGiveBack, OutOnce, PackagesGiveBack, PackagesKeepSeats, RunsAloneGiveBack, RunsGiveBack, StepsKeepSeats, StepsLeaveOthers, TurnsKeepSeats};
+ghost use Rattle.conn_seats.specs.steps.Ways.{CallsAreWays, WaysGoOn};
 
 use z_types::{Sitting, World};
 
@@ -69,4 +70,15 @@ pub fn runs_give_back<W: World, S: Sitting<W>>()
 /// that were out before it.
 pub fn runs_alone_give_back<W: World, S: Sitting<W>>()
     ensures { RunsAloneGiveBack W.World S.Sitting }
+{}
+
+/// Each call of a connection, at whatever point, is among what it goes through, and so is what others do
+/// that leaves it the seats that it holds.
+pub fn calls_are_ways<W: World, S: Sitting<W>>()
+    ensures { CallsAreWays W.World S.Sitting }
+{}
+
+/// From wherever a connection has come it goes on, by each of these, to one point more.
+pub fn ways_go_on<W: World, S: Sitting<W>>()
+    ensures { WaysGoOn W.World S.Sitting }
 {}

@@ -7,7 +7,7 @@ mod laws;
 mod tests;
 
 pub use laws::{
-    begun_holds_none, connections_give_back, goes_parted, legs_give_back, out_once,
+    begun_holds_none, calls_are_ways, connections_give_back, goes_parted, legs_give_back, out_once,
     packages_give_back, packages_keep_seats, runs_alone_give_back, runs_give_back,
-    steps_keep_seats, steps_leave_others, turns_keep_seats,
+    steps_keep_seats, steps_leave_others, turns_keep_seats, ways_go_on,
 };

@@ -1,9 +1,9 @@
 //! The laws of what connections hold and give back, over targets in memory.
 
 use crate::{
-    begun_holds_none, connections_give_back, goes_parted, legs_give_back, out_once,
+    begun_holds_none, calls_are_ways, connections_give_back, goes_parted, legs_give_back, out_once,
     packages_give_back, packages_keep_seats, runs_alone_give_back, runs_give_back,
-    steps_keep_seats, steps_leave_others, turns_keep_seats,
+    steps_keep_seats, steps_leave_others, turns_keep_seats, ways_go_on,
 };
 use gw_memory::FakeSession;
 use std::test::Fail;
@@ -23,5 +23,7 @@ fn the_laws_of_seats_hold_over_targets_in_memory(_: HostRuntime) -> Result<(), F
     goes_parted::<TestWorld, FakeSession>();
     runs_give_back::<TestWorld, FakeSession>();
     runs_alone_give_back::<TestWorld, FakeSession>();
+    calls_are_ways::<TestWorld, FakeSession>();
+    ways_go_on::<TestWorld, FakeSession>();
     Ok(())
 }
