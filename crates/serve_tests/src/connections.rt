@@ -3,8 +3,8 @@
 ghost use Rattle.std.specs.Prelude.{◌≤◌};
 
 use crate::octets::{
-    BAD_HEAD_REPLY, BAD_REPLY, CLOSE, INIT, INIT_REPLY, LIMIT_REPLY, PRESENT, PRESENT_REPLY,
-    SEARCH, SEARCH_REPLY,
+    BAD_HEAD_REPLY, BAD_REPLY, CLOSE, GET, GET_REPLY, INIT, INIT_REPLY, LIMIT_REPLY, PRESENT,
+    PRESENT_REPLY, SEARCH, SEARCH_REPLY,
 };
 use gw_memory::{FakeBackend, FakeSession, MemoryClock, MemorySink, MemorySource};
 use pool_core::Pool;
@@ -99,21 +99,32 @@ fn served<R: Wait>(
 fn is_so<R: Wait>(rt: &R, alloc: Global, case: &Case, most: usize) -> Result<bool, Memory>
     requires { 1 ≤ most }
 {
+    let sent = text_of(alloc, case.sent)?;
+    let written = text_of(alloc, case.written)?;
+    is_served(rt, alloc, case, sent, most, written.as_slice())
+}
+
+/// Whether a connection of these octets is served as its case has it, to a sink that takes so many octets
+/// at once, and is written this.
+fn is_served<R: Wait>(
+    rt: &R,
+    alloc: Global,
+    case: &Case,
+    sent: Text,
+    most: usize,
+    written: &[u8],
+) -> Result<bool, Memory>
+    requires { 1 ≤ most }
+{
     let route = route_of(alloc, case.most_units)?;
-    let reads = one_number(alloc, case.failing_read)?;
-    let mut source = MemorySource::new(text_of(alloc, case.sent)?, reads);
+    let mut source = MemorySource::new(sent, one_number(alloc, case.failing_read)?);
     let mut sink = MemorySink::taking(alloc, most, one_number(alloc, case.failing_write)?);
     let served = served(rt, alloc, &route, &mut source, &mut sink)?;
-    let written = text_of(alloc, case.written)?;
-    Ok(
-        served.end == case.end
-            && are_plain(&served.marks, case.marks)
-            && sink.received() == written.as_slice(),
-    )
+    Ok(served.end == case.end && are_plain(&served.marks, case.marks) && sink.received() == written)
 }
 
 /// Connections, to sinks that take each reply whole.
-const CASES: [Case; 17] = [
+const CASES: [Case; 19] = [
     WHOLE,
     Case {
         sent: &[],
@@ -157,6 +168,13 @@ const CASES: [Case; 17] = [
         ..WHOLE
     },
     Case {
+        sent: &[GET, GET],
+        written: &[GET_REPLY],
+        marks: 1,
+        end: End::Closed,
+        ..WHOLE
+    },
+    Case {
         sent: &[INIT, b"\xb6\x3e\x8d"],
         written: &[INIT_REPLY],
         marks: 1,
@@ -180,6 +198,14 @@ const CASES: [Case; 17] = [
     },
     Case {
         failing_read: 2,
+        end: End::ReadFault,
+        ..WHOLE
+    },
+    Case {
+        sent: &[INIT],
+        failing_read: 2,
+        written: &[INIT_REPLY],
+        marks: 1,
         end: End::ReadFault,
         ..WHOLE
     },
@@ -264,6 +290,89 @@ const PARTS: [Case; 4] = [
 fn a_reply_of_which_a_part_is_written_is_the_last(rt: HostRuntime) -> Result<(), Fail> {
     for case in &PARTS {
         assert!(rt; is_so(&rt, rt.alloc(), case, 1)?, "{}", case.failing_write);
+    }
+    Ok(())
+}
+
+/// Sinks that take seven octets at a write, of which one fails, the first to the last that are needed: how
+/// many octets were received before it, and how many requests are answered. The three replies have 43,
+/// 14 and 60 octets.
+const FRONTS: [(usize, usize); 18] = [
+    (0, 1),
+    (7, 1),
+    (14, 1),
+    (21, 1),
+    (28, 1),
+    (35, 1),
+    (42, 1),
+    (43, 2),
+    (50, 2),
+    (57, 3),
+    (64, 3),
+    (71, 3),
+    (78, 3),
+    (85, 3),
+    (92, 3),
+    (99, 3),
+    (106, 3),
+    (113, 3),
+];
+
+/// Whether a connection whose write of a number fails has ended so, when so many octets of the replies
+/// were received and so many requests were answered.
+fn ends_within<R: Wait>(
+    rt: &R,
+    alloc: Global,
+    number: u64,
+    front: (usize, usize),
+) -> Result<bool, Memory> {
+    let whole = text_of(alloc, WHOLE.written)?;
+    let case = Case {
+        failing_write: number,
+        marks: front.1,
+        end: End::WriteFault,
+        ..WHOLE
+    };
+    let sent = text_of(alloc, WHOLE.sent)?;
+    match whole.as_slice().get(..front.0) {
+        Some(written) => is_served(rt, alloc, &case, sent, 7, written),
+        None => Ok(false),
+    }
+}
+
+#[test]
+fn a_front_of_the_replies_is_written_where_a_write_fails(rt: HostRuntime) -> Result<(), Fail> {
+    let mut number = 0u64;
+    for front in FRONTS {
+        number = number.saturating_add(1);
+        assert!(rt; ends_within(&rt, rt.alloc(), number, front)?, "{number}");
+    }
+    Ok(())
+}
+
+/// An Init, and a unit of indefinite length with one element behind another, so many octets of them.
+fn unended(alloc: Global, count: usize) -> Result<Text, Memory> {
+    let mut sent = text_of(alloc, &[INIT, b"\xb6\x80"])?;
+    sent.append(vec![in alloc; 4u8; count]?.as_slice())?;
+    Ok(sent)
+}
+
+#[test]
+fn a_unit_that_never_ends_is_bad_once_it_is_too_large(rt: HostRuntime) -> Result<(), Fail> {
+    let alloc = rt.alloc();
+    for (count, written, end) in [
+        (1_048_566, [INIT_REPLY].as_slice(), End::Cut(1_048_568)),
+        (4_000_000, &[INIT_REPLY, BAD_REPLY], End::Malformed(21)),
+    ] {
+        let case = Case {
+            marks: 1,
+            end,
+            ..WHOLE
+        };
+        let written = text_of(alloc, written)?;
+        let sent = unended(alloc, count)?;
+        let right = is_served(&rt, alloc, &case, sent, usize::MAX, written.as_slice())?;
+        assert!(rt; right, "{count}");
     }
     Ok(())
 }

@@ -4,7 +4,7 @@ ghost use Rattle.std.specs.Prelude.{IfOk};
 ghost use Rattle.gw_outside.specs.Accepts.{IsUntouched};
 
 use crate::connections::{are_plain, one_number, route_of, text_of};
-use crate::octets::{BAD_REPLY, CLOSE, INIT, INIT_REPLY, SEARCH, SEARCH_REPLY};
+use crate::octets::{BAD_REPLY, CLOSE, GET, GET_REPLY, INIT, INIT_REPLY, SEARCH, SEARCH_REPLY};
 use gw_memory::{FakeBackend, FakeSession, MemoryAccept, MemoryClock, MemorySink, MemorySource};
 use gw_outside::{Sink, Source};
 use pool_core::Pool;
@@ -27,8 +27,8 @@ struct Client<'a> {
     end: End,
 }
 
-/// The clients of a worker.
-const CLIENTS: [Client; 4] = [
+/// The clients of a worker, by Z39.50 and by HTTP.
+const CLIENTS: [Client; 5] = [
     Client {
         sent: &[INIT, SEARCH],
         failing_write: 0,
@@ -42,6 +42,13 @@ const CLIENTS: [Client; 4] = [
         written: &[INIT_REPLY],
         marks: 2,
         end: End::WriteFault,
+    },
+    Client {
+        sent: &[GET],
+        failing_write: 0,
+        written: &[GET_REPLY],
+        marks: 1,
+        end: End::Closed,
     },
     Client {
         sent: &[b"\xb6\xff"],
@@ -136,10 +143,10 @@ fn a_worker_serves_each_connection_and_ends_with_its_listener(rt: HostRuntime) -
     let alloc = rt.alloc();
     let route = route_of(alloc, 100)?;
     for (failing_accept, worked, count) in [
-        (0, Worked::Ended, 4),
+        (0, Worked::Ended, 5),
         (1, Worked::Failed, 0),
         (3, Worked::Failed, 2),
-        (5, Worked::Failed, 4),
+        (6, Worked::Failed, 5),
     ] {
         assert!(rt;
             works_so(&rt, alloc, &route, failing_accept, worked, count)?,
