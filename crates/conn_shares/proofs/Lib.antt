@@ -1,4 +1,6 @@
 pub mod UsesLemmas
+pub mod OwnUses
+pub mod CostLemmas
 pub mod MemoryLemmas
 pub mod RoundLemmas
 pub mod PackageLemmas

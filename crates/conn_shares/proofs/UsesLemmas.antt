@@ -27,11 +27,11 @@ use Rattle.conn_shares.specs.steps.Together.{AreAllKept, AreApart, AreSharing, H
 -- ---- the last use that passes a test
 
 -- a use that fails a test is none of those that pass it
-last-behind : (test : Use → Bool) (one : Use) (before : List Use) → test one ≡ false → last_at test (one ∷ before) ≡ last_at test before
+pub last-behind : (test : Use → Bool) (one : Use) (before : List Use) → test one ≡ false → last_at test (one ∷ before) ≡ last_at test before
 last-behind test one before fails = ap (λ (b : Bool). option_map (λ (u : Use). u.at) (cond b (Some one) (find test before))) fails
 
 -- the same use behind others, where the last before was the same
-last-same : (test : Use → Bool) (one : Use) (uses others : List Use) → last_at test others ≡ last_at test uses
+pub last-same : (test : Use → Bool) (one : Use) (uses others : List Use) → last_at test others ≡ last_at test uses
     → last_at test (one ∷ others) ≡ last_at test (one ∷ uses)
 last-same test one uses others same =
     (elim (test one) as (λ (b : Bool). option_map (λ (u : Use). u.at) (cond b (Some one) (find test others)) ≡ option_map (λ (u : Use). u.at) (cond b (Some one) (find test uses))) [
@@ -40,28 +40,28 @@ last-same test one uses others same =
     ])
 
 -- a use of another class is none of this one, nor of a key of it
-other-in : (class : ℕ) (one : Use) → nat_eq class one.class ≡ false → is_in class one ≡ false
+pub other-in : (class : ℕ) (one : Use) → nat_eq class one.class ≡ false → is_in class one ≡ false
 other-in class one apart = nat_eq_equiv.symm one.class class ∙ apart
 
-other-set : (class : ℕ) (key : SetKey) (one : Use) → nat_eq class one.class ≡ false → is_set_in class key one ≡ false
+pub other-set : (class : ℕ) (key : SetKey) (one : Use) → nat_eq class one.class ≡ false → is_set_in class key one ≡ false
 other-set class key one apart = let n = other-in class one apart in rw n refl
 
 module _ (class : ℕ) where
-  same-self : (uses : List Use) → HaveSameLast class uses uses
+  pub same-self : (uses : List Use) → HaveSameLast class uses uses
   same-self uses = record { of_class = refl; of_key = λ key. refl }
 
-  same-then : (a b c : List Use) → HaveSameLast class a b → HaveSameLast class b c → HaveSameLast class a c
+  pub same-then : (a b c : List Use) → HaveSameLast class a b → HaveSameLast class b c → HaveSameLast class a c
   same-then a b c one two = record { of_class = two.of_class ∙ one.of_class; of_key = λ key. two.of_key key ∙ one.of_key key }
 
   -- behind a use of another class
-  same-past : (one : Use) (uses : List Use) → nat_eq class one.class ≡ false → HaveSameLast class uses (one ∷ uses)
+  pub same-past : (one : Use) (uses : List Use) → nat_eq class one.class ≡ false → HaveSameLast class uses (one ∷ uses)
   same-past one uses apart = record {
     of_class = last-behind (is_in class) one uses (other-in class one apart);
     of_key = λ key. last-behind (is_set_in class key) one uses (other-set class key one apart);
   }
 
   -- behind the same use
-  same-behind : (one : Use) (uses others : List Use) → HaveSameLast class uses others → HaveSameLast class (one ∷ uses) (one ∷ others)
+  pub same-behind : (one : Use) (uses others : List Use) → HaveSameLast class uses others → HaveSameLast class (one ∷ uses) (one ∷ others)
   same-behind one uses others same = record {
     of_class = last-same (is_in class) one uses others same.of_class;
     of_key = λ key. last-same (is_set_in class key) one uses others (same.of_key key);
@@ -69,7 +69,7 @@ module _ (class : ℕ) where
 
   module _ {S : Type 0} (route : Route) (now : ℕ) where
     -- behind the uses of legs of other classes
-    others-past : (legs : List (LegView S)) (uses : List Use) → AllByRecursion (λ k. nat_eq class k ≡ false) (classes_of route legs)
+    pub others-past : (legs : List (LegView S)) (uses : List Use) → AllByRecursion (λ k. nat_eq class k ≡ false) (classes_of route legs)
         → HaveSameLast class uses (uses_behind route now uses legs)
     others-past [] uses apart = same-self uses
     others-past (leg ∷ legs) uses apart =
