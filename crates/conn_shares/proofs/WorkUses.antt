@@ -1,0 +1,211 @@
+-- The uses of a work are those of what it asks first: of each class the same
+use Rattle.std.proofs.Common.{◌≡◌, ◌∙◌, ◌||◌, ◌==◌, ◌+◌, ◌⊎◌, ◌≤◌, ℕ, zero, suc, ◌<◌, Bool, true, false, cond, inl, inr, List, [], ◌∷◌, ◌++◌, map, length, get_or, filter, All, Contains, Option, None, Some, refl, sym, ap, subst, nat_eq, arith, slice_get, option_to_list, is_some}
+use Rattle.std.specs.Prelude.{filter_map, flat_map, if◌then◌else◌}
+use Rattle.std.specs.Cmp.{nat_eq_equiv}
+use Rattle.std.specs.List.{AllByRecursion, IsDistinct, cons_option, list_any, range_with_len}
+use Rattle.std.specs.Option.{option_map_or}
+use Rattle.std.specs.Set.{unique_keys}
+use Rattle.std.proofs.lemmas.Bool.{eqb-true}
+use Rattle.std.proofs.lemmas.List.Elements.{All-contains, All-contains_itself, recursion_from_All}
+use Rattle.std.proofs.lemmas.Option.{get_or_from_slice_get, slice_get_cases, slice_get_within}
+use Rattle.z_types.specs.MergedOrder.{Place}
+use Rattle.z_types.specs.declared.key.SetKey.{SetKey}
+use Rattle.z_types.specs.declared.query.RpnQuery.{RpnQuery}
+use Rattle.z_types.specs.declared.work.Work.{Work}
+use Rattle.z_types.specs.declared.work.Work.TheVariants as work
+use Rattle.route_config.specs.declared.route.Route.{Route}
+use Rattle.route_config.specs.declared.route.RouteLeg.{RouteLeg}
+use Rattle.gateway_rules.specs.Outcomes.{legs_asked, places_from}
+use Rattle.leg.specs.Tasks.{want_of}
+use Rattle.leg.specs.Terms.{class_of, databases_of}
+use Rattle.leg.specs.declared.tasks.Task.TheVariants.{Scan}
+use Rattle.package_rules.specs.Asked.{Asked, all_records_asked, first_asked, hits_asked, key_at, leg_of, ranks_of, records_asked, span_of, spans_of}
+use Rattle.package_rules.specs.Planned.{AreThere, legs_named}
+use Rattle.package_rules.specs.declared.spans.Span.{Span}
+use Rattle.package_rules.proofs.LegsAsked.{IsLegOf, first_of}
+use Rattle.sharing_rules.specs.Needed.{is_in}
+use Rattle.sharing_rules.specs.Uses.{Use, key_if, use_at}
+use Rattle.sharing_rules.specs.steps.Shared.{use_now}
+use Rattle.conn_shares.specs.steps.Requests.{uses_at}
+use Rattle.conn_shares.proofs.OnceLemmas.{IsOfNone, IsTheOne, among-contains, apart-distinct, apart-unique, each-unique, one-or-none, range-map, same-truth, unique-among, unique-distinct}
+use Rattle.conn_shares.proofs.OwnUses.{own_of}
+
+-- the use of what is asked
+abbrev pub use_asked : Route → (now : ℕ) → Asked → Use
+use_asked route now asked = use_now (class_of route asked.leg) now (want_of asked.task)
+
+-- the key of a leg, of a query that may be there
+abbrev key_by : Route → Option RpnQuery → ℕ → Option SetKey
+key_by route None leg = None
+key_by route (Some query) leg = Some (key_at route leg query)
+
+module _ (route : Route) (now : ℕ) where
+  -- the use of a leg
+  abbrev pub use_by : Option RpnQuery → ℕ → Use
+  use_by query leg = use_now (class_of route leg) now (key_by route query leg)
+
+  -- ---- legs of the route
+
+  abbrev use_in : Option RpnQuery → RouteLeg → Use
+  use_in query leg = use_at now (key_if query leg) leg
+
+  by-there : (query : Option RpnQuery) (leg : ℕ) (found : RouteLeg) → slice_get route.legs leg ≡ Some found → use_by query leg ≡ use_in query found
+  by-there None leg found is = ap (λ (o : Option RouteLeg). use_now (option_map_or (λ (l : RouteLeg). l.class) o 0) now None) is
+  by-there (Some query) leg found is =
+      ap (λ (o : Option RouteLeg). use_now (option_map_or (λ (l : RouteLeg). l.class) o 0) now
+      (Some (record { dbs = option_map_or (λ (l : RouteLeg). l.databases) o []; query = query }))) is
+
+  there-one : (query : Option RpnQuery) (leg : ℕ) (others : List RouteLeg) → leg < length route.legs
+      → ((x : RouteLeg) × (leg < length route.legs) × (slice_get route.legs leg ≡ Some x) × (get_or route.legs leg x ≡ x))
+      ⊎ ((length route.legs ≤ leg) × (slice_get route.legs leg ≡ None))
+      → map (use_in query) (cons_option (slice_get route.legs leg) others) ≡ use_by query leg ∷ map (use_in query) others
+  there-one query leg others inside (inl h) =
+      ap (λ (o : Option RouteLeg). map (use_in query) (cons_option o others)) h.2
+      ∙ ap (λ (u : Use). u ∷ map (use_in query) others) (sym (by-there query leg h.0 h.2))
+  there-one query leg others inside (inr h) = absurd (omega (arith, inside, h.0))
+
+  IsThere : ℕ → Type 0
+  IsThere leg = leg < length route.legs
+
+  there-uses : (query : Option RpnQuery) (legs : List ℕ) → AllByRecursion (λ leg. leg < length route.legs) legs
+      → map (use_in query) (filter_map (slice_get route.legs) legs) ≡ map (use_by query) legs
+  there-uses query [] there = refl
+  there-uses query (leg ∷ legs) there =
+      there-one query leg (filter_map (slice_get route.legs) legs) there.0 (slice_get_cases route.legs leg).1
+      ∙ ap (λ (us : List Use). use_by query leg ∷ us) (there-uses query legs there.1)
+
+  -- ---- the one of a class
+
+  module _ (query : Option RpnQuery) (class : ℕ) where
+    none-of : (legs : List ℕ) → IsOfNone (class_of route) class legs → own_of class (map (use_by query) legs) ≡ []
+    none-of [] none = refl
+    none-of (leg ∷ legs) none =
+        ap (λ (b : Bool). cond b (use_by query leg ∷ own_of class (map (use_by query) legs)) (own_of class (map (use_by query) legs))) none.0
+        ∙ none-of legs none.1
+
+    not-among : (leg : ℕ) (legs : List ℕ) → AllByRecursion (λ y. nat_eq leg y ≡ false) legs → list_any (nat_eq leg) legs ≡ false
+    not-among leg [] none = refl
+    not-among leg (y ∷ legs) none = ap (λ (b : Bool). b || list_any (nat_eq leg) legs) none.0 ∙ not-among leg legs none.1
+
+    abbrev if_among : ℕ → List ℕ → List Use
+    if_among leg legs = cond (list_any (nat_eq leg) legs) (use_by query leg ∷ []) []
+
+    one-of : (leg : ℕ) (legs : List ℕ) → class_of route leg ≡ class → IsDistinct nat_eq legs
+        → AllByRecursion (λ x. nat_eq (class_of route x) class ≡ true → x ≡ leg) legs
+        → own_of class (map (use_by query) legs) ≡ if_among leg legs
+    unfolding IsDistinct
+    one-of leg [] own distinct only = refl
+    one-of leg (x ∷ legs) own distinct only =
+        let rest = one-of leg legs own distinct.1 only.1 in
+        (elim (nat_eq (class_of route x) class) as (λ (b : Bool). nat_eq (class_of route x) class ≡ b → cond b (use_by query x ∷ own_of class (map (use_by query) legs)) (own_of class (map (use_by query) legs)) ≡ if_among leg (x ∷ legs)) [
+          | true ↦ λ e.
+              let same : x ≡ leg = only.0 e in
+              let away : list_any (nat_eq leg) legs ≡ false =
+              not-among leg legs (subst (λ (z : ℕ). AllByRecursion (λ y. nat_eq z y ≡ false) legs) same distinct.0) in
+              let here : nat_eq leg x ≡ true = ap (nat_eq leg) same ∙ nat_eq_equiv.refl leg in
+              ap (λ (us : List Use). use_by query x ∷ us) (rest ∙ ap (λ (b : Bool). cond b (use_by query leg ∷ []) []) away)
+              ∙ ap (λ (z : ℕ). use_by query z ∷ []) same
+              ∙ sym (ap (λ (b : Bool). cond (b || list_any (nat_eq leg) legs) (use_by query leg ∷ []) []) here)
+          | false ↦ λ e.
+              let apart : nat_eq leg x ≡ false =
+              (elim (nat_eq leg x) as (λ (b : Bool). nat_eq leg x ≡ b → b ≡ false) [
+                | true ↦ λ f.
+                    let is : nat_eq (class_of route x) class ≡ true =
+                    ap (λ (z : ℕ). nat_eq (class_of route z) class) (sym (eqb-true leg x f)) ∙ ap (λ (c : ℕ). nat_eq c class) own ∙ nat_eq_equiv.refl class in
+                    absurd cc
+                | false ↦ λ f. refl
+              ]) refl in
+              rest ∙ sym (ap (λ (b : Bool). cond (b || list_any (nat_eq leg) legs) (use_by query leg ∷ []) []) apart)
+        ]) refl
+
+    -- legs with the same members have the same use of the class
+    same-own : (legs ones others : List ℕ) → IsDistinct nat_eq (map (class_of route) legs)
+        → ((P : ℕ → Type 0) → AllByRecursion P legs → AllByRecursion P ones) → ((P : ℕ → Type 0) → AllByRecursion P legs → AllByRecursion P others)
+        → IsDistinct nat_eq ones → IsDistinct nat_eq others → ((leg : ℕ) → list_any (nat_eq leg) ones ≡ list_any (nat_eq leg) others)
+        → own_of class (map (use_by query) ones) ≡ own_of class (map (use_by query) others)
+    same-own legs ones others apart within inside one other same = by-case (one-or-none (class_of route) class legs apart)
+      where
+        by-case : IsTheOne (class_of route) class legs ⊎ IsOfNone (class_of route) class legs
+            → own_of class (map (use_by query) ones) ≡ own_of class (map (use_by query) others)
+        by-case (inl the) =
+            one-of the.leg ones the.own one (within (λ x. nat_eq (class_of route x) class ≡ true → x ≡ the.leg) the.only)
+            ∙ ap (λ (b : Bool). cond b (use_by query the.leg ∷ []) []) (same the.leg)
+            ∙ sym (one-of the.leg others the.own other (inside (λ x. nat_eq (class_of route x) class ≡ true → x ≡ the.leg) the.only))
+        by-case (inr none) =
+            none-of ones (within (λ x. nat_eq (class_of route x) class ≡ false) none)
+            ∙ sym (none-of others (inside (λ x. nat_eq (class_of route x) class ≡ false) none))
+
+-- ---- the legs of records
+
+each-map : {A B : Type 0} (P : B → Type 0) (f : A → B) (xs : List A) → AllByRecursion (λ x. P (f x)) xs → AllByRecursion P (map f xs)
+each-map P f [] each = tt
+each-map P f (x ∷ xs) each = (each.0, each-map P f xs each.1)
+
+each-append : {A : Type 0} (P : A → Type 0) (xs ys : List A) → AllByRecursion P xs → AllByRecursion P ys → AllByRecursion P (xs ++ ys)
+each-append P [] ys one other = other
+each-append P (x ∷ xs) ys one other = (one.0, each-append P xs ys one.1 other)
+
+module _ (places : List Place) where
+  abbrev spans_in : List ℕ → List Span
+  spans_in legs = flat_map (λ leg. span_of leg (ranks_of leg places)) legs
+
+  -- of places of legs, each with ranks there
+  pub spans-each : (P : ℕ → Type 0) (legs : List ℕ) → AllByRecursion (λ leg. 1 ≤ length (ranks_of leg places) → P leg) legs
+      → AllByRecursion (λ (s : Span). P s.leg) (spans_in legs)
+  spans-each P [] each = tt
+  spans-each P (leg ∷ legs) each =
+      each-append (λ (s : Span). P s.leg) (span_of leg (ranks_of leg places)) (spans_in legs)
+      ((elim (ranks_of leg places) as (λ (rs : List ℕ). (1 ≤ length rs → P leg) → AllByRecursion (λ (s : Span). P s.leg) (span_of leg rs)) [
+        | [] ↦ λ p. tt
+        | rank ∷ ranks ↦ λ p. (p (omega arith), tt)
+      ]) each.0) (spans-each P legs each.1)
+
+  -- they go to different classes, where all do
+  spans-away : (at : ℕ → ℕ) (class : ℕ) (legs : List ℕ) → AllByRecursion (λ k. nat_eq class k ≡ false) (map at legs)
+      → AllByRecursion (λ k. nat_eq class k ≡ false) (map (λ (s : Span). at s.leg) (spans_in legs))
+  spans-away at class legs away =
+      each-map (λ k. nat_eq class k ≡ false) (λ (s : Span). at s.leg) (spans_in legs)
+      (spans-each (λ leg. nat_eq class (at leg) ≡ false) legs (weaken legs away))
+    where
+      weaken : (legs : List ℕ) → AllByRecursion (λ k. nat_eq class k ≡ false) (map at legs)
+          → AllByRecursion (λ leg. 1 ≤ length (ranks_of leg places) → nat_eq class (at leg) ≡ false) legs
+      weaken [] away = tt
+      weaken (leg ∷ legs) away = (λ some. away.0, weaken legs away.1)
+
+  spans-apart : (at : ℕ → ℕ) (legs : List ℕ) → IsDistinct nat_eq (map at legs) → IsDistinct nat_eq (map (λ (s : Span). at s.leg) (spans_in legs))
+  unfolding IsDistinct
+  spans-apart at [] apart = tt
+  spans-apart at (leg ∷ legs) apart =
+      (elim (ranks_of leg places) as (λ (rs : List ℕ). IsDistinct nat_eq (map (λ (s : Span). at s.leg) (span_of leg rs ++ spans_in legs))) [
+        | [] ↦ spans-apart at legs apart.1
+        | rank ∷ ranks ↦ (spans-away at (at leg) legs apart.0, spans-apart at legs apart.1)
+      ])
+
+module _ (route : Route) (legs : List ℕ) (places : List Place) where
+  -- the legs of the records
+  abbrev pub legs_had : List ℕ
+  legs_had = map (λ (s : Span). leg_of legs s.leg) (spans_of (length legs) places)
+
+  numbers-each : (P : ℕ → Type 0) (from count : ℕ) → ((i : ℕ) → i < from + count → P i) → AllByRecursion P (range_with_len from count)
+  numbers-each P from zero each = tt
+  numbers-each P from (suc count) each =
+      (each from (omega arith), numbers-each P (from + 1) count (λ i inside. each i (omega (arith, inside))))
+
+  at-each : (P : ℕ → Type 0) (xs : List ℕ) (i : ℕ) → AllByRecursion P xs → i < length xs → P (get_or xs i 0)
+  at-each P [] i each inside = absurd (omega (arith, inside))
+  at-each P (x ∷ xs) zero each inside = each.0
+  at-each P (x ∷ xs) (suc i) each inside = at-each P xs i each.1 (omega (arith, inside))
+
+  had-each : (P : ℕ → Type 0) → AllByRecursion P legs → AllByRecursion P legs_had
+  had-each P each =
+      each-map P (λ (s : Span). leg_of legs s.leg) (spans_of (length legs) places)
+      (spans-each places (λ i. P (leg_of legs i)) (range_with_len 0 (length legs))
+      (numbers-each (λ i. 1 ≤ length (ranks_of i places) → P (leg_of legs i)) 0 (length legs)
+      (λ i inside some. at-each P legs i each (omega (arith, inside)))))
+
+  pub had-apart : IsDistinct nat_eq (map (class_of route) legs)
+      → IsDistinct nat_eq (map (λ (s : Span). class_of route (leg_of legs s.leg)) (spans_of (length legs) places))
+  had-apart apart =
+      spans-apart places (λ i. class_of route (leg_of legs i)) (range_with_len 0 (length legs))
+      (subst (λ (ks : List ℕ). IsDistinct nat_eq ks)
+      (sym (range-map (class_of route) (leg_of legs) legs 0 (λ j inside. ap (λ (i : ℕ). get_or legs i 0) (let e : 0 + j ≡ j = omega arith in e)))) apart)
