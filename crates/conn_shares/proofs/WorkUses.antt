@@ -1,5 +1,5 @@
 -- The uses of a work are those of what it asks first: of each class the same
-use Rattle.std.proofs.Common.{◌≡◌, ◌∙◌, ◌||◌, ◌==◌, ◌+◌, ◌⊎◌, ◌≤◌, ℕ, zero, suc, ◌<◌, Bool, true, false, cond, inl, inr, List, [], ◌∷◌, ◌++◌, map, length, get_or, filter, All, Contains, Option, None, Some, refl, sym, ap, subst, nat_eq, arith, slice_get, option_to_list, is_some}
+use Rattle.std.proofs.Common.{◌≡◌, ◌≢◌, ◌∙◌, ◌||◌, ◌==◌, ◌+◌, ◌⊎◌, ◌≤◌, ℕ, zero, suc, ◌<◌, Bool, true, false, cond, inl, inr, List, [], ◌∷◌, ◌++◌, map, length, get_or, filter, All, Contains, Option, None, Some, refl, sym, ap, subst, nat_eq, arith, slice_get, option_to_list, is_some}
 use Rattle.std.specs.Prelude.{filter_map, flat_map, if◌then◌else◌}
 use Rattle.std.specs.Cmp.{nat_eq_equiv}
 use Rattle.std.specs.List.{AllByRecursion, IsDistinct, cons_option, list_any, range_with_len}
@@ -27,7 +27,7 @@ use Rattle.sharing_rules.specs.Needed.{is_in}
 use Rattle.sharing_rules.specs.Uses.{Use, key_if, use_at}
 use Rattle.sharing_rules.specs.steps.Shared.{use_now}
 use Rattle.conn_shares.specs.steps.Requests.{uses_at}
-use Rattle.conn_shares.proofs.OnceLemmas.{IsOfNone, IsTheOne, among-contains, apart-distinct, apart-unique, each-unique, one-or-none, range-map, same-truth, unique-among, unique-distinct}
+use Rattle.conn_shares.proofs.OnceLemmas.{IsOfNone, IsTheOne, among-contains, among-each, apart-distinct, apart-unique, each-unique, one-or-none, or-true, range-map, same-truth, unique-among, unique-distinct}
 use Rattle.conn_shares.proofs.OwnUses.{own_of}
 
 -- the use of what is asked
@@ -196,7 +196,7 @@ module _ (route : Route) (legs : List ℕ) (places : List Place) where
   at-each P (x ∷ xs) zero each inside = each.0
   at-each P (x ∷ xs) (suc i) each inside = at-each P xs i each.1 (omega (arith, inside))
 
-  had-each : (P : ℕ → Type 0) → AllByRecursion P legs → AllByRecursion P legs_had
+  pub had-each : (P : ℕ → Type 0) → AllByRecursion P legs → AllByRecursion P legs_had
   had-each P each =
       each-map P (λ (s : Span). leg_of legs s.leg) (spans_of (length legs) places)
       (spans-each places (λ i. P (leg_of legs i)) (range_with_len 0 (length legs))
@@ -209,3 +209,186 @@ module _ (route : Route) (legs : List ℕ) (places : List Place) where
       spans-apart places (λ i. class_of route (leg_of legs i)) (range_with_len 0 (length legs))
       (subst (λ (ks : List ℕ). IsDistinct nat_eq ks)
       (sym (range-map (class_of route) (leg_of legs) legs 0 (λ j inside. ap (λ (i : ℕ). get_or legs i 0) (let e : 0 + j ≡ j = omega arith in e)))) apart)
+
+-- ---- the legs that a fetch asks
+
+module _ (legs : List ℕ) where
+  -- by its places
+  abbrev asked_at : List Place → List ℕ
+  asked_at places = flat_map (λ place. option_to_list (slice_get legs place.leg)) places
+
+  ranks-some : (places : List Place) (place : Place) → Contains places place → 1 ≤ length (ranks_of place.leg places)
+  ranks-some [] place (i, inside, is) = absurd (omega (arith, inside))
+  ranks-some (one ∷ places) place (zero, inside, is) =
+      let own : (one.leg == place.leg) ≡ true = ap (λ (p : Place). p.leg == place.leg) is ∙ nat_eq_equiv.refl place.leg in
+      subst (λ (b : Bool). 1 ≤ length (map (λ (p : Place). p.rank) (cond b (one ∷ filter (λ (p : Place). p.leg == place.leg) places) (filter (λ (p : Place). p.leg == place.leg) places))))
+      (sym own) (omega arith)
+  ranks-some (one ∷ places) place (suc i, inside, is) =
+      let rest = ranks-some places place (i, omega (arith, inside), is) in
+      (elim (one.leg == place.leg) as (λ (b : Bool). 1 ≤ length (map (λ (p : Place). p.rank) (cond b (one ∷ filter (λ (p : Place). p.leg == place.leg) places) (filter (λ (p : Place). p.leg == place.leg) places)))) [
+        | true ↦ omega arith
+        | false ↦ rest
+      ])
+
+  any-append : (test : ℕ → Bool) (xs ys : List ℕ) → list_any test ys ≡ true → list_any test (xs ++ ys) ≡ true
+  any-append test [] ys is = is
+  any-append test (x ∷ xs) ys is = ap (λ (b : Bool). test x || b) (any-append test xs ys is) ∙ or-true (test x)
+
+  module _ (places : List Place) where
+    -- the span of a leg that has ranks is among them
+    span-among : (leg from count : ℕ) → from ≤ leg → leg < from + count → 1 ≤ length (ranks_of leg places)
+        → list_any (nat_eq (leg_of legs leg)) (map (λ (s : Span). leg_of legs s.leg) (spans_in places (range_with_len from count))) ≡ true
+    span-among leg from zero low high some = absurd (omega (arith, low, high))
+    span-among leg from (suc count) low high some =
+        (elim (nat_eq leg from) as (λ (b : Bool). nat_eq leg from ≡ b → list_any (nat_eq (leg_of legs leg)) (map (λ (s : Span). leg_of legs s.leg) (spans_in places (range_with_len from (suc count)))) ≡ true) [
+          | true ↦ λ e. subst (λ (k : ℕ). list_any (nat_eq (leg_of legs leg)) (map (λ (s : Span). leg_of legs s.leg) (span_of k (ranks_of k places) ++ spans_in places (range_with_len (from + 1) count))) ≡ true)
+              (eqb-true leg from e) (here (ranks_of leg places) some)
+          | false ↦ λ e.
+              past (ranks_of from places)
+              (span-among leg (from + 1) count (let away : from ≢ leg = not-same leg from e in omega (arith, low, away)) (omega (arith, high)) some)
+        ]) refl
+      where
+        here : (ranks : List ℕ) → 1 ≤ length ranks
+            → list_any (nat_eq (leg_of legs leg)) (map (λ (s : Span). leg_of legs s.leg) (span_of leg ranks ++ spans_in places (range_with_len (from + 1) count))) ≡ true
+        here [] some = absurd (omega (arith, some))
+        here (rank ∷ ranks) some = ap (λ (b : Bool). b || list_any (nat_eq (leg_of legs leg)) (map (λ (s : Span). leg_of legs s.leg) (spans_in places (range_with_len (from + 1) count)))) (nat_eq_equiv.refl (leg_of legs leg))
+
+        past : (ranks : List ℕ)
+            → list_any (nat_eq (leg_of legs leg)) (map (λ (s : Span). leg_of legs s.leg) (spans_in places (range_with_len (from + 1) count))) ≡ true
+            → list_any (nat_eq (leg_of legs leg)) (map (λ (s : Span). leg_of legs s.leg) (span_of from ranks ++ spans_in places (range_with_len (from + 1) count))) ≡ true
+        past [] is = is
+        past (rank ∷ ranks) is = ap (λ (b : Bool). nat_eq (leg_of legs leg) (leg_of legs from) || b) is ∙ or-true (nat_eq (leg_of legs leg) (leg_of legs from))
+
+        not-same : (a b : ℕ) → nat_eq a b ≡ false → b ≢ a
+        not-same a b apart same =
+            let is : nat_eq a b ≡ true = ap (nat_eq a) same ∙ nat_eq_equiv.refl a in absurd cc
+
+    IsHad : ℕ → Type 0
+    IsHad leg = list_any (nat_eq leg) (map (λ (s : Span). leg_of legs s.leg) (spans_of (length legs) places)) ≡ true
+
+    had-at : (place : Place) (found : Option ℕ) → slice_get legs place.leg ≡ found → Contains places place
+        → AllByRecursion (λ leg. list_any (nat_eq leg) (map (λ (s : Span). leg_of legs s.leg) (spans_of (length legs) places)) ≡ true) (option_to_list found)
+    had-at place None is among = tt
+    had-at place (Some leg) is among = (
+      subst (λ (l : ℕ). list_any (nat_eq l) (map (λ (s : Span). leg_of legs s.leg) (spans_of (length legs) places)) ≡ true)
+          (get_or_from_slice_get legs place.leg leg 0 is)
+          (span-among place.leg 0 (length legs) (omega arith) (let inside = slice_get_within legs place.leg leg is in omega (arith, inside)) (ranks-some places place among)),
+      tt,
+    )
+
+    -- each leg that is asked is among the legs of the records
+    asked-had : (some : List Place) → AllByRecursion (Contains places) some
+        → AllByRecursion (λ leg. list_any (nat_eq leg) (map (λ (s : Span). leg_of legs s.leg) (spans_of (length legs) places)) ≡ true) (asked_at some)
+    asked-had [] among = tt
+    asked-had (place ∷ some) among =
+        each-append (λ leg. list_any (nat_eq leg) (map (λ (s : Span). leg_of legs s.leg) (spans_of (length legs) places)) ≡ true)
+        (option_to_list (slice_get legs place.leg)) (asked_at some)
+        (had-at place (slice_get legs place.leg) refl among.0) (asked-had some among.1)
+
+    -- each leg that is asked is one of the legs
+    asked-each : (P : ℕ → Type 0) → AllByRecursion P legs → (some : List Place) → AllByRecursion P (asked_at some)
+    asked-each P each [] = tt
+    asked-each P each (place ∷ some) =
+        each-append P (option_to_list (slice_get legs place.leg)) (asked_at some)
+        (by-get (slice_get legs place.leg) refl) (asked-each P each some)
+      where
+        at-each : (xs : List ℕ) (i : ℕ) (x : ℕ) → AllByRecursion P xs → slice_get xs i ≡ Some x → P x
+        at-each [] i x each is = absurd cc
+        at-each (y ∷ xs) zero x each is = let same : y ≡ x = cc in subst P same each.0
+        at-each (y ∷ xs) (suc i) x each is = at-each xs i x each.1 is
+
+        by-get : (found : Option ℕ) → slice_get legs place.leg ≡ found → AllByRecursion P (option_to_list found)
+        by-get None is = tt
+        by-get (Some leg) is = (at-each legs place.leg leg each is, tt)
+
+-- ---- all works
+
+map-each : {A B C : Type 0} (f : A → B) (g : B → C) (xs : List A) → map g (map f xs) ≡ map (λ x. g (f x)) xs
+map-each f g [] = refl
+map-each {A} {B} {C} f g (x ∷ xs) = ap (λ (ys : List C). g (f x) ∷ ys) (map-each f g xs)
+
+module _ (route : Route) (now class : ℕ) where
+  abbrev IsSame : Work → Type 0
+  IsSame asked = own_of class (uses_at route now asked) ≡ own_of class (map (use_asked route now) (first_asked route asked))
+
+  abbrev MayAsk : Work → Type 0
+  MayAsk asked = AreThere route asked → IsDistinct nat_eq (map (class_of route) (legs_named asked)) → IsSame asked
+
+  -- the uses of records are those of their legs
+  records-by : (legs : List ℕ) (query : RpnQuery) (syntax element : Option (List ℕ)) (spans : List Span)
+      → map (use_asked route now) (map (records_asked route legs query syntax element) spans)
+      ≡ map (use_by route now (Some query)) (map (λ (s : Span). leg_of legs s.leg) spans)
+  records-by legs query syntax element [] = refl
+  records-by legs query syntax element (span ∷ spans) =
+      ap (λ (us : List Use). use_by route now (Some query) (leg_of legs span.leg) ∷ us) (records-by legs query syntax element spans)
+
+  hits-by : (legs : List ℕ) (query : RpnQuery)
+      → map (use_asked route now) (map (hits_asked route query) legs) ≡ map (use_by route now (Some query)) legs
+  hits-by [] query = refl
+  hits-by (leg ∷ legs) query = ap (λ (us : List Use). use_by route now (Some query) leg ∷ us) (hits-by legs query)
+
+  pub work-own : (asked : Work) → MayAsk asked
+  work-own (work.Search login legs query small large medium small_element medium_element syntax room) there apart =
+      ap (own_of class)
+      (ap (λ (ls : List ℕ). map (λ (l : RouteLeg). use_at now (Some (record { dbs = l.databases; query = query })) l) (filter_map (slice_get route.legs) ls))
+      (apart-unique (class_of route) legs apart)
+      ∙ there-uses route now (Some query) legs (recursion_from_All (λ leg. leg < length route.legs) legs there) ∙ sym (hits-by legs query))
+  work-own (work.Fetch login legs query hits first count syntax element) there apart =
+      let places = places_from hits first count in
+      let asked = asked_at legs places in
+      let is_there = recursion_from_All (λ leg. leg < length route.legs) legs there in
+      ap (own_of class)
+      (there-uses route now (Some query) (unique_keys nat_eq asked)
+      (each-unique (λ leg. leg < length route.legs) asked (asked-each legs places (λ leg. leg < length route.legs) is_there places)))
+      ∙ same-own route now (Some query) class legs (unique_keys nat_eq asked) (legs_had route legs places) apart
+      (λ P each. each-unique P asked (asked-each legs places P each places)) (had-each route legs places) (unique-distinct asked)
+      (apart-distinct (class_of route) (legs_had route legs places)
+      (subst (λ (ks : List ℕ). IsDistinct nat_eq ks) (sym (map-each (λ (s : Span). leg_of legs s.leg) (class_of route) (spans_of (length legs) places)))
+      (had-apart route legs places apart)))
+      (λ leg. unique-among asked leg ∙ same-truth (list_any (nat_eq leg) asked) (list_any (nat_eq leg) (legs_had route legs places))
+      (λ is. among-each (λ l. list_any (nat_eq l) (legs_had route legs places) ≡ true) asked leg
+      (asked-had legs places places (recursion_from_All (Contains places) places (All-contains_itself places))) is)
+      (λ is. among-each (λ l. list_any (nat_eq l) asked ≡ true) (legs_had route legs places) leg (back there) is))
+      ∙ ap (own_of class) (sym (records-by legs query syntax element (spans_of (length legs) places)))
+    where
+      asks : List Asked
+      asks = all_records_asked route legs query syntax element (places_from hits first count)
+
+      leg-back : (spans : List Span)
+          → AllByRecursion (λ (a : Asked). IsLegOf route (work.Fetch login legs query hits first count syntax element) a.leg) (map (records_asked route legs query syntax element) spans)
+          → AllByRecursion (λ l. list_any (nat_eq l) (asked_at legs (places_from hits first count)) ≡ true) (map (λ (s : Span). leg_of legs s.leg) spans)
+      leg-back [] each = tt
+      leg-back (span ∷ spans) each =
+          (among-contains (asked_at legs (places_from hits first count)) (leg_of legs span.leg) each.0.named, leg-back spans each.1)
+
+      back : AreThere route (work.Fetch login legs query hits first count syntax element)
+          → AllByRecursion (λ l. list_any (nat_eq l) (asked_at legs (places_from hits first count)) ≡ true) (legs_had route legs (places_from hits first count))
+      back there =
+          leg-back (spans_of (length legs) (places_from hits first count))
+          (recursion_from_All (λ (a : Asked). IsLegOf route (work.Fetch login legs query hits first count syntax element) a.leg) asks
+          (first_of route (work.Fetch login legs query hits first count syntax element) there))
+  work-own (work.Scan login leg ask) there apart =
+      ap (own_of class) (there-uses route now None (leg ∷ []) (recursion_from_All (λ l. l < length route.legs) (leg ∷ []) there))
+
+-- ---- what is asked goes to different classes
+
+-- the classes of what is asked
+abbrev pub classes_asked : Route → List Asked → List ℕ
+classes_asked route asked = map (λ (a : Asked). class_of route a.leg) asked
+
+module _ (route : Route) where
+  pub records-apart : (legs : List ℕ) (query : RpnQuery) (syntax element : Option (List ℕ)) (places : List Place)
+      → IsDistinct nat_eq (map (class_of route) legs)
+      → IsDistinct nat_eq (classes_asked route (all_records_asked route legs query syntax element places))
+  records-apart legs query syntax element places apart =
+      subst (λ (ks : List ℕ). IsDistinct nat_eq ks)
+      (sym (map-each (records_asked route legs query syntax element) (λ (a : Asked). class_of route a.leg) (spans_of (length legs) places)))
+      (had-apart route legs places apart)
+
+  pub first-apart : (asked : Work) → IsDistinct nat_eq (map (class_of route) (legs_named asked))
+      → IsDistinct nat_eq (classes_asked route (first_asked route asked))
+  first-apart (work.Search login legs query small large medium small_element medium_element syntax room) apart =
+      subst (λ (ks : List ℕ). IsDistinct nat_eq ks) (sym (map-each (hits_asked route query) (λ (a : Asked). class_of route a.leg) legs)) apart
+  first-apart (work.Fetch login legs query hits first count syntax element) apart =
+      records-apart legs query syntax element (places_from hits first count) apart
+  first-apart (work.Scan login leg ask) apart = apart
