@@ -24,6 +24,10 @@ use Rattle.conn_shares.proofs.UsesLemmas.{other-in, same-self}
 abbrev counted_in : (Account → ℕ) → ℕ → Account → ℕ
 counted_in number class account = if account.class == class then number account else 0
 
+-- the account of a leg is of its class
+abbrev pub CountsItsClass : {S : Type 0} → Route → LegView S → Type 0
+CountsItsClass route leg = leg.account.class ≡ class_in route leg
+
 as-one : (b : Bool) → (if b then 1 else 0) ≡ one_if b
 as-one true = refl
 as-one false = refl
@@ -72,10 +76,6 @@ module _ {S : Type 0} (route : Route) (now : ℕ) where
 
   -- ---- what is counted of a class
 
-  -- the account of a leg is of its class
-  abbrev pub CountsItsClass : LegView S → Type 0
-  CountsItsClass leg = leg.account.class ≡ class_in route leg
-
   module _ (number : Account → ℕ) (class : ℕ) where
     abbrev counted : List (LegView S) → ℕ
     counted legs = sum_by (counted_in number class) (accounts_of legs)
@@ -83,18 +83,18 @@ module _ {S : Type 0} (route : Route) (now : ℕ) where
     counted-cons : (leg : LegView S) (legs : List (LegView S)) → counted (leg ∷ legs) ≡ counted_in number class leg.account + counted legs
     counted-cons leg legs = sum_by-cons (counted_in number class) leg.account (accounts_of legs)
 
-    other-counts : (leg : LegView S) → CountsItsClass leg → nat_eq class (class_in route leg) ≡ false → counted_in number class leg.account ≡ 0
+    other-counts : (leg : LegView S) → CountsItsClass route leg → nat_eq class (class_in route leg) ≡ false → counted_in number class leg.account ≡ 0
     other-counts leg own apart =
         ap (λ (t : Bool). if t then number leg.account else 0)
         (ap (λ (c : ℕ). c == class) own ∙ nat_eq_equiv.symm (class_in route leg) class ∙ apart)
 
-    own-counts : (leg : LegView S) → CountsItsClass leg → nat_eq class (class_in route leg) ≡ true
+    own-counts : (leg : LegView S) → CountsItsClass route leg → nat_eq class (class_in route leg) ≡ true
         → counted_in number class leg.account ≡ number leg.account
     own-counts leg own is =
         ap (λ (t : Bool). if t then number leg.account else 0)
         (ap (λ (c : ℕ). c == class) own ∙ nat_eq_equiv.symm (class_in route leg) class ∙ is)
 
-    none-counted : (legs : List (LegView S)) → AllByRecursion CountsItsClass legs → IsNot class legs → counted legs ≡ 0
+    none-counted : (legs : List (LegView S)) → AllByRecursion (CountsItsClass route) legs → IsNot class legs → counted legs ≡ 0
     none-counted [] own apart = refl
     none-counted (leg ∷ legs) own apart =
         let here = other-counts leg own.0 apart.0 in
@@ -118,7 +118,7 @@ module _ {S : Type 0} (route : Route) (now : ℕ) where
       abbrev CountsSo : LegView S → Type 0
       CountsSo leg = nat_eq class (class_in route leg) ≡ true → number leg.account ≡ (if test before (use_of route now leg) then 1 else 0)
 
-      all-counted : (legs : List (LegView S)) → AreApart route legs → AllByRecursion CountsItsClass legs → AllByRecursion CountsSo legs
+      all-counted : (legs : List (LegView S)) → AreApart route legs → AllByRecursion (CountsItsClass route) legs → AllByRecursion CountsSo legs
           → counted legs ≡ count_after test before (own_of class (uses_in legs))
       unfolding IsDistinct
       all-counted [] apart own so = refl
@@ -167,14 +167,14 @@ module _ {S : Type 0} (route : Route) (now : ℕ) where
       searches-so legs had.1,
     )
 
-    pub dials-counted : (legs : List (LegView S)) → AreApart route legs → AllByRecursion CountsItsClass legs
+    pub dials-counted : (legs : List (LegView S)) → AreApart route legs → AllByRecursion (CountsItsClass route) legs
         → AllByRecursion (HadItsCost w route now before) legs
         → sum_by (dials_in class) (accounts_of legs) ≡ count_after (needs_dial route class) before (uses_in legs)
     dials-counted legs apart own had =
         all-counted (λ account. account.dials) class (needs_dial route class) before legs apart own (dials-so legs had)
         ∙ sym (own-dials class route (uses_in legs) before before refl)
 
-    pub searches-counted : (legs : List (LegView S)) → AreApart route legs → AllByRecursion CountsItsClass legs
+    pub searches-counted : (legs : List (LegView S)) → AreApart route legs → AllByRecursion (CountsItsClass route) legs
         → AllByRecursion (HadItsCost w route now before) legs
         → sum_by (searches_in class) (accounts_of legs) ≡ count_after (needs_search w route class) before (uses_in legs)
     searches-counted legs apart own had =

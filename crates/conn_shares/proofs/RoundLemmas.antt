@@ -28,8 +28,13 @@ use Rattle.leg_shares.proofs.OtherLemmas.{kept-on, shares-on}
 use Rattle.leg_shares.proofs.StayLemmas.{stay-on}
 use Rattle.leg_shares.proofs.TurnLemmas.{turn-shares}
 use Rattle.conn_shares.specs.steps.Together.{AreApart, AreSharing, AreSharingOver, AreUndisturbed, IsOfNone, IsSharing, MayShare, class_in, classes_of}
+use Rattle.conn_shares.proofs.FullLemmas.{turn-unfull}
 use Rattle.conn_shares.proofs.MemoryLemmas.{had-some}
 use Rattle.conn_shares.proofs.UsesLemmas.{either-false}
+
+-- no leg has found the door full
+abbrev pub AreUnfull : {S : Type 0} → List (LegView S) → Type 0
+AreUnfull legs = AllByRecursion (λ leg. leg.account.fulls ≡ 0) legs
 
 -- none of these is the class
 none-is : (class : ℕ) (ks : List ℕ) → AllByRecursion (λ k. nat_eq class k ≡ false) ks → list_any (nat_eq class) ks ≡ false
@@ -47,6 +52,7 @@ module _ {W S : Type 0} (w : world.Ghosts W) (t : sitting.Ghosts S W) (exact : B
     of_route : IsPoolOf route pool
     same : class_in route new ≡ class_in route old
     shares : IsSharing w t route now before pool new
+    unfull : new.account.fulls ≡ old.account.fulls
     others : LeavesRest route (class_in route old) now p pool
 
   one-shares : (old new : LegView S) (answer : Turned) (door after : DoorView S) (backend moved : BackendView) (p : Pool S) → MayUseBy old
@@ -63,6 +69,9 @@ module _ {W S : Type 0} (w : world.Ghosts W) (t : sitting.Ghosts S W) (exact : B
         shares =
             subst (λ (l : ℕ). Shares w t route (class_of route l) now before new.task new.phase new.account on.pool) (sym h.leg)
             (subst (λ (k : Task). Shares w t route (class_of route old.leg) now before k new.phase new.account on.pool) (sym h.task) on.shares);
+        unfull =
+            turn-unfull w t route old.leg now before old.task may p of exact old.phase new.phase old.account new.account answer door after backend moved
+            told h.law is;
         others = on.others;
       }
 
@@ -77,6 +86,7 @@ module _ {W S : Type 0} (w : world.Ghosts W) (t : sitting.Ghosts S W) (exact : B
     of_route = of;
     same = ap (λ (l : LegView S). class_in route l) h.0;
     shares = subst (λ (l : LegView S). IsSharing w t route now before p l) (sym h.0) is;
+    unfull = ap (λ (l : LegView S). l.account.fulls) h.0;
     others = λ other apart. inl refl;
   }
   first-shares false old new news round then last door after backend moved p goes may h kept had none told of is =
@@ -102,6 +112,7 @@ module _ {W S : Type 0} (w : world.Ghosts W) (t : sitting.Ghosts S W) (exact : B
     pub of_route : IsPoolOf route pool
     pub same : classes_of route news ≡ classes_of route olds
     pub each : AllByRecursion (IsSharing w t route now before pool) news
+    pub unfull : AreUnfull olds → AreUnfull news
     pub left : (class : ℕ) → IsOfNone route olds class
         → StayOrExpire route now (of_class class p.sessions) (of_class class pool.sessions)
 
@@ -116,6 +127,7 @@ module _ {W S : Type 0} (w : world.Ghosts W) (t : sitting.Ghosts S W) (exact : B
     of_route = of;
     same = refl;
     each = tt;
+    unfull = λ none. none;
     left = λ class away. inl refl;
   }
   legs-share [] (new ∷ news) round last door after backend moved p apart may h had none told of are = absurd h
@@ -137,6 +149,7 @@ module _ {W S : Type 0} (w : world.Ghosts W) (t : sitting.Ghosts S W) (exact : B
               new.task new.phase new.account one.shares,
           rest.each,
         );
+        unfull = λ none. (one.unfull ∙ none.0, rest.unfull none.1);
         left = λ class none_of.
             let both = either-false (nat_eq class (class_in route old)) (list_any (nat_eq class) (classes_of route olds)) none_of in
             stay-on route now (of_class class p.sessions) (of_class class one.pool.sessions) (of_class class rest.pool.sessions)

@@ -137,7 +137,7 @@ module _ (route : Route) (now : ℕ) where
 
 -- ---- the legs of records
 
-each-map : {A B : Type 0} (P : B → Type 0) (f : A → B) (xs : List A) → AllByRecursion (λ x. P (f x)) xs → AllByRecursion P (map f xs)
+pub each-map : {A B : Type 0} (P : B → Type 0) (f : A → B) (xs : List A) → AllByRecursion (λ x. P (f x)) xs → AllByRecursion P (map f xs)
 each-map P f [] each = tt
 each-map P f (x ∷ xs) each = (each.0, each-map P f xs each.1)
 
@@ -186,12 +186,12 @@ module _ (route : Route) (legs : List ℕ) (places : List Place) where
   abbrev pub legs_had : List ℕ
   legs_had = map (λ (s : Span). leg_of legs s.leg) (spans_of (length legs) places)
 
-  numbers-each : (P : ℕ → Type 0) (from count : ℕ) → ((i : ℕ) → i < from + count → P i) → AllByRecursion P (range_with_len from count)
+  pub numbers-each : (P : ℕ → Type 0) (from count : ℕ) → ((i : ℕ) → i < from + count → P i) → AllByRecursion P (range_with_len from count)
   numbers-each P from zero each = tt
   numbers-each P from (suc count) each =
       (each from (omega arith), numbers-each P (from + 1) count (λ i inside. each i (omega (arith, inside))))
 
-  at-each : (P : ℕ → Type 0) (xs : List ℕ) (i : ℕ) → AllByRecursion P xs → i < length xs → P (get_or xs i 0)
+  pub at-each : (P : ℕ → Type 0) (xs : List ℕ) (i : ℕ) → AllByRecursion P xs → i < length xs → P (get_or xs i 0)
   at-each P [] i each inside = absurd (omega (arith, inside))
   at-each P (x ∷ xs) zero each inside = each.0
   at-each P (x ∷ xs) (suc i) each inside = at-each P xs i each.1 (omega (arith, inside))
