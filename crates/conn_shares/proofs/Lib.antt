@@ -8,4 +8,6 @@ pub mod MemoryLemmas
 pub mod RoundLemmas
 pub mod EndedLemmas
 pub mod NeedLemmas
+pub mod MayLemmas
+pub mod AgainLemmas
 pub mod PackageLemmas

@@ -21,17 +21,17 @@ use Rattle.conn_quiet.specs.steps.Quiet.{AreWell, HasNoCause}
 use Rattle.conn_quiet.proofs.PackageLemmas.{HadMemories}
 use Rattle.conn_shares.specs.steps.Packages.{MayPackageShare, PackageShares, PackageSharesOver}
 use Rattle.conn_shares.specs.steps.Together.{AreAllKept, AreApart, AreSharing, AreUndisturbed, HadItsCost, IsSharing, uses_behind}
-use Rattle.conn_shares.proofs.RoundLemmas.{round-shares}
+use Rattle.conn_shares.proofs.RoundLemmas.{AreUnfull, legs-share, round-shares}
 use Rattle.conn_shares.proofs.UsesLemmas.{done-leave}
 
 -- ---- two parts
 
 module _ {X : Type 0} (P : X → Type 0) where
-  front-all : (front back : List X) → AllByRecursion P (front ++ back) → AllByRecursion P front
+  pub front-all : (front back : List X) → AllByRecursion P (front ++ back) → AllByRecursion P front
   front-all [] back are = tt
   front-all (x ∷ front) back are = (are.0, front-all front back are.1)
 
-  back-all : (front back : List X) → AllByRecursion P (front ++ back) → AllByRecursion P back
+  pub back-all : (front back : List X) → AllByRecursion P (front ++ back) → AllByRecursion P back
   back-all [] back are = are
   back-all (x ∷ front) back are = back-all front back are.1
 
@@ -129,6 +129,46 @@ module _ {W S : Type 0} (w : world.Ghosts W) (t : sitting.Ghosts S W) (exact : B
       → PackageSharesOver w t route now before new after.pool
   package-shares old new answer door after backend moved pool may h has none told shares =
       turn-by old.planned old new answer h.round door after backend moved pool may h.turns has none told shares
+
+  -- ---- the door is never full
+
+  begun-unfull : (asked : List Asked) → AreUnfull {S = S} (map begun asked)
+  begun-unfull [] = tt
+  begun-unfull (ask ∷ asked) = (refl, begun-unfull asked)
+
+  plans-unfull : (new : PackageView S) (answer : Turned) → Plans route new answer → AreUnfull new.later
+  plans-unfull new turned.Memory h = subst (λ (ls : List (LegView S)). AreUnfull ls) (sym h.later) tt
+  plans-unfull new turned.Went h = subst (λ (ls : List (LegView S)). AreUnfull ls) (sym h.0.later) (begun-unfull _)
+  plans-unfull new turned.NotYet h = subst (λ (ls : List (LegView S)). AreUnfull ls) (sym h.0.later) (begun-unfull _)
+  plans-unfull new turned.Done h = subst (λ (ls : List (LegView S)). AreUnfull ls) (sym h.0.later) (begun-unfull _)
+
+  goes-unfull : (over : Bool) (new : PackageView S) (round : Round) (answer : Turned) → GoesOn w t exact route now over new round answer
+      → AreUnfull new.later
+  goes-unfull false new round answer h = subst (λ (ls : List (LegView S)). AreUnfull ls) (sym h.0.later) tt
+  goes-unfull true new round answer h = plans-unfull new answer h
+
+  unfull-by : (planned : Bool) (old new : PackageView S) (answer : Turned) (round : Round) (door after : DoorView S) (backend moved : BackendView)
+      (pool : Pool S) → MayPackageShare w route now before old
+      → TakesTurn w t exact route now planned old new answer round door after backend moved → answer ≢ turned.Memory
+      → AreUndisturbed (new.first ++ new.later) → door.pool ≡ Some pool → PackageShares w t route now before planned old pool
+      → AreUnfull old.first → AreUnfull old.later → AreUnfull new.first × AreUnfull new.later
+  unfull-by false old new answer round door after backend moved pool may h has none told shares first later =
+      let all = legs-share w t exact route now before old.first new.first no_round round door after backend moved pool may.first.apart may.first.each h.0
+      (goes-memory (all_done new.first) new round answer refl h.1 has) (front-all (λ leg. HasNoCause leg.account) new.first new.later none) told
+      shares.0.of shares.0.each in (all.unfull first, goes-unfull (all_done new.first) new round answer h.1)
+  unfull-by true old new answer round door after backend moved pool may h has none told shares first later =
+      let all = legs-share w t exact route now (uses_behind route now before old.first) old.later new.later no_round round door after backend moved pool
+      may.later.apart may.later.each h.2 (inl (lacks-said round.lacks _ answer h.3 has))
+      (back-all (λ leg. HasNoCause leg.account) new.first new.later none) told shares.1.of shares.1.each in
+      (subst (λ (ls : List (LegView S)). AreUnfull ls) (sym h.0) first, all.unfull later)
+
+  pub package-unfull : (old new : PackageView S) (answer : Turned) (door after : DoorView S) (backend moved : BackendView) (pool : Pool S)
+      → MayPackageShare w route now before old → IsPackageTurn w t exact route now old new answer door after backend moved
+      → answer ≢ turned.Memory → AreUndisturbed (new.first ++ new.later) → door.pool ≡ Some pool
+      → PackageShares w t route now before old.planned old pool → AreUnfull old.first → AreUnfull old.later
+      → AreUnfull new.first × AreUnfull new.later
+  package-unfull old new answer door after backend moved pool may h has none told shares first later =
+      unfull-by old.planned old new answer h.round door after backend moved pool may h.turns has none told shares first later
 
 -- ---- a quiet backend
 

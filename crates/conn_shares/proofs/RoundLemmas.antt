@@ -116,7 +116,7 @@ module _ {W S : Type 0} (w : world.Ghosts W) (t : sitting.Ghosts S W) (exact : B
     pub left : (class : ℕ) → IsOfNone route olds class
         → StayOrExpire route now (of_class class p.sessions) (of_class class pool.sessions)
 
-  legs-share : (olds news : List (LegView S)) (round last : Round) (door after : DoorView S) (backend moved : BackendView) (p : Pool S)
+  pub legs-share : (olds news : List (LegView S)) (round last : Round) (door after : DoorView S) (backend moved : BackendView) (p : Pool S)
       → AreApart route olds → AllByRecursion MayUseBy olds → HaveTurned w t exact route now olds news round last door after backend moved
       → HadMemories last news → AreUndisturbed news → door.pool ≡ Some p → IsPoolOf route p
       → AllByRecursion (IsSharing w t route now before p) olds → AllShare olds news p after.pool
