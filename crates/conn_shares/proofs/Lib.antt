@@ -11,3 +11,4 @@ pub mod NeedLemmas
 pub mod MayLemmas
 pub mod AgainLemmas
 pub mod PackageLemmas
+pub mod RequestLemmas
