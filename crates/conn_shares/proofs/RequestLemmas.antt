@@ -152,11 +152,11 @@ module _ {W S : Type 0} (w : world.Ghosts W) (t : sitting.Ghosts S W) (exact : B
             subst (λ (v : PackageView S). AreUnfull v.first × AreUnfull v.later) (sym is) (begun-unfull S (first_asked route asked), tt);
         may_share =
             subst (λ (v : PackageView S). MayPackageShare w route now before v) (sym is) (record {
-          first = may-first w route now before asked fair numbers may (map begun (first_asked route asked)) asks;
-          later =
-              subst (λ (us : List Use). MayShare {S = S} w route now us []) (sym (behind-legs {S = S} route now (map begun (first_asked route asked)) before))
-              (may-again w route now before asked fair numbers may (map begun (first_asked route asked)) asks [] tt tt);
-        });
+              first = may-first w route now before asked fair numbers may (map begun (first_asked route asked)) asks;
+              later =
+                  subst (λ (us : List Use). MayShare {S = S} w route now us []) (sym (behind-legs {S = S} route now (map begun (first_asked route asked)) before))
+                  (may-again w route now before asked fair numbers may (map begun (first_asked route asked)) asks [] tt tt);
+            });
         shares = subst (λ (v : PackageView S). PackageShares w t route now before v.planned v kept.pool) (sym is) begins;
         most = 0;
         of = λ planned. let wrong : false ≡ true = ap (λ (v : PackageView S). v.planned) (sym is) ∙ planned in absurd cc;

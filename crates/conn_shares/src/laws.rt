@@ -2,6 +2,7 @@
 //! The legs go to different classes; a pool that is not told is outside of it.
 
 ghost use Rattle.conn_shares.specs.steps.Laws.{BegunShares, DoneLegsLeaveUses, PackagesShare, QuietPackagesShare, RoundsShare};
+ghost use Rattle.conn_shares.specs.steps.Requests.{RequestsShare};
 
 use z_types::{Sitting, World};
 
@@ -29,4 +30,11 @@ pub fn packages_share<W: World, S: Sitting<W>>()
 /// A turn of a package with memory, over a quiet backend that counts exactly, at told addresses.
 pub fn quiet_packages_share<W: World, S: Sitting<W>>()
     ensures { QuietPackagesShare W.World S.Sitting }
+{}
+
+/// A request from its first turn to its last, with memory, over a quiet backend that counts exactly, on a
+/// fair route: it dials and searches just as the uses of its work need, none of its legs is marked, and
+/// each class is kept with these uses.
+pub fn requests_share<W: World, S: Sitting<W>>()
+    ensures { RequestsShare W.World S.Sitting }
 {}

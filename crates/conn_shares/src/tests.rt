@@ -1,7 +1,8 @@
 //! The laws of legs that share, over targets in memory.
 
 use crate::{
-    begun_shares, done_legs_leave_uses, packages_share, quiet_packages_share, rounds_share,
+    begun_shares, done_legs_leave_uses, packages_share, quiet_packages_share, requests_share,
+    rounds_share,
 };
 use gw_memory::FakeSession;
 use std::test::Fail;
@@ -14,5 +15,6 @@ fn the_laws_of_sharing_requests_hold_over_targets_in_memory(_: HostRuntime) -> R
     rounds_share::<TestWorld, FakeSession>();
     packages_share::<TestWorld, FakeSession>();
     quiet_packages_share::<TestWorld, FakeSession>();
+    requests_share::<TestWorld, FakeSession>();
     Ok(())
 }
