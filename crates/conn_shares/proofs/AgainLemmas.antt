@@ -1,5 +1,5 @@
 -- Legs that need nothing more count nothing, and leave the last uses as they were
-use Rattle.std.proofs.Common.{◌≡◌, ◌∙◌, ◌&&◌, ℕ, Bool, true, false, cond, List, [], ◌∷◌, find, map, Option, None, Some, refl, sym, ap, subst, option_map}
+use Rattle.std.proofs.Common.{◌≡◌, ◌∙◌, ◌&&◌, ℕ, Bool, true, false, cond, List, [], ◌∷◌, find, map, Option, Some, refl, sym, ap, option_map}
 use Rattle.std.specs.List.{AllByRecursion}
 use Rattle.std.specs.Option.{option_map_or}
 use Rattle.std.proofs.lemmas.Bool.{and_parts, eqb-true}
@@ -12,8 +12,6 @@ use Rattle.pool_sets.specs.Table.{same_key}
 use Rattle.leg.specs.Kept.{one_if}
 use Rattle.leg.specs.LegView.{LegView}
 use Rattle.leg.specs.Tasks.{want_of}
-use Rattle.leg.specs.declared.accounts.Account.{Account}
-use Rattle.package_rules.specs.Asked.{Asked}
 use Rattle.package.specs.steps.Packages.{asked_of}
 use Rattle.sharing_rules.specs.Needed.{is_in, is_set_in, last_at}
 use Rattle.sharing_rules.specs.Uses.{Use}
@@ -24,7 +22,6 @@ use Rattle.conn_shares.specs.steps.Requests.{behind}
 use Rattle.conn_shares.specs.steps.Together.{HadItsCost, class_in, use_of}
 use Rattle.conn_shares.proofs.CostLemmas.{uses_in}
 use Rattle.conn_shares.proofs.NeedLemmas.{NeedsNothing}
-use Rattle.conn_shares.proofs.UsesLemmas.{last-behind}
 
 module _ {W S : Type 0} (w : world.Ghosts W) (route : Route) (now : ℕ) (used : List Use) where
   abbrev pub NeedsNoMore : LegView S → Type 0

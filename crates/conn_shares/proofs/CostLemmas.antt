@@ -12,7 +12,7 @@ use Rattle.leg.specs.LegView.{LegView}
 use Rattle.leg.specs.Tasks.{want_of}
 use Rattle.leg.specs.declared.accounts.Account.{Account}
 use Rattle.package.specs.steps.Packages.{accounts_of}
-use Rattle.sharing_rules.specs.Needed.{count_after, is_in, needs_dial, needs_search}
+use Rattle.sharing_rules.specs.Needed.{count_after, needs_dial, needs_search}
 use Rattle.sharing_rules.specs.Uses.{Use}
 use Rattle.sharing_rules.specs.steps.Shared.{dial_due, search_due}
 use Rattle.conn_shares.specs.steps.Requests.{behind, dials_in, searches_in}

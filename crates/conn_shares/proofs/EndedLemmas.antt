@@ -1,5 +1,5 @@
 -- Legs that are done, as a package of a route has them: what each answered, and that none is marked where nothing went wrong
-use Rattle.std.proofs.Common.{◌≡◌, ◌∙◌, ◌&&◌, ◌+◌, ◌≤◌, ℕ, Bool, true, false, List, [], ◌∷◌, ◌++◌, All, Option, None, Some, refl, sym, ap, subst, arith, option_map}
+use Rattle.std.proofs.Common.{◌≡◌, ◌∙◌, ◌&&◌, ℕ, Bool, true, List, [], ◌∷◌, ◌++◌, All, Option, None, Some, refl, ap, subst, arith, option_map}
 use Rattle.std.specs.List.{AllByRecursion, cons_option}
 use Rattle.std.proofs.lemmas.List.Elements.{recursion_from_All}
 use Rattle.z_types.specs.declared.marks.Mark.{Mark}
@@ -8,7 +8,6 @@ use Rattle.z_types.specs.declared.sitting.Sitting as sitting
 use Rattle.z_types.specs.declared.world.World as world
 use Rattle.route_config.specs.Sound.{ArePoolNumbers}
 use Rattle.route_config.specs.declared.route.Route.{Route}
-use Rattle.gateway_rules.specs.Marks.{Cause, plain}
 use Rattle.leg.specs.LegView.{LegView}
 use Rattle.leg.specs.Kept.{StandsAt}
 use Rattle.leg.specs.Phases.{answered, is_done}

@@ -1,5 +1,5 @@
 -- A leg that shares a class that it may use never finds the door full
-use Rattle.std.proofs.Common.{◌≡◌, ◌∙◌, ℕ, Bool, false, List, Option, None, Some, refl, sym, ap, subst}
+use Rattle.std.proofs.Common.{◌≡◌, ◌∙◌, ℕ, Bool, false, List, Option, Some, refl, ap, subst}
 use Rattle.z_types.specs.declared.sitting.Sitting as sitting
 use Rattle.z_types.specs.declared.world.World as world
 use Rattle.route_config.specs.declared.route.Route.{Route}

@@ -1,5 +1,5 @@
 -- When the legs of a request may share their classes: by its work alone
-use Rattle.std.proofs.Common.{◌≡◌, ◌∙◌, ◌≤◌, ℕ, Bool, cond, List, [], ◌∷◌, map, length, Option, None, Some, refl, sym, ap, subst, nat_eq, arith}
+use Rattle.std.proofs.Common.{◌≡◌, ◌∙◌, ◌≤◌, ℕ, Bool, cond, List, [], ◌∷◌, map, length, Option, None, refl, sym, ap, subst, nat_eq, arith}
 use Rattle.std.specs.Cmp.{nat_eq_equiv}
 use Rattle.std.specs.List.{AllByRecursion, IsDistinct, cons_option}
 use Rattle.std.specs.Set.{distinct_count, unique_keys}
@@ -21,7 +21,7 @@ use Rattle.sharing_rules.specs.steps.Shared.{AreInOrder}
 use Rattle.leg_shares.specs.steps.Pools.{MayUse}
 use Rattle.leg_shares.proofs.MemberLemmas.{fair-one}
 use Rattle.conn_shares.specs.steps.Requests.{MayWork, behind, uses_at}
-use Rattle.conn_shares.specs.steps.Together.{AreApart, MayShare, class_in, classes_of, use_of}
+use Rattle.conn_shares.specs.steps.Together.{AreApart, MayShare, class_in, use_of}
 use Rattle.conn_shares.proofs.CostLemmas.{IsOnlyIn, own-each, uses_in}
 use Rattle.conn_shares.proofs.NeedLemmas.{NeedsNothing}
 use Rattle.conn_shares.proofs.OwnUses.{keys_in, own-keys, own_of, same-keys}

@@ -1,14 +1,11 @@
 -- The legs for records of a request that was searched for at that moment need nothing more
-use Rattle.std.proofs.Common.{◌≡◌, ◌∙◌, ◌||◌, ◌&&◌, ◌+◌, ◌≤◌, ◌<◌, ℕ, zero, suc, Bool, true, false, cond, List, [], ◌∷◌, map, find, drop, length, get_or, Contains, Option, None, Some, Result, Ok, Err, refl, sym, ap, subst, nat_eq, nat_lt, arith, option_map}
+use Rattle.std.proofs.Common.{◌≡◌, ◌∙◌, ◌||◌, ◌&&◌, ◌≤◌, ◌<◌, ℕ, zero, suc, Bool, true, false, cond, List, [], ◌∷◌, map, find, drop, length, get_or, Option, None, Some, Result, Ok, Err, refl, sym, ap, subst, nat_eq, nat_lt, arith, option_map}
 use Rattle.std.specs.Prelude.{is_err}
 use Rattle.std.specs.Cmp.{nat_eq_equiv}
 use Rattle.std.specs.List.{AllByRecursion, IsDistinct, cons_option, range_with_len}
 use Rattle.std.specs.Option.{option_map_or}
 use Rattle.std.specs.Set.{is_member}
-use Rattle.std.proofs.lemmas.Bool.{eqb-true}
-use Rattle.z_types.specs.MergedOrder.{Place}
 use Rattle.z_types.specs.contracts.key.SetKeyEq.TheImpl.Laws as key_law
-use Rattle.z_types.specs.declared.address.Address.{Address}
 use Rattle.z_types.specs.declared.diagnostic.Diag.{Diag}
 use Rattle.z_types.specs.declared.key.SetKey.{SetKey}
 use Rattle.z_types.specs.declared.marks.Mark.{Mark}
@@ -20,7 +17,7 @@ use Rattle.z_types.specs.declared.work.Work.TheVariants as work
 use Rattle.z_types.specs.declared.world.World as world
 use Rattle.route_config.specs.declared.route.Route.{Route}
 use Rattle.gateway_rules.specs.Outcomes.{places_from}
-use Rattle.gateway_rules.specs.Targets.{all_or_first, behind_first, hidden}
+use Rattle.gateway_rules.specs.Targets.{behind_first, hidden}
 use Rattle.pool_sets.specs.Table.{same_key}
 use Rattle.leg.specs.LegView.{LegView}
 use Rattle.leg.specs.Right.{IsRight}
@@ -28,12 +25,10 @@ use Rattle.leg.specs.Tasks.{want_of}
 use Rattle.leg.specs.Terms.{class_of, terms_of}
 use Rattle.leg.specs.declared.answers.LegAnswer.{LegAnswer}
 use Rattle.leg.specs.declared.answers.LegAnswer.TheVariants as answer
-use Rattle.leg.specs.declared.tasks.Task.{Task}
 use Rattle.leg.specs.declared.tasks.Task.TheVariants.{Hits}
 use Rattle.package_rules.specs.Asked.{Asked, all_records_asked, element_shown, first_asked, hits_asked, key_at, leg_of, places_shown, ranks_of, records_asked, spans_of}
 use Rattle.package_rules.specs.Planned.{by_hits, legs_named, then_asked_by, unless_marked}
 use Rattle.package_rules.specs.Said.{all_hits, cause_of, hides, hits_said}
-use Rattle.package_rules.specs.declared.answered.Answered.{Answered}
 use Rattle.package_rules.specs.declared.spans.Span.{Span}
 use Rattle.package_rules.specs.steps.Spans.{RunTo, rank_from}
 use Rattle.package_rules.proofs.RunLemmas.{run_of_places}

@@ -10,7 +10,7 @@ use Rattle.sharing_rules.specs.Needed.{count_after, is_in, is_late, is_refused, 
 use Rattle.sharing_rules.specs.Uses.{Use}
 use Rattle.leg_shares.specs.steps.Pools.{HaveSameLast}
 use Rattle.conn_shares.specs.steps.Requests.{behind}
-use Rattle.conn_shares.proofs.UsesLemmas.{last-behind, last-same, same-behind, same-self, same-then}
+use Rattle.conn_shares.proofs.UsesLemmas.{last-behind, last-same, same-behind, same-self}
 
 -- those of the class
 abbrev pub own_of : ℕ → List Use → List Use

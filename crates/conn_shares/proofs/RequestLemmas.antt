@@ -1,5 +1,5 @@
 -- A request from its first turn to its last: its legs share their classes, as the uses of its work need
-use Rattle.std.proofs.Common.{◌≡◌, ◌≢◌, ◌∙◌, ◌+◌, ℕ, Bool, true, false, List, [], ◌∷◌, ◌++◌, map, All, Contains, Option, Some, refl, sym, ap, subst, nat_eq, arith}
+use Rattle.std.proofs.Common.{◌≡◌, ◌∙◌, ℕ, Bool, true, false, List, [], ◌∷◌, ◌++◌, map, Some, refl, sym, ap, subst, arith}
 use Rattle.std.specs.Prelude.{sum_by}
 use Rattle.std.specs.List.{AllByRecursion, IsDistinct}
 use Rattle.std.proofs.lemmas.List.{append-nil, map-append}
@@ -8,27 +8,21 @@ use Rattle.z_types.specs.declared.sitting.Sitting as sitting
 use Rattle.z_types.specs.declared.work.Work.{Work}
 use Rattle.z_types.specs.declared.world.World as world
 use Rattle.gateway_rules.specs.Fair.{IsFair}
-use Rattle.gateway_rules.specs.Marks.{plain}
 use Rattle.route_config.specs.Sound.{ArePoolNumbers}
-use Rattle.route_config.specs.declared.route.Class.{Class}
 use Rattle.route_config.specs.declared.route.Route.{Route}
 use Rattle.pool_sets.specs.Plain.{Pool}
 use Rattle.leg.specs.LegView.{LegView}
-use Rattle.leg.specs.Terms.{class_of, members_of}
+use Rattle.leg.specs.Terms.{members_of}
 use Rattle.leg.specs.declared.accounts.Account.{Account}
-use Rattle.leg.specs.declared.answers.Turned.{Turned}
 use Rattle.package_rules.specs.Asked.{Asked, first_asked}
 use Rattle.package_rules.specs.Planned.{then_asked_by}
 use Rattle.package_rules.specs.Said.{cause_of}
-use Rattle.package_rules.specs.declared.answered.Answered.{Answered}
 use Rattle.package.specs.steps.Drives.{PackageAt}
-use Rattle.package.specs.steps.Ends.{cause_in}
 use Rattle.package.specs.steps.Packages.{AreDone, IsOver, IsPackageOf, IsPlanned, PackageView, accounts_of, all_accounts, answers_of, asked_of, begun, new_package}
-use Rattle.sharing_rules.specs.Needed.{count_after, is_in, is_set_in, last_at, needs_dial, needs_search}
+use Rattle.sharing_rules.specs.Needed.{count_after, needs_dial, needs_search}
 use Rattle.sharing_rules.specs.Uses.{Use}
 use Rattle.sharing_rules.specs.steps.Shared.{of_class}
 use Rattle.leg_shares.specs.steps.Pools.{HaveSameLast}
-use Rattle.leg_shares.specs.steps.Sharing.{IsKeptBehind}
 use Rattle.leg_shares.proofs.UseLemmas.{kept-by-last}
 use Rattle.conn_quiet.specs.steps.Quiet.{AreWell, HasNoCause, IsCalm, IsToldRoute}
 use Rattle.conn_quiet.proofs.PackageLemmas.{new-well, package-well}
@@ -43,7 +37,7 @@ use Rattle.conn_shares.proofs.NeedLemmas.{AreNeedless, NeedsNothing, then-needle
 use Rattle.conn_shares.proofs.OwnUses.{same-dials, same-last, same-searches}
 use Rattle.conn_shares.proofs.PackageLemmas.{back-all, front-all, package-begins, package-shares, package-unfull, undisturbed}
 use Rattle.conn_shares.proofs.RoundLemmas.{AreUnfull}
-use Rattle.conn_shares.proofs.UsesLemmas.{done-leave, same-self, same-then}
+use Rattle.conn_shares.proofs.UsesLemmas.{done-leave, same-self}
 use Rattle.leg_shares.proofs.MemberLemmas.{fair-one}
 
 -- what is asked of legs that are begun

@@ -1,12 +1,12 @@
 -- The uses of a work are those of what it asks first: of each class the same
-use Rattle.std.proofs.Common.{◌≡◌, ◌≢◌, ◌∙◌, ◌||◌, ◌==◌, ◌+◌, ◌⊎◌, ◌≤◌, ℕ, zero, suc, ◌<◌, Bool, true, false, cond, inl, inr, List, [], ◌∷◌, ◌++◌, map, length, get_or, filter, All, Contains, Option, None, Some, refl, sym, ap, subst, nat_eq, arith, slice_get, option_to_list, is_some}
-use Rattle.std.specs.Prelude.{filter_map, flat_map, if◌then◌else◌}
+use Rattle.std.proofs.Common.{◌≡◌, ◌≢◌, ◌∙◌, ◌||◌, ◌==◌, ◌+◌, ◌⊎◌, ◌≤◌, ℕ, zero, suc, ◌<◌, Bool, true, false, cond, inl, inr, List, [], ◌∷◌, ◌++◌, map, length, get_or, filter, Contains, Option, None, Some, refl, sym, ap, subst, nat_eq, arith, slice_get, option_to_list}
+use Rattle.std.specs.Prelude.{filter_map, flat_map}
 use Rattle.std.specs.Cmp.{nat_eq_equiv}
 use Rattle.std.specs.List.{AllByRecursion, IsDistinct, cons_option, list_any, range_with_len}
 use Rattle.std.specs.Option.{option_map_or}
 use Rattle.std.specs.Set.{unique_keys}
 use Rattle.std.proofs.lemmas.Bool.{eqb-true}
-use Rattle.std.proofs.lemmas.List.Elements.{All-contains, All-contains_itself, recursion_from_All}
+use Rattle.std.proofs.lemmas.List.Elements.{All-contains_itself, recursion_from_All}
 use Rattle.std.proofs.lemmas.Option.{get_or_from_slice_get, slice_get_cases, slice_get_within}
 use Rattle.z_types.specs.MergedOrder.{Place}
 use Rattle.z_types.specs.declared.key.SetKey.{SetKey}
@@ -15,15 +15,13 @@ use Rattle.z_types.specs.declared.work.Work.{Work}
 use Rattle.z_types.specs.declared.work.Work.TheVariants as work
 use Rattle.route_config.specs.declared.route.Route.{Route}
 use Rattle.route_config.specs.declared.route.RouteLeg.{RouteLeg}
-use Rattle.gateway_rules.specs.Outcomes.{legs_asked, places_from}
+use Rattle.gateway_rules.specs.Outcomes.{places_from}
 use Rattle.leg.specs.Tasks.{want_of}
-use Rattle.leg.specs.Terms.{class_of, databases_of}
-use Rattle.leg.specs.declared.tasks.Task.TheVariants.{Scan}
+use Rattle.leg.specs.Terms.{class_of}
 use Rattle.package_rules.specs.Asked.{Asked, all_records_asked, first_asked, hits_asked, key_at, leg_of, ranks_of, records_asked, span_of, spans_of}
 use Rattle.package_rules.specs.Planned.{AreThere, legs_named}
 use Rattle.package_rules.specs.declared.spans.Span.{Span}
 use Rattle.package_rules.proofs.LegsAsked.{IsLegOf, first_of}
-use Rattle.sharing_rules.specs.Needed.{is_in}
 use Rattle.sharing_rules.specs.Uses.{Use, key_if, use_at}
 use Rattle.sharing_rules.specs.steps.Shared.{use_now}
 use Rattle.conn_shares.specs.steps.Requests.{uses_at}
