@@ -12,3 +12,4 @@ pub mod MayLemmas
 pub mod AgainLemmas
 pub mod PackageLemmas
 pub mod RequestLemmas
+mod RequestFacts

@@ -84,13 +84,24 @@ module _ {W S : Type 0} (w : world.Ghosts W) (t : sitting.Ghosts S W) (exact : B
       (legs-need w route now (used view.first) view.later
       (subst (λ (all_of : List Asked). AllByRecursion (NeedsNothing w route now (used view.first)) all_of) (sym same) need.each))
 
-  package-may : (most : ℕ) (view : PackageView S) → view.work ≡ asked → IsPackageOf w t route most view → MayPackageShare w route now before view
+  pub package-may : (most : ℕ) (view : PackageView S) → view.work ≡ asked → IsPackageOf w t route most view → MayPackageShare w route now before view
   package-may most view is of =
       let asks = of.asks.at_first ∙ ap (first_asked route) is in record {
         first = may-first w route now before asked fair numbers may view.first asks;
         later =
             subst (λ (us : List Use). MayShare w route now us view.later) (sym (behind-legs route now view.first before))
             (later-may view.planned most view is of asks of.asks.then);
+      }
+
+  pub begun-may : MayPackageShare w route now before (new_package {S = S} route asked)
+  unfolding IsDistinct
+  begun-may =
+      let first : List (LegView S) = map begun (first_asked route asked) in
+      let asks = begun-asked S (first_asked route asked) in record {
+        first = may-first w route now before asked fair numbers may first asks;
+        later =
+            subst (λ (us : List Use). MayShare {S = S} w route now us []) (sym (behind-legs route now first before))
+            (may-again w route now before asked fair numbers may first asks [] tt tt);
       }
 
   -- ---- from turn to turn
@@ -135,7 +146,6 @@ module _ {W S : Type 0} (w : world.Ghosts W) (t : sitting.Ghosts S W) (exact : B
   serves-first first is kept =
       let begins : PackageShares w t route now before false (new_package {S = S} route asked) kept.pool =
       package-begins w t route now before kept.pool kept.kept asked in
-      let asks = begun-asked S (first_asked route asked) in
       record {
         work = ap (λ (v : PackageView S). v.work) is;
         pool = kept.pool;
@@ -144,13 +154,7 @@ module _ {W S : Type 0} (w : world.Ghosts W) (t : sitting.Ghosts S W) (exact : B
         well = subst (λ (v : PackageView S). AreWell w t route (v.first ++ v.later)) (sym is) (new-well w t route asked);
         unfull =
             subst (λ (v : PackageView S). AreUnfull v.first × AreUnfull v.later) (sym is) (begun-unfull S (first_asked route asked), tt);
-        may_share =
-            subst (λ (v : PackageView S). MayPackageShare w route now before v) (sym is) (record {
-              first = may-first w route now before asked fair numbers may (map begun (first_asked route asked)) asks;
-              later =
-                  subst (λ (us : List Use). MayShare {S = S} w route now us []) (sym (behind-legs {S = S} route now (map begun (first_asked route asked)) before))
-                  (may-again w route now before asked fair numbers may (map begun (first_asked route asked)) asks [] tt tt);
-            });
+        may_share = subst (λ (v : PackageView S). MayPackageShare w route now before v) (sym is) begun-may;
         shares = subst (λ (v : PackageView S). PackageShares w t route now before v.planned v kept.pool) (sym is) begins;
         most = 0;
         of = λ planned. let wrong : false ≡ true = ap (λ (v : PackageView S). v.planned) (sym is) ∙ planned in absurd cc;

@@ -2,7 +2,7 @@
 //! The legs go to different classes; a pool that is not told is outside of it.
 
 ghost use Rattle.conn_shares.specs.steps.Laws.{BegunShares, DoneLegsLeaveUses, PackagesShare, QuietPackagesShare, RoundsShare};
-ghost use Rattle.conn_shares.specs.steps.Requests.{RequestsShare};
+ghost use Rattle.conn_shares.specs.steps.Requests.{BegunMayShare, PackagesMayShare, RequestsShare};
 
 use z_types::{Sitting, World};
 
@@ -30,6 +30,16 @@ pub fn packages_share<W: World, S: Sitting<W>>()
 /// A turn of a package with memory, over a quiet backend that counts exactly, at told addresses.
 pub fn quiet_packages_share<W: World, S: Sitting<W>>()
     ensures { QuietPackagesShare W.World S.Sitting }
+{}
+
+/// The legs of a work that may be done may share their classes when its package is begun.
+pub fn begun_may_share<W: World, S: Sitting<W>>()
+    ensures { BegunMayShare W.World S.Sitting }
+{}
+
+/// So may those of each package of the route that comes of it, the legs for records too.
+pub fn packages_may_share<W: World, S: Sitting<W>>()
+    ensures { PackagesMayShare W.World S.Sitting }
 {}
 
 /// A request from its first turn to its last, with memory, over a quiet backend that counts exactly, on a

@@ -8,6 +8,6 @@ mod laws;
 mod tests;
 
 pub use laws::{
-    begun_shares, done_legs_leave_uses, packages_share, quiet_packages_share, requests_share,
-    rounds_share,
+    begun_may_share, begun_shares, done_legs_leave_uses, packages_may_share, packages_share,
+    quiet_packages_share, requests_share, rounds_share,
 };

@@ -1,8 +1,8 @@
 //! The laws of legs that share, over targets in memory.
 
 use crate::{
-    begun_shares, done_legs_leave_uses, packages_share, quiet_packages_share, requests_share,
-    rounds_share,
+    begun_may_share, begun_shares, done_legs_leave_uses, packages_may_share, packages_share,
+    quiet_packages_share, requests_share, rounds_share,
 };
 use gw_memory::FakeSession;
 use std::test::Fail;
@@ -15,6 +15,8 @@ fn the_laws_of_sharing_requests_hold_over_targets_in_memory(_: HostRuntime) -> R
     rounds_share::<TestWorld, FakeSession>();
     packages_share::<TestWorld, FakeSession>();
     quiet_packages_share::<TestWorld, FakeSession>();
+    begun_may_share::<TestWorld, FakeSession>();
+    packages_may_share::<TestWorld, FakeSession>();
     requests_share::<TestWorld, FakeSession>();
     Ok(())
 }

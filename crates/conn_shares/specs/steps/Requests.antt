@@ -17,13 +17,14 @@ use Rattle.leg.specs.declared.answers.Turned.TheVariants as turned
 use Rattle.package_rules.specs.Planned.{AreThere, legs_named}
 use Rattle.package.specs.steps.Drives.{PackageAt}
 use Rattle.package.specs.steps.Ends.{cause_in}
-use Rattle.package.specs.steps.Packages.{IsOver, IsPackageOf, all_accounts, new_package}
+use Rattle.package.specs.steps.Packages.{IsOver, IsPackageOf, PackageView, all_accounts, new_package}
 use Rattle.package.specs.steps.Turns.{IsPackageTurn}
 use Rattle.sharing_rules.specs.Needed.{count_after, needs_dial, needs_search}
 use Rattle.sharing_rules.specs.Orderly.{keys_used}
 use Rattle.sharing_rules.specs.Uses.{Use, uses_by}
 use Rattle.sharing_rules.specs.steps.Shared.{AreInOrder}
 use Rattle.conn_quiet.specs.steps.Quiet.{IsCalm}
+use Rattle.conn_shares.specs.steps.Packages.{MayPackageShare}
 use Rattle.conn_shares.specs.steps.Together.{AreAllKept, AreUndisturbed}
 
 -- ---- what a work uses
@@ -87,6 +88,21 @@ module _ {W S : Type 0} (w : world.Ghosts W) (t : sitting.Ghosts S W) (route : R
         → sum_by (dials_in class) (all_accounts last.view) ≡ count_after (needs_dial route class) before (uses_at route now work)
     pub searches : (class : ℕ)
         → sum_by (searches_in class) (all_accounts last.view) ≡ count_after (needs_search w route class) before (uses_at route now work)
+
+module _ {W S : Type 0} (w : world.Ghosts W) (t : sitting.Ghosts S W) where
+  -- the legs of a work that may be done may share their classes, when its package is begun
+  abbrev pub BegunMayShare : Type 0
+  BegunMayShare =
+      (route : Route) (now : ℕ) (before : List Use) (work : Work)
+      → IsFair w route → ArePoolNumbers route.pool → MayWork route now before work
+      → MayPackageShare w route now before (new_package {S = S} route work)
+
+  -- and as long as it is a package of the route: those for records too
+  abbrev pub PackagesMayShare : Type 0
+  PackagesMayShare =
+      (route : Route) (now : ℕ) (before : List Use) (work : Work) (most : ℕ) (view : PackageView S)
+      → IsFair w route → ArePoolNumbers route.pool → MayWork route now before work
+      → view.work ≡ work → IsPackageOf w t route most view → MayPackageShare w route now before view
 
 -- a request that is begun, has its turns with memory over a quiet backend that counts exactly, on a fair route, and is over
 abbrev pub RequestsShare : {W S : Type 0} → world.Ghosts W → sitting.Ghosts S W → Type 0
