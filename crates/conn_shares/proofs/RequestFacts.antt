@@ -1,8 +1,9 @@
 -- What works use and need, and when they may be done, by computation. A set is kept for 60 seconds
-use Rattle.std.specs.Prelude.{◌≡◌, ℕ, ◌≤◌, false, true, List, [], ◌∷◌, codes, map, length, sum_by, All, None, refl, nat_eq}
-use Rattle.std.specs.List.{IsDistinct}
+use Rattle.std.specs.Prelude.{◌≡◌, ℕ, ◌+◌, ◌≤◌, ◌<◌, ◌==◌, Option, Some, filter_map, if◌then◌else◌, List, [], ◌∷◌, codes, map, length, sum_by, None, refl, nat_eq}
+use Rattle.std.specs.List.{IsDistinct, cons_option}
 use Rattle.std.proofs.Common.{arith}
 use Rattle.std.proofs.lemmas.List.Elements.{All-from_recursion}
+use Rattle.std.proofs.lemmas.Map.Made.{distinct_count-le}
 use Rattle.z_types.specs.Tree.{leaf}
 use Rattle.z_types.specs.declared.address.Address.TheVariants.{Test}
 use Rattle.z_types.specs.declared.query.RpnQuery.{RpnQuery}
@@ -12,6 +13,7 @@ use Rattle.z_types.specs.declared.work.Work.TheVariants as work
 use Rattle.z_types.specs.declared.world.World as world
 use Rattle.route_config.specs.Smallest.{smallest_route}
 use Rattle.route_config.specs.declared.route.Route.{Route}
+use Rattle.pool_sets.specs.Table.{same_key}
 use Rattle.test_target.specs.contracts.worlds.TestWorldWorld.TheImpl as test_world
 use Rattle.test_target.specs.declared.worlds.TestWorld.{TestWorld}
 use Rattle.leg.specs.Accounts.{no_account}
@@ -117,6 +119,32 @@ its_searches = refl
 
 keys_of_both : keys_used 0 (behind searched (uses_at two_classes 0 (search (0 ∷ 2 ∷ []) (by 4 98)))) ≡ 2
 keys_of_both = refl
+
+-- keys that are used are no more than the uses
+given-few : {B : Type 0} (given : Option B) (others : List B) (n : ℕ) → length others ≤ n → length (cons_option given others) ≤ n + 1
+given-few None others n few = omega (arith, few)
+given-few (Some one) others n few = omega (arith, few)
+
+length-given : {A B : Type 0} (f : A → Option B) (xs : List A) → length (filter_map f xs) ≤ length xs
+length-given f [] = omega arith
+length-given f (x ∷ xs) = let few = given-few (f x) (filter_map f xs) (length xs) (length-given f xs) in omega (arith, few)
+
+keys-few : (class : ℕ) (uses : List Use) → keys_used class uses ≤ length uses
+keys-few class uses =
+    let few = distinct_count-le same_key (filter_map (λ (this : Use). if this.class == class then this.key else None) uses) in
+    let given = length-given (λ (this : Use). if this.class == class then this.key else None) uses in omega (arith, few, given)
+
+-- a fetch of what was searched for may be done
+may_fetch : MayWork two_classes 59 searched (fetch (by 4 97))
+unfolding IsDistinct
+may_fetch = record {
+  there = All-from_recursion (λ leg. leg < length two_classes.legs) (0 ∷ 2 ∷ []) (omega arith, (omega arith, tt));
+  apart = ((refl, tt), (tt, tt));
+  falls = (omega arith, (omega arith, tt));
+  few = λ class.
+      let few = keys-few class (behind searched (uses_at two_classes 59 (fetch (by 4 97)))) in
+      let four : length (behind searched (uses_at two_classes 59 (fetch (by 4 97)))) ≡ 4 = refl in omega (arith, few, four);
+}
 
 -- legs of one class may not be asked together
 not_together : IsDistinct nat_eq (map (class_of two_classes) (legs_named (search (0 ∷ 1 ∷ []) (by 4 97)))) → ⊥
