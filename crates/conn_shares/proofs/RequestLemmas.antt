@@ -12,7 +12,6 @@ use Rattle.route_config.specs.Sound.{ArePoolNumbers}
 use Rattle.route_config.specs.declared.route.Route.{Route}
 use Rattle.pool_sets.specs.Plain.{Pool}
 use Rattle.leg.specs.LegView.{LegView}
-use Rattle.leg.specs.Terms.{members_of}
 use Rattle.leg.specs.declared.accounts.Account.{Account}
 use Rattle.package_rules.specs.Asked.{Asked, first_asked}
 use Rattle.package_rules.specs.Planned.{then_asked_by}
@@ -23,7 +22,6 @@ use Rattle.sharing_rules.specs.Needed.{count_after, needs_dial, needs_search}
 use Rattle.sharing_rules.specs.Uses.{Use}
 use Rattle.sharing_rules.specs.steps.Shared.{of_class}
 use Rattle.leg_shares.specs.steps.Pools.{HaveSameLast}
-use Rattle.leg_shares.proofs.UseLemmas.{kept-by-last}
 use Rattle.conn_quiet.specs.steps.Quiet.{AreWell, HasNoCause, IsCalm, IsToldRoute}
 use Rattle.conn_quiet.proofs.PackageLemmas.{new-well, package-well}
 use Rattle.conn_shares.specs.steps.Packages.{MayPackageShare, PackageShares}
@@ -37,7 +35,7 @@ use Rattle.conn_shares.proofs.NeedLemmas.{AreNeedless, NeedsNothing, then-needle
 use Rattle.conn_shares.proofs.OwnUses.{same-dials, same-last, same-searches}
 use Rattle.conn_shares.proofs.PackageLemmas.{back-all, front-all, package-begins, package-shares, package-unfull, undisturbed}
 use Rattle.conn_shares.proofs.RoundLemmas.{AreUnfull}
-use Rattle.conn_shares.proofs.UsesLemmas.{done-leave, same-self}
+use Rattle.conn_shares.proofs.UsesLemmas.{all-by-last, done-leave, same-self}
 use Rattle.leg_shares.proofs.MemberLemmas.{fair-one}
 
 -- what is asked of legs that are begun
@@ -231,12 +229,8 @@ module _ {W S : Type 0} (w : world.Ghosts W) (t : sitting.Ghosts S W) (exact : B
         })
 
     kept : AreAllKept w route now (behind before uses) so.pool
-    kept = record {
-      of = later-left.1.of;
-      each = λ class.
-          kept-by-last w route class (members_of route class) now (uses_behind route now (used view.first) view.later) (behind before uses)
-          (uses-same class) (of_class class so.pool.sessions) (later-left.1.each class);
-    }
+    kept =
+        all-by-last w route now (uses_behind route now (used view.first) view.later) (behind before uses) so.pool uses-same later-left.1
 
     none : AreUndisturbed (view.first ++ view.later)
     none = undisturbed w t route (view.first ++ view.later) so.well

@@ -108,6 +108,15 @@ module _ {W S : Type 0} (w : world.Ghosts W) (route : Route) (now : ℕ) (before
             (λ none. rest (ap (λ (b : Bool). b || list_any (nat_eq class) (classes_of route legs)) e ∙ none))
       ]) refl
 
+-- each class is kept behind other uses too, with the same last ones of it and of its keys
+pub all-by-last : {W S : Type 0} (w : world.Ghosts W) (route : Route) (now : ℕ) (uses others : List Use) (pool : Pool S)
+    → ((class : ℕ) → HaveSameLast class uses others) → AreAllKept w route now uses pool → AreAllKept w route now others pool
+all-by-last w route now uses others pool same kept = record {
+  of = kept.of;
+  each = λ class.
+      kept-by-last w route class (members_of route class) now uses others (same class) (of_class class pool.sessions) (kept.each class);
+}
+
 -- ---- legs that are done
 
 pub both-true : (a b : Bool) → (a && b) ≡ true → (a ≡ true) × (b ≡ true)
