@@ -80,7 +80,7 @@ module _ {W S : Type 0} (w : world.Ghosts W) (t : sitting.Ghosts S W) where
       ∙ made
 
   -- a set of a table that is kept was made
-  wanted-made : (want : Option SetKey) (parts : Parts S) (slot hits : ℕ) → TableKept w t parts → HasWanted want parts.table.entries slot hits
+  pub wanted-made : (want : Option SetKey) (parts : Parts S) (slot hits : ℕ) → TableKept w t parts → HasWanted want parts.table.entries slot hits
       → HasMade w t slot parts.session
   wanted-made None parts slot hits kept has = absurd has
   wanted-made (Some key) parts slot hits kept has =
@@ -255,7 +255,7 @@ module _ {W S : Type 0} (w : world.Ghosts W) (t : sitting.Ghosts S W) (terms : T
   next-whole held items slot hits asks start.Failed session of made is = absurd is
   next-whole held items slot hits asks start.Memory session of made is = tt
 
-  present-asked : (task : Task) (items : List Item) (slot : ℕ) (asks : Ask) (before after : S) (reply : Began)
+  pub present-asked : (task : Task) (items : List Item) (slot : ℕ) (asks : Ask) (before after : S) (reply : Began)
       → IsAskedIf w t (next_ask task items slot) asks before after reply
       → (due : Ask) × IsAsked w t due asks before after reply × ((made : Made) → is_some (made (slot_name slot)) ≡ true → IsOfMade asks made)
       × IsPresent asks
@@ -288,20 +288,20 @@ module _ {W S : Type 0} (w : world.Ghosts W) (t : sitting.Ghosts S W) (terms : T
   -- ---- a take
 
   taken-whole : (gives : Taken S) (q : Pool S) → (gives, q) ≡ take_of terms.class terms.at (want_of task) now p
-      → GivesWhole w t (gives, q)
+      → GivesWhole (IsWholeAt w t resting) (gives, q)
   taken-whole gives q e =
-      subst (λ (r : Taken S × Pool S). GivesWhole w t r) (sym e) (take-whole w t terms.class terms.at (want_of task) now p are)
+      subst (λ (r : Taken S × Pool S). GivesWhole (IsWholeAt w t resting) r) (sym e) (take-whole (IsWholeAt w t resting) terms.class terms.at (want_of task) now p are)
 
   took-whole : (gives : Taken S) (q : Option (Pool S)) → Takes (Some p) q terms.class terms.at (want_of task) now gives
-      → IsGivenWhole w t gives × IsWholePool w t q
+      → IsGivenWhole (IsWholeAt w t resting) gives × IsWholePool w t q
   took-whole gives None k = absurd k
-  took-whole taken.Memory (Some q) k = (tt, subst (λ (r : Pool S). IsWholePool w t (Some r)) (sym k) (expire-whole w t now p are))
+  took-whole taken.Memory (Some q) k = (tt, subst (λ (r : Pool S). IsWholePool w t (Some r)) (sym k) (expire-whole (IsWholeAt w t resting) now p are))
   took-whole (taken.Reuse seat parts slot hits) (Some q) k = taken-whole (taken.Reuse seat parts slot hits) q k
   took-whole (taken.Fresh seat parts) (Some q) k = taken-whole (taken.Fresh seat parts) q k
   took-whole (taken.Dial seat member) (Some q) k = taken-whole (taken.Dial seat member) q k
   took-whole (taken.Full open_) (Some q) k = taken-whole (taken.Full open_) q k
 
-  after-take : (gives : Taken S) → TakenFits w t terms.at (want_of task) most gives → IsGivenWhole w t gives
+  after-take : (gives : Taken S) → TakenFits w t terms.at (want_of task) most gives → IsGivenWhole (IsWholeAt w t resting) gives
       → IsWholeIn w t terms (after_take task gives)
   after-take (taken.Reuse seat parts slot hits) fits rests =
       set-whole w t terms task (hold seat parts true) [] slot hits rests (wanted-made w t (want_of task) parts slot hits fits.0.kept fits.1)
@@ -534,7 +534,7 @@ module _ {W S : Type 0} (w : world.Ghosts W) (t : sitting.Ghosts S W) (terms : T
   deed-goes (Returning held own) (opened made) d links c is k = absurd d
   deed-goes (Returning held own) (began asks reply session) d links c is k = absurd d
   deed-goes (Returning held own) (heard reply session) d links c is k = absurd d
-  deed-goes (Returning held own) put_back d links c is k = record { well = tt; whole = tt; pool = moved-pool k (put-whole w t held.seat held.parts now p is are) }
+  deed-goes (Returning held own) put_back d links c is k = record { well = tt; whole = tt; pool = moved-pool k (put-whole (IsWholeAt w t resting) held.seat held.parts now p is are) }
   deed-goes (Returning held own) gave_up d links c is k = absurd d
   deed-goes (Returning held own) (redialled member_) d links c is k = absurd d
   deed-goes (Returning held own) no_memory d links c is k = absurd d
@@ -544,7 +544,7 @@ module _ {W S : Type 0} (w : world.Ghosts W) (t : sitting.Ghosts S W) (terms : T
   deed-goes (Losing seat own) (began asks reply session) d links c is k = absurd d
   deed-goes (Losing seat own) (heard reply session) d links c is k = absurd d
   deed-goes (Losing seat own) put_back d links c is k = absurd d
-  deed-goes (Losing seat own) gave_up d links c is k = record { well = tt; whole = tt; pool = moved-pool k (lose-whole w t seat p are) }
+  deed-goes (Losing seat own) gave_up d links c is k = record { well = tt; whole = tt; pool = moved-pool k (lose-whole (IsWholeAt w t resting) seat p are) }
   deed-goes (Losing seat own) (redialled member_) d links c is k = absurd d
   deed-goes (Losing seat own) no_memory d links c is k = absurd d
   deed-goes (Losing seat own) nothing d links c is k = absurd d
@@ -554,7 +554,7 @@ module _ {W S : Type 0} (w : world.Ghosts W) (t : sitting.Ghosts S W) (terms : T
   deed-goes (Redialling seat) (heard reply session) d links c is k = absurd d
   deed-goes (Redialling seat) put_back d links c is k = absurd d
   deed-goes (Redialling seat) gave_up d links c is k = absurd d
-  deed-goes (Redialling seat) (redialled member_) d links c is k = record { well = tt; whole = member-told member_ d; pool = moved-pool k.1 (redial-whole w t seat terms.at p are) }
+  deed-goes (Redialling seat) (redialled member_) d links c is k = record { well = tt; whole = member-told member_ d; pool = moved-pool k.1 (redial-whole (IsWholeAt w t resting) seat terms.at p are) }
   deed-goes (Redialling seat) no_memory d links c is k = absurd d
   deed-goes (Redialling seat) nothing d links c is k = absurd d
   deed-goes (Spoiled seat) (took gives) d links c is k = absurd d

@@ -4,3 +4,7 @@ pub mod CountLemmas
 pub mod LegLemmas
 pub mod TurnLemmas
 pub mod PackageLemmas
+pub mod SessionBearing
+pub mod LegBearing
+pub mod TurnBearing
+pub mod PackageBearing

@@ -39,7 +39,7 @@ module _ {W : Type 0} (w : world.Ghosts W) where
       subst (λ (c : Option Class). AreTold w (option_map_or (λ (x : Class). x.addresses) c [])) (sym h.1)
       (λ address is. absurd (All-contains (λ (a : Address). ⊥) [] address (All-nil (λ (a : Address). ⊥)) is))
 
-  leg-told : (route : Route) (leg : ℕ) → IsToldRoute w route → AreTold w (terms_of route leg).at
+  pub leg-told : (route : Route) (leg : ℕ) → IsToldRoute w route → AreTold w (terms_of route leg).at
   leg-told route leg told = members-told route.classes (class_of route leg) told (slice_get_cases route.classes (class_of route leg)).1
 
 -- ---- memory

@@ -1,13 +1,10 @@
--- What the plain pool does leaves whole each session that is idle, and each that it gives is
+-- What the plain pool does leaves each session that is idle as it was, and each that it gives was so
 use Rattle.std.proofs.Common.{◌==◌, ℕ, ◌+◌, Bool, true, false, cond, List, [], ◌∷◌, ◌++◌, map, filter, Option, None, Some, option_map, nat_le, nat_lt}
 use Rattle.std.specs.Prelude.{IfSome}
 use Rattle.std.specs.List.{AllByRecursion}
 use Rattle.std.specs.Option.{option_or}
-use Rattle.z_types.specs.Pending.{resting}
 use Rattle.z_types.specs.declared.address.Address.{Address}
 use Rattle.z_types.specs.declared.key.SetKey.{SetKey}
-use Rattle.z_types.specs.declared.sitting.Sitting as sitting
-use Rattle.z_types.specs.declared.world.World as world
 use Rattle.pool_sets.specs.declared.pooled.Parts.{Parts}
 use Rattle.pool_sets.specs.declared.sessions.Stand.{Stand}
 use Rattle.pool_sets.specs.declared.sessions.Stand.TheVariants.{Idle, Out}
@@ -17,21 +14,21 @@ use Rattle.pool_sets.specs.declared.doors.Taken.TheVariants.{Reuse, Fresh, Full,
 use Rattle.pool_sets.specs.Table.{Entry, set_of}
 use Rattle.pool_sets.specs.Sessions.{Session, Idler, first_some, idle_in, idle_with, idler, in_class, member_for, open_of, with_set, with_stand}
 use Rattle.pool_sets.specs.Plain.{Pool, any_idle, choice, dial_for, expire, has_number, idle_again, is_seat, lost, one_idle, open_one, out_for, put, redial, redial_at_seat, redial_member, stays_open, take_of, with_fresh_sets, without_old_sets}
-use Rattle.conn_quiet.specs.steps.Whole.{IsWholeAt, IsWholePool, IsWholeSession, IsWholeStand}
+use Rattle.conn_quiet.specs.steps.Whole.{AreIdle, IsIdleSession, IsIdleStand}
 
-module _ {W S : Type 0} (w : world.Ghosts W) (t : sitting.Ghosts S W) where
+module _ {S : Type 0} (IsSo : S → Type 0) where
   abbrev Are : List (Session S) → Type 0
-  Are os = AllByRecursion (IsWholeSession w t) os
+  Are os = AllByRecursion (IsIdleSession IsSo) os
 
   abbrev Rests : Parts S → Type 0
-  Rests parts = IsWholeAt w t resting parts.session
+  Rests parts = IsSo parts.session
 
   abbrev pub Whole : Pool S → Type 0
-  Whole p = IsWholePool w t (Some p)
+  Whole p = AreIdle IsSo (Some p)
 
   -- ---- lists of sessions
 
-  map-whole : (f : Session S → Session S) → ((o : Session S) → IsWholeSession w t o → IsWholeSession w t (f o)) → (os : List (Session S))
+  map-whole : (f : Session S → Session S) → ((o : Session S) → IsIdleSession IsSo o → IsIdleSession IsSo (f o)) → (os : List (Session S))
       → Are os → Are (map f os)
   map-whole f h [] k = tt
   map-whole f h (o ∷ os) k = (h o k.0, map-whole f h os k.1)
@@ -43,19 +40,19 @@ module _ {W S : Type 0} (w : world.Ghosts W) (t : sitting.Ghosts S W) where
     | false ↦ filter-whole stays_ os k.1
   ])
 
-  push-whole : (os : List (Session S)) (o : Session S) → Are os → IsWholeSession w t o → Are (os ++ o ∷ [])
+  push-whole : (os : List (Session S)) (o : Session S) → Are os → IsIdleSession IsSo o → Are (os ++ o ∷ [])
   push-whole [] o k h = (h, tt)
   push-whole (first ∷ os) o k h = (k.0, push-whole os o k.1 h)
 
   -- one that stands elsewhere, where that is so
-  stand-whole : (b : Bool) (stand : Stand (Parts S) Address) (o : Session S) → IsWholeStand w t stand → IsWholeSession w t o
-      → IsWholeSession w t (cond b (with_stand stand o) o)
+  stand-whole : (b : Bool) (stand : Stand (Parts S) Address) (o : Session S) → IsIdleStand IsSo stand → IsIdleSession IsSo o
+      → IsIdleSession IsSo (cond b (with_stand stand o) o)
   stand-whole true stand o h k = h
   stand-whole false stand o h k = k
 
   -- ---- time passes, sessions are put back and lost
 
-  fresh-whole : (now ttl : ℕ) (stand : Stand (Parts S) Address) → IsWholeStand w t stand → IsWholeStand w t (without_old_sets now ttl stand)
+  fresh-whole : (now ttl : ℕ) (stand : Stand (Parts S) Address) → IsIdleStand IsSo stand → IsIdleStand IsSo (without_old_sets now ttl stand)
   fresh-whole now ttl (Idle parts since) h = h
   fresh-whole now ttl (Out address) h = tt
 
@@ -73,8 +70,8 @@ module _ {W S : Type 0} (w : world.Ghosts W) (t : sitting.Ghosts S W) where
     | false ↦ lose-whole seat p h
   ])
 
-  again-whole : (b : Bool) (at : List Address) (m : ℕ) (o : Session S) → IsWholeSession w t o
-      → IsWholeSession w t (cond b (out_for o.number o.class at m) o)
+  again-whole : (b : Bool) (at : List Address) (m : ℕ) (o : Session S) → IsIdleSession IsSo o
+      → IsIdleSession IsSo (cond b (out_for o.number o.class at m) o)
   again-whole true at m o k = tt
   again-whole false at m o k = k
 
@@ -84,7 +81,7 @@ module _ {W S : Type 0} (w : world.Ghosts W) (t : sitting.Ghosts S W) where
 
   -- ---- a session is taken
 
-  -- one that is given rests whole
+  -- one that is given is so
   abbrev pub IsGivenWhole : Taken S → Type 0
   IsGivenWhole (Reuse seat parts slot hits) = Rests parts
   IsGivenWhole (Fresh seat parts) = Rests parts
@@ -97,7 +94,7 @@ module _ {W S : Type 0} (w : world.Ghosts W) (t : sitting.Ghosts S W) where
       → Are (map (λ (o : Session S). cond (o.number == number) (with_stand (Out address) o) o) p.sessions)
   lend-whole number address p h = map-whole _ (λ o k. stand-whole (o.number == number) (Out address) o tt k) p.sessions h
 
-  idle-whole : (within_ : Bool) (number : ℕ) (stand : Stand (Parts S) Address) → IsWholeStand w t stand
+  idle-whole : (within_ : Bool) (number : ℕ) (stand : Stand (Parts S) Address) → IsIdleStand IsSo stand
       → IfSome (cond within_ (idler number stand) None) (λ (i : Idler S). Rests i.parts)
   idle-whole false number stand h = tt
   idle-whole true number (Idle parts since) h = h
@@ -112,7 +109,7 @@ module _ {W S : Type 0} (w : world.Ghosts W) (t : sitting.Ghosts S W) where
       held None = tt
       held (Some e) = h
 
-  module _ {Y : Type 0} (give : Session S → Option Y) (P : Y → Type 0) (one : (o : Session S) → IsWholeSession w t o → IfSome (give o) P) where
+  module _ {Y : Type 0} (give : Session S → Option Y) (P : Y → Type 0) (one : (o : Session S) → IsIdleSession IsSo o → IfSome (give o) P) where
     first-whole : (os : List (Session S)) → Are os → IfSome (first_some give os) P
     first-whole [] k = tt
     first-whole (o ∷ os) k = (elim (give o) as (λ (c : Option Y). IfSome c P → IfSome (option_or c (first_some give os)) P) [

@@ -73,7 +73,7 @@ module _ {S : Type 0} where
       let wrong : true ≡ false = sym done.1 ∙ ap is_done left ∙ left-open old deed done.0 in absurd cc
 
   -- where the leg stands behind it
-  ends-in : (P : Phase S → Type 0) (lack : Lack) (wanted left new : Phase S) (said answer : Turned) → P wanted → P left
+  pub ends-in : (P : Phase S → Type 0) (lack : Lack) (wanted left new : Phase S) (said answer : Turned) → P wanted → P left
       → Ends lack wanted left said answer new → P new
   ends-in P never wanted left new said answer h l e = subst P (sym e.0) h
   ends-in P always wanted left new said answer h l e = subst P (sym e.0) l

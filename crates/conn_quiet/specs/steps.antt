@@ -2,3 +2,4 @@
 pub mod Whole
 pub mod Quiet
 pub mod Laws
+pub mod Bearing

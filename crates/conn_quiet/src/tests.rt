@@ -1,6 +1,9 @@
-//! The laws of what goes on over a quiet backend, over targets in memory.
+//! The laws of what goes on over a quiet backend, and of what legs bear, over targets in memory.
 
-use crate::{begun_is_well, packages_go_well, turns_go_well};
+use crate::{
+    bearing_stays, begun_bears, begun_is_well, packages_bear, packages_go_well, turns_bear,
+    turns_go_well,
+};
 use gw_memory::FakeSession;
 use std::test::Fail;
 use test_target::TestWorld;
@@ -10,5 +13,9 @@ fn the_laws_of_quiet_backends_hold_over_targets_in_memory(_: HostRuntime) -> Res
     turns_go_well::<TestWorld, FakeSession>();
     begun_is_well::<TestWorld, FakeSession>();
     packages_go_well::<TestWorld, FakeSession>();
+    turns_bear::<TestWorld, FakeSession>();
+    begun_bears::<TestWorld, FakeSession>();
+    packages_bear::<TestWorld, FakeSession>();
+    bearing_stays::<TestWorld, FakeSession>();
     Ok(())
 }

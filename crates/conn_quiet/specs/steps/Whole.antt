@@ -100,16 +100,25 @@ module _ {W S : Type 0} (w : world.Ghosts W) (t : sitting.Ghosts S W) where
 
 -- ---- a pool
 
+module _ {S : Type 0} (IsSo : S → Type 0) where
+  -- a session that is idle is so
+  abbrev pub IsIdleStand : Stand (Parts S) Address → Type 0
+  IsIdleStand (Idle parts since) = IsSo parts.session
+  IsIdleStand (Out address) = Unit {0}
+
+  abbrev pub IsIdleSession : Session S → Type 0
+  IsIdleSession open_ = IsIdleStand open_.stand
+
+  -- all that are idle are, of a pool that is told
+  abbrev pub AreIdle : Option (Pool S) → Type 0
+  AreIdle None = ⊥
+  AreIdle (Some pool) = AllByRecursion IsIdleSession pool.sessions
+
 module _ {W S : Type 0} (w : world.Ghosts W) (t : sitting.Ghosts S W) where
   -- a session that is idle rests whole
-  abbrev pub IsWholeStand : Stand (Parts S) Address → Type 0
-  IsWholeStand (Idle parts since) = IsWholeAt w t resting parts.session
-  IsWholeStand (Out address) = Unit {0}
-
   abbrev pub IsWholeSession : Session S → Type 0
-  IsWholeSession open_ = IsWholeStand open_.stand
+  IsWholeSession open_ = IsIdleSession (IsWholeAt w t resting) open_
 
-  -- all that are idle do, of a pool that is told
+  -- all that are idle do
   abbrev pub IsWholePool : Option (Pool S) → Type 0
-  IsWholePool None = ⊥
-  IsWholePool (Some pool) = AllByRecursion IsWholeSession pool.sessions
+  IsWholePool pool = AreIdle (IsWholeAt w t resting) pool
