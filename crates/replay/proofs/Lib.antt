@@ -15,6 +15,7 @@ pub mod TurnMoves
 pub mod MovesLemmas
 pub mod WireLemmas
 pub mod LentLemmas
+pub mod ListedLemmas
 pub mod MarkLemmas
 pub mod FullLemmas
 pub mod TwiceLemmas

@@ -76,7 +76,7 @@ module _ {S : Type 0} (route : Route) (P : LegView S → Type 0) (fresh : (asked
   went-keeps old new kept (inr (inl h)) = head-keeps (answering_of old) (answering_of new) new.end h.taken.answer h.taken.kept
   went-keeps old new kept (inr (inr h)) = at-work new.in_work old.in_work h.in_work kept
 
-  ahead-keeps : (old new : ConnectionState S) (answer : Stepped) → LegsKept P old.in_work → GoesAhead route old new answer → LegsKept P new.in_work
+  pub ahead-keeps : (old new : ConnectionState S) (answer : Stepped) → LegsKept P old.in_work → GoesAhead route old new answer → LegsKept P new.in_work
   ahead-keeps old new Idle kept h = subst (λ (c : ConnectionState S). LegsKept P c.in_work) (sym h.1) kept
   ahead-keeps old new NotYet kept h = absurd h
   ahead-keeps old new Went kept h = went-keeps old new kept h.2
@@ -105,7 +105,7 @@ module _ {S : Type 0} (route : Route) (P : LegView S → Type 0) (fresh : (asked
   over-keeps (stage.Searching retrieval) view old new done h = get-keeps view old new done h
   over-keeps (stage.Fetching retrieval hits) view old new done h = get-keeps view old new done h
 
-  works-keep : (answer : Turned) (view : PackageView S) (old new : AnsweringState S) (said : Stepped) (end : Option End) → AreKept P view
+  pub works-keep : (answer : Turned) (view : PackageView S) (old new : AnsweringState S) (said : Stepped) (end : Option End) → AreKept P view
       → WorksOn route answer view old new said end → LegsKept P new.in_work
   works-keep turned.Went view old new said end kept h = on-keeps view old new h.1 kept
   works-keep turned.NotYet view old new said end kept h = on-keeps view old new h.1 kept
@@ -176,7 +176,7 @@ module _ {W S : Type 0} (w : world.Ghosts W) (t : sitting.Ghosts S W) (exact : B
 -- ---- a step of a connection, which did not run out of memory
 
 -- where a step had memory, so had the turn of the package in work
-had-memory : {S : Type 0} (route : Route) (said : Turned) (view : PackageView S) (old new : AnsweringState S) (answer : Stepped) (end : Option End)
+pub had-memory : {S : Type 0} (route : Route) (said : Turned) (view : PackageView S) (old new : AnsweringState S) (answer : Stepped) (end : Option End)
     → WorksOn route said view old new answer end → answer ≢ Memory → said ≢ turned.Memory
 had-memory route turned.Went view old new answer end h had e = absurd cc
 had-memory route turned.NotYet view old new answer end h had e = absurd cc

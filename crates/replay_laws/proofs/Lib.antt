@@ -3,3 +3,4 @@ pub mod BetweenLemmas
 pub mod PageLemmas
 pub mod RequestLemmas
 mod QuietFacts
+pub mod BorneLemmas

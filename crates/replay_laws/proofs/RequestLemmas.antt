@@ -25,6 +25,8 @@ use Rattle.package_rules.specs.declared.answered.Answered.{Answered}
 use Rattle.package_rules.specs.Said.{cause_of}
 use Rattle.package.specs.steps.Ends.{cause_in}
 use Rattle.package.specs.steps.Packages.{IsPackageOf, PackageView, accounts_of, all_accounts, answers_of}
+use Rattle.conn_quiet.specs.steps.Bearing.{HasBorne}
+use Rattle.replay.specs.Undisturbed.{IsPlainOrFull}
 use Rattle.replay_laws.specs.Requests.{CausesNoMark}
 
 -- a mark that is caused, and was not, is Plain
@@ -70,41 +72,66 @@ module _ {W S : Type 0} (w : world.Ghosts W) (t : sitting.Ghosts S W) where
   said-so terms most task (Done own) a said e h =
       let same : own ≡ said = cc in subst (λ (s : LegAnswer). IsCaused terms.pool most a s) same h.1
 
-  module _ (route : Route) (most : ℕ) where
-    -- a list of answers has the mark Plain
-    abbrev ArePlain : List Answered → Type 0
-    ArePlain said = (cause_of route said).mark ≡ mark.Plain
+-- where what the accounts of legs have lets no other mark be caused than such
+module _ {W S : Type 0} (w : world.Ghosts W) (t : sitting.Ghosts S W) (route : Route) (most : ℕ) (Has : Account → Type 0) (IsSo : Mark → Type 0)
+    (plain : IsSo mark.Plain)
+    (caused : (account : Account) (m : Mark) → Has account → IsCaused route.pool most account (answer.Marked m) → IsSo m) where
+  -- the mark of a list of answers is such
+  abbrev AreSo : List Answered → Type 0
+  AreSo said = IsSo (cause_of route said).mark
 
-    first-plain : (leg : LegView S) (others : List Answered) (said : Option LegAnswer) → answered leg.phase ≡ said
-        → IsLegOf w t route most leg → CausesNoMark route.pool leg.account → ArePlain others
-        → ArePlain (cons_option (option_map (λ (a : LegAnswer). record { leg = leg.leg; answer = a }) said) others)
-    first-plain leg others None e is none plain = plain
-    first-plain leg others (Some (answer.Hits hits)) e is none plain = plain
-    first-plain leg others (Some (answer.Refused diag)) e is none plain = plain
-    first-plain leg others (Some (answer.Items items)) e is none plain = plain
-    first-plain leg others (Some (answer.Broken items diag)) e is none plain = plain
-    first-plain leg others (Some (answer.Scanned entries)) e is none plain = plain
-    first-plain leg others (Some (answer.Marked m)) e is none plain =
-        none-caused route.pool most leg.account m none
-        (said-so (terms_of route leg.leg) most leg.task leg.phase leg.account (answer.Marked m) e is.stands)
+  first-so : (leg : LegView S) (others : List Answered) (said : Option LegAnswer) → answered leg.phase ≡ said
+      → IsLegOf w t route most leg → Has leg.account → AreSo others
+      → AreSo (cons_option (option_map (λ (a : LegAnswer). record { leg = leg.leg; answer = a }) said) others)
+  first-so leg others None e is has so = so
+  first-so leg others (Some (answer.Hits hits)) e is has so = so
+  first-so leg others (Some (answer.Refused diag)) e is has so = so
+  first-so leg others (Some (answer.Items items)) e is has so = so
+  first-so leg others (Some (answer.Broken items diag)) e is has so = so
+  first-so leg others (Some (answer.Scanned entries)) e is has so = so
+  first-so leg others (Some (answer.Marked m)) e is has so =
+      caused leg.account m has (said-so w t (terms_of route leg.leg) most leg.task leg.phase leg.account (answer.Marked m) e is.stands)
 
-    -- behind more answers
-    cons-behind : (said : Option Answered) (others rest : List Answered) → cons_option said others ++ rest ≡ cons_option said (others ++ rest)
-    cons-behind None others rest = refl
-    cons-behind (Some first) others rest = refl
+  -- behind more answers
+  cons-behind : (said : Option Answered) (others rest : List Answered) → cons_option said others ++ rest ≡ cons_option said (others ++ rest)
+  cons-behind None others rest = refl
+  cons-behind (Some first) others rest = refl
 
-    legs-plain : (legs : List (LegView S)) (rest : List Answered) → All (IsLegOf w t route most) legs
-        → AllByRecursion (λ leg. CausesNoMark route.pool leg.account) legs → ArePlain rest → ArePlain (answers_of legs ++ rest)
-    legs-plain [] rest are none plain = plain
-    legs-plain (leg ∷ legs) rest are none plain =
-        subst (λ (said : List Answered). ArePlain said)
-        (sym (cons-behind (option_map (λ (a : LegAnswer). record { leg = leg.leg; answer = a }) (answered leg.phase)) (answers_of legs) rest))
-        (first-plain leg (answers_of legs ++ rest) (answered leg.phase) refl (All-head (IsLegOf w t route most) leg legs are) none.0
-        (legs-plain legs rest (All-tail (IsLegOf w t route most) leg legs are) none.1 plain))
+  legs-so : (legs : List (LegView S)) (rest : List Answered) → All (IsLegOf w t route most) legs
+      → AllByRecursion (λ leg. Has leg.account) legs → AreSo rest → AreSo (answers_of legs ++ rest)
+  legs-so [] rest are has so = so
+  legs-so (leg ∷ legs) rest are has so =
+      subst (λ (said : List Answered). AreSo said)
+      (sym (cons-behind (option_map (λ (a : LegAnswer). record { leg = leg.leg; answer = a }) (answered leg.phase)) (answers_of legs) rest))
+      (first-so leg (answers_of legs ++ rest) (answered leg.phase) refl (All-head (IsLegOf w t route most) leg legs are) has.0
+      (legs-so legs rest (All-tail (IsLegOf w t route most) leg legs are) has.1 so))
 
+  -- and so is that of a request
+  pub request-so : (view : PackageView S) → IsPackageOf w t route most view → AllByRecursion (λ leg. Has leg.account) view.first
+      → AllByRecursion (λ leg. Has leg.account) view.later → IsSo (cause_in route view).mark
+  request-so view of first later =
+      legs-so view.first (answers_of view.later) of.first first
+      (subst (λ (said : List Answered). IsSo (cause_of route said).mark) (append-nil (answers_of view.later))
+      (legs-so view.later [] of.later later plain))
+
+module _ {W S : Type 0} (w : world.Ghosts W) (t : sitting.Ghosts S W) where
   pub request-plain : (route : Route) (most : ℕ) (view : PackageView S) → IsPackageOf w t route most view
       → AllByRecursion (CausesNoMark route.pool) (all_accounts view) → (cause_in route view).mark ≡ mark.Plain
   request-plain route most view of none =
-      legs-plain route most view.first (answers_of view.later) of.first (first-legs (CausesNoMark route.pool) view.first view.later none)
-      (subst (λ (said : List Answered). (cause_of route said).mark ≡ mark.Plain) (append-nil (answers_of view.later))
-      (legs-plain route most view.later [] of.later (later-legs (CausesNoMark route.pool) view.first view.later none) refl))
+      request-so w t route most (CausesNoMark route.pool) (λ m. m ≡ mark.Plain) refl (none-caused route.pool most) view of
+      (first-legs (CausesNoMark route.pool) view.first view.later none) (later-legs (CausesNoMark route.pool) view.first view.later none)
+
+-- a mark that is caused where an account bore all that befell links is Plain or Full
+borne-caused : (pool : PoolNumbers) (most : ℕ) (account : Account) (m : Mark) → HasBorne pool account
+    → IsCaused pool most account (answer.Marked m) → IsPlainOrFull m
+borne-caused pool most account mark.Plain h caused = tt
+borne-caused pool most account mark.Link h caused = let none = h.unfailing in absurd (omega (arith, caused, none))
+borne-caused pool most account (mark.Silent looks) h caused = let few = h.few_looks in let much = caused.1 in absurd (omega (arith, few, much))
+borne-caused pool most account mark.Gone h caused = let few = h.few_gone in absurd (omega (arith, caused, few))
+borne-caused pool most account (mark.Full sessions) h caused = tt
+
+pub request-borne : {W S : Type 0} (w : world.Ghosts W) (t : sitting.Ghosts S W) (route : Route) (most : ℕ) (view : PackageView S)
+    → IsPackageOf w t route most view → AllByRecursion (λ leg. HasBorne route.pool leg.account) view.first
+    → AllByRecursion (λ leg. HasBorne route.pool leg.account) view.later → IsPlainOrFull (cause_in route view).mark
+request-borne w t route most view of first later =
+    request-so w t route most (HasBorne route.pool) IsPlainOrFull tt (borne-caused route.pool most) view of first later

@@ -2,3 +2,4 @@ pub mod Between
 pub mod Quiet
 pub mod Pages
 pub mod Requests
+pub mod Borne

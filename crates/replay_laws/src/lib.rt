@@ -7,4 +7,6 @@ mod laws;
 #[cfg(test)]
 mod tests;
 
-pub use laws::{quiet_disturbs_nobody, sums_leave_marks, uncaused_request_is_plain};
+pub use laws::{
+    borne_is_plain_or_full, quiet_disturbs_nobody, sums_leave_marks, uncaused_request_is_plain,
+};
