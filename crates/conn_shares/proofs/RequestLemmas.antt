@@ -20,7 +20,6 @@ use Rattle.package.specs.steps.Drives.{PackageAt}
 use Rattle.package.specs.steps.Packages.{AreDone, IsOver, IsPackageOf, IsPlanned, PackageView, accounts_of, all_accounts, answers_of, asked_of, begun, new_package}
 use Rattle.sharing_rules.specs.Needed.{count_after, needs_dial, needs_search}
 use Rattle.sharing_rules.specs.Uses.{Use}
-use Rattle.sharing_rules.specs.steps.Shared.{of_class}
 use Rattle.leg_shares.specs.steps.Pools.{HaveSameLast}
 use Rattle.conn_quiet.specs.steps.Quiet.{AreWell, HasNoCause, IsCalm, IsToldRoute}
 use Rattle.conn_quiet.proofs.PackageLemmas.{new-well, package-well}
