@@ -1,0 +1,4 @@
+pub mod Works
+pub mod Orderly
+pub mod Shares
+pub mod steps

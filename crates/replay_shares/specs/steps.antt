@@ -1,0 +1,4 @@
+-- For contracts alone, a file for each thing that they speak of (this project's own)
+pub mod Costs
+pub mod Resting
+pub mod Laws

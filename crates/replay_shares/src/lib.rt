@@ -1,0 +1,3 @@
+//! Orderly scripts share the sessions of the pool: which works the runs of a script ask, and when, and
+//! that each class costs what the uses of these works need.
+#![tactic(auto)]
