@@ -1,5 +1,5 @@
 -- Which events can be played behind others, the closing ones too
-use Rattle.std.proofs.Common.{◌≡◌, ◌∙◌, ◌+◌, ◌-◌, ◌≤◌, ◌<◌, ◌&&◌, ℕ, zero, suc, Bool, true, false, not, List, [], ◌∷◌, ◌++◌, Option, None, Some, refl, sym, ap, subst, append_assoc, append-nil, arith}
+use Rattle.std.proofs.Common.{◌≡◌, ◌+◌, ◌-◌, ◌≤◌, ℕ, zero, suc, Bool, true, false, not, List, [], ◌∷◌, ◌++◌, refl, sym, subst, append_assoc, append-nil, arith}
 use Rattle.std.specs.List.{AllByRecursion, flat_map, list_all}
 use Rattle.std.specs.Prelude.{if◌then◌else◌}
 use Rattle.std.proofs.lemmas.Bool.{and_parts}
@@ -8,9 +8,9 @@ use Rattle.z_types.specs.declared.world.World as world
 use Rattle.route_config.specs.declared.route.Route.{Route}
 use Rattle.script.specs.declared.event.Event.{Event}
 use Rattle.script.specs.declared.event.Event.TheVariants.{Feed, End, Step, Run, Tick, Gone, Cut, Slow}
-use Rattle.script.specs.Events.{AreEvents, IsClient, IsEvent, are_in_order, has_ended, is_named, may_follow, most_clients, named, named_upto, seconds_of}
+use Rattle.script.specs.Events.{IsClient, IsEvent, are_in_order, has_ended, is_named, may_follow, most_clients, named, named_upto, seconds_of}
 use Rattle.replay.specs.Trace.{ArePlayed, Playing, closing, closings, moment_behind}
-use Rattle.replay_shares.specs.Orderly.{closed, is_calm}
+use Rattle.replay_shares.specs.Orderly.{is_calm}
 use Rattle.replay_shares.proofs.CountLemmas.{all-both}
 
 -- an event of an orderly script behind others: it is of a client that there may be, and feeds an input that has not ended

@@ -1,5 +1,5 @@
 -- What comes and the end of the input leave a client resting
-use Rattle.std.proofs.Common.{◌≡◌, ◌∙◌, ℕ, Bool, true, false, List, [], ◌∷◌, ◌++◌, Option, None, Some, refl, sym, ap, subst, append_assoc}
+use Rattle.std.proofs.Common.{◌≡◌, ◌∙◌, ℕ, Bool, true, false, List, [], ◌∷◌, ◌++◌, Option, None, Some, refl, sym, subst, append_assoc}
 use Rattle.std.specs.Prelude.{if◌then◌else◌}
 use Rattle.std.specs.Char.{is_ascii_alphabetic}
 use Rattle.z_types.specs.declared.marks.End.{End}
@@ -10,27 +10,19 @@ use Rattle.route_config.specs.declared.route.Route.{Route}
 use Rattle.gateway_rules.specs.Answers as kind
 use Rattle.gateway_rules.specs.Answers.{Kind, kind_of}
 use Rattle.gateway_rules.specs.OneAnswer.{AreMarksPlain}
-use Rattle.front_conn.specs.steps.Feeding.{StandsAtStart, StandsWhenEnded, StandsWhenFed, StaysOfRoute, fed_piece, with_end, with_piece}
+use Rattle.front_conn.specs.steps.Feeding.{fed_piece, with_end, with_piece}
 use Rattle.front_conn.specs.steps.States.{ConnectionState, MayCome}
 use Rattle.front_conn.specs.steps.Totals.{totals_for}
 use Rattle.conn_costs.specs.steps.Conns.{AreTotalsOf}
 use Rattle.conn_costs.proofs.TotalLemmas.{none-made}
 use Rattle.conn_works.specs.steps.Begun.{HasBegun}
-use Rattle.conn_works.specs.steps.Laws.{BeginsNone, StaysSoBegun}
+use Rattle.conn_works.specs.steps.Laws.{StaysSoBegun}
 use Rattle.conn_works.proofs.BegunLemmas.{going-of, none-begun}
 use Rattle.replay.specs.Clients.{ClientState, new_client}
 use Rattle.replay.specs.Trace.{with_no_more, with_octets}
 use Rattle.replay_shares.specs.Works.{AskByHead}
+use Rattle.replay_shares.specs.steps.Laws.{ClientLaws}
 use Rattle.replay_shares.specs.steps.Resting.{HasAsked, HasAskedAs, HasAskedGet, IsResting}
-
--- what is known of connections
-pub record ClientLaws {W S : Type 0} (w : world.Ghosts W) (t : sitting.Ghosts S W) : Type 0 where
-  pub start : StandsAtStart w t
-  pub fed : StandsWhenFed w t
-  pub ended : StandsWhenEnded w t
-  pub of : StaysOfRoute w t
-  pub none : BeginsNone w S
-  pub begun : StaysSoBegun w S
 
 ended-comes : (has_ended : Bool) (more : List ℕ) → MayCome true more → MayCome has_ended more
 ended-comes true more h = h

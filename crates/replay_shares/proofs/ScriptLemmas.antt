@@ -1,5 +1,5 @@
 -- Run by run: where each run shares, a whole script does
-use Rattle.std.proofs.Common.{◌≡◌, ◌≢◌, ◌∙◌, ◌+◌, ◌-◌, ◌≤◌, ◌<◌, ◌==◌, ◌⊎◌, ℕ, zero, suc, Bool, true, false, inl, inr, if◌then◌else◌, List, [], ◌∷◌, ◌++◌, length, map, drop, get_or, slice_set, Option, None, Some, refl, sym, ap, subst, arith}
+use Rattle.std.proofs.Common.{◌≡◌, ◌≢◌, ◌∙◌, ◌+◌, ◌-◌, ◌≤◌, ◌<◌, ◌⊎◌, ℕ, zero, suc, Bool, true, false, inl, inr, if◌then◌else◌, List, [], ◌∷◌, ◌++◌, length, map, drop, get_or, slice_set, Option, None, Some, refl, sym, ap, subst, arith}
 use Rattle.std.specs.List.{range_with_len, sum_by}
 use Rattle.std.proofs.Math.ListN.{length-set}
 use Rattle.std.proofs.lemmas.Bool.{cases_eq, eq-eqb, ne_eqb}
@@ -11,7 +11,7 @@ use Rattle.z_types.specs.declared.marks.End as ending
 use Rattle.z_types.specs.declared.sitting.Sitting as sitting
 use Rattle.z_types.specs.declared.work.Work.{Work}
 use Rattle.z_types.specs.declared.world.World as world
-use Rattle.route_config.specs.Sound.{ArePoolNumbers}
+use Rattle.route_config.specs.Sound.{IsSound}
 use Rattle.route_config.specs.declared.route.Route.{Route}
 use Rattle.gateway_rules.specs.Fair.{IsFair}
 use Rattle.gateway_rules.specs.OneAnswer.{AreMarksPlain}
@@ -20,7 +20,7 @@ use Rattle.front_conn.specs.steps.Answering.{Outside}
 use Rattle.front_conn.specs.steps.Feeding.{fed_piece}
 use Rattle.script.specs.declared.event.Event.{Event}
 use Rattle.script.specs.declared.event.Event.TheVariants.{Feed, End, Step, Run, Tick, Gone, Cut, Slow}
-use Rattle.script.specs.Events.{AreEvents, IsClient, client_of, fed, has_ended, is_of, most_clients, seconds_of}
+use Rattle.script.specs.Events.{AreEvents, IsClient, client_of, fed, has_ended, most_clients}
 use Rattle.sharing_rules.specs.Needed.{count_after}
 use Rattle.sharing_rules.specs.Uses.{DatedWork, Use, uses_of}
 use Rattle.sharing_rules.specs.steps.Shared.{AreInOrder, of_class}
@@ -39,11 +39,11 @@ use Rattle.replay.proofs.CostLemmas.{names-costs_upto, same_length}
 use Rattle.replay.proofs.EventLemmas.{ended-more, ended-other, fed-more, fed-other, not_own}
 use Rattle.replay_shares.specs.Orderly.{AreTurns, IsOrderly, IsTurn, Turn, asked_before, closed, dated, dated_after, dated_works, works_added}
 use Rattle.replay_shares.specs.steps.Costs.{cost_at, cost_of_all, cost_on, is_needed}
-use Rattle.replay_shares.specs.steps.Laws.{RunsOfScriptsShare, RunsShare, works_now}
+use Rattle.replay_shares.specs.steps.Laws.{ClientLaws, RunsShare, ScriptsShareIfRunsDo, works_now}
 use Rattle.replay_shares.specs.steps.Resting.{IsKeptOver, IsResting, MayDo, StandBehind}
 use Rattle.replay_shares.proofs.CountLemmas.{count-both, keys-turned, later-order, may-first, may-rest, order-behind, uses-both, works-at}
 use Rattle.replay_shares.proofs.EventLemmas.{AllCanCome, CanCome, all-come, closings-come, come-both, played-both}
-use Rattle.replay_shares.proofs.FeedLemmas.{ClientLaws, rests-ended, rests-fed, rests-first}
+use Rattle.replay_shares.proofs.FeedLemmas.{rests-ended, rests-fed, rests-first}
 use Rattle.replay_shares.proofs.ReportLemmas.{class-reported, lines-are, plain-reported}
 
 -- ---- numbers
@@ -53,9 +53,6 @@ cost-more : (all next here there spent extra : ℕ) → here ≤ all → next + 
     → ((others : ℕ) → within64 (others + there) ≡ within64 (others + (here + extra))) → within64 all ≡ within64 spent
     → within64 next ≡ within64 (spent + extra)
 cost-more all next here there spent extra few sums more was = let on = more (all - here) in omega (arith, few, sums, on, was)
-
-within-on : (others here there extra : ℕ) → there ≡ within64 (here + extra) → within64 (others + there) ≡ within64 (others + (here + extra))
-within-on others here there extra e = omega (arith, e)
 
 -- ---- runs of a client
 
@@ -171,7 +168,7 @@ ends-same spent other here same h = record {
 }
 
 module _ {W S : Type 0} (w : world.Ghosts W) (t : sitting.Ghosts S W) (exact : Bool) (route : Route) (laws : ClientLaws w t) (law : RunsShare w t)
-    (is : exact ≡ true) (fair : IsFair w route) (numbers : ArePoolNumbers route.pool) (most : ℕ) where
+    (is : exact ≡ true) (fair : IsFair w route) (sound : IsSound route) (most : ℕ) where
   abbrev Stand : ℕ → List Event → List Turn → List Use → (Number → ℕ → ℕ) → Playing S → Type 0
   Stand now events turns uses spent here = StandBehind w t route most now events turns uses spent here
 
@@ -240,13 +237,13 @@ module _ {W S : Type 0} (w : world.Ghosts W) (t : sitting.Ghosts S W) (exact : B
       (λ n class others. ap (λ (c : ClientState S). within64 (others + cost_on n class c.conn.totals)) same
       ∙ ap (λ (k : ℕ). within64 (others + k)) (totals-stay n class octets was ∙ omega arith))
       h (ap (λ (o : Outside S). o.door.counts.most) still ∙ h.door) (subst (λ (o : Outside S). IsKeptOver w t route now uses o) (sym still) h.kept) h.falls
-      where
-        totals-stay : (n : Number) (class : ℕ) (octets : List ℕ) (c : ClientState S)
-            → cost_on n class (with_octets octets c).conn.totals ≡ cost_on n class c.conn.totals
-        totals-stay n class octets c = by-end c.conn.end where
-          by-end : (end : Option ending.End) → cost_on n class (fed_piece end c.conn octets).totals ≡ cost_on n class c.conn.totals
-          by-end None = refl
-          by-end (Some end) = refl
+    where
+      totals-stay : (n : Number) (class : ℕ) (octets : List ℕ) (c : ClientState S)
+          → cost_on n class (with_octets octets c).conn.totals ≡ cost_on n class c.conn.totals
+      totals-stay n class octets c = by-end c.conn.end where
+        by-end : (end : Option ending.End) → cost_on n class (fed_piece end c.conn octets).totals ≡ cost_on n class c.conn.totals
+        by-end None = refl
+        by-end (Some end) = refl
 
   ended-goes : (number now : ℕ) (before : List Event) (turns : List Turn) (uses : List Use) (spent : Number → ℕ → ℕ)
       (old new : Playing S) → CanCome before (End number) → Stand now before turns uses spent old
@@ -287,7 +284,7 @@ module _ {W S : Type 0} (w : world.Ghosts W) (t : sitting.Ghosts S W) (exact : B
       let asked = asked_before number turns in
       let works = works_now now asked turn.asked in
       let here = at-number now before turns uses spent old number may h in
-      let done = law exact route now (fed before number) (has_ended before number) asked turn.asked uses was client old.outside new.outside is fair numbers
+      let done = law exact route now (fed before number) (has_ended before number) asked turn.asked uses was client old.outside new.outside is fair sound
       (subst (λ (m : ℕ). IsResting w t route m (fed before number) (has_ended before number) asked was) (sym h.door) here)
       h.kept ran.asks h.falls fits played.plays.plays in
       let rests : RestsAt w t route most (before ++ event ∷ []) (turn ∷ turns) number client =
@@ -308,8 +305,7 @@ module _ {W S : Type 0} (w : world.Ghosts W) (t : sitting.Ghosts S W) (exact : B
       })
       (played.others ∙ ap (λ (c : Option (ClientState S)). slice_set old.clients (number - 1) c) played.plays.is_there)
       (to-place (before ++ event ∷ []) (turn ∷ turns) number client may rests)
-      (λ n class others. within-on others (cost_on n class was.conn.totals) (cost_on n class client.conn.totals) (needs uses (uses_of route works) n class)
-      (done.cost n class))
+      done.cost
       h (done.door ∙ h.door) done.kept (order-behind now uses (uses_of route works) h.falls (works-at route now (drop (length asked) turn.asked)))
 
   tick-goes : (seconds now : ℕ) (before : List Event) (turns : List Turn) (uses : List Use) (spent : Number → ℕ → ℕ) (old new : Playing S)
@@ -415,7 +411,7 @@ module _ {S : Type 0} where
       sum_by-cons (cost_at number class) client clients ∙ omega (arith, here, rest)
 
 module _ {W S : Type 0} (w : world.Ghosts W) (t : sitting.Ghosts S W) (exact : Bool) (route : Route) (laws : ClientLaws w t) (law : RunsShare w t)
-    (is : exact ≡ true) (fair : IsFair w route) (numbers : ArePoolNumbers route.pool) where
+    (is : exact ≡ true) (fair : IsFair w route) (sound : IsSound route) where
   -- where nothing has happened all stand behind no event
   first-stand : (start : Playing S) → length start.clients ≡ most_clients → AreNone start.clients → IsKeptOver w t route 0 [] start.outside
       → StandBehind w t route start.outside.door.counts.most 0 [] [] [] (λ number class. 0) start
@@ -446,7 +442,7 @@ module _ {W S : Type 0} (w : world.Ghosts W) (t : sitting.Ghosts S W) (exact : B
   script-ends events targets turns before after report are kept run orderly =
       let start : Playing S = record { clients = run.start; outside = before } in
       let finish : Playing S = record { clients = run.finish; outside = after } in
-      all-go w t exact route laws law is fair numbers before.door.counts.most (closed events) [] 0 turns [] [] (λ number class. 0) start finish
+      all-go w t exact route laws law is fair sound before.door.counts.most (closed events) [] 0 turns [] [] (λ number class. 0) start finish
       (come-both [] events (closings events) (all-come targets [] events are.each are.in_order orderly.calm) (closings-come events events))
       orderly.whole (uses-fit turns events orderly) (first-stand start run.places run.nobody kept)
       (played-both w t exact route events (closings events) 0 start run.mid finish run.played
@@ -474,13 +470,14 @@ module _ {W S : Type 0} (w : world.Ghosts W) (t : sitting.Ghosts S W) (exact : B
       ∙ ap (λ (c : ℕ). within64 (needs c)) (let same : place ≡ 0 + place = omega arith in same))
       ∙ ap (λ (n : ℕ). map (λ (class : ℕ). within64 (needs class)) (range_with_len 0 n)) all
 
-pub scripts-share : {W S : Type 0} (w : world.Ghosts W) (t : sitting.Ghosts S W) → ClientLaws w t → RunsShare w t → RunsOfScriptsShare w t
-scripts-share w t laws law exact route targets events before after report is fair numbers are kept run turns orderly =
-    let ended = script-ends w t exact route laws law is fair numbers events targets turns before after report are kept run orderly in record {
+-- where each run shares, a whole script does
+pub scripts-share : {W S : Type 0} (w : world.Ghosts W) (t : sitting.Ghosts S W) → ScriptsShareIfRunsDo w t
+scripts-share w t laws law exact route targets events before after report is fair sound are kept run turns orderly =
+    let ended = script-ends w t exact route laws law is fair sound events targets turns before after report are kept run orderly in record {
       plain = plain-reported (length run.finish) run.finish report.clients
           (λ place inside. ended.plain place (let all = ended.places in omega (arith, inside, all))) run.reported.clients_of;
       costs = record {
-        searches = line-of w t exact route laws law is fair numbers searches turns after run.finish report ended run.reported.costs;
-        dials = line-of w t exact route laws law is fair numbers dials turns after run.finish report ended run.reported.costs;
+        searches = line-of w t exact route laws law is fair sound searches turns after run.finish report ended run.reported.costs;
+        dials = line-of w t exact route laws law is fair sound dials turns after run.finish report ended run.reported.costs;
       };
     }

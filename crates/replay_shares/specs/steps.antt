@@ -1,4 +1,5 @@
 -- For contracts alone, a file for each thing that they speak of (this project's own)
 pub mod Costs
 pub mod Resting
+pub mod Going
 pub mod Laws

@@ -1,30 +1,40 @@
 -- For contracts alone: what the runs of an orderly script leave of the pool, and what they cost (this project's own)
 use Rattle.std.specs.Prelude.{◌≡◌, ℕ, ◌+◌, Bool, true, List, [], length, map, drop}
-use Rattle.std.specs.List.{AllByRecursion}
 use Rattle.z_types.specs.Bounds.{within64}
 use Rattle.z_types.specs.declared.sitting.Sitting as sitting
 use Rattle.z_types.specs.declared.work.Work.{Work}
 use Rattle.z_types.specs.declared.world.World as world
-use Rattle.route_config.specs.Sound.{ArePoolNumbers}
+use Rattle.route_config.specs.Sound.{IsSound}
 use Rattle.route_config.specs.declared.route.Route.{Route}
 use Rattle.gateway_rules.specs.Fair.{IsFair}
 use Rattle.front_conn.specs.steps.Answering.{Outside}
+use Rattle.front_conn.specs.steps.Feeding.{StandsAtStart, StandsWhenEnded, StandsWhenFed, StaysOfRoute}
 use Rattle.script.specs.declared.event.Event.{Event}
 use Rattle.script.specs.Events.{AreEvents}
 use Rattle.sharing_rules.specs.Needed.{count_after}
 use Rattle.sharing_rules.specs.Uses.{DatedWork, Use, uses_of}
 use Rattle.sharing_rules.specs.steps.Shared.{AreInOrder}
-use Rattle.conn_costs.specs.steps.Numbers.{Number, dials, searches}
+use Rattle.conn_costs.specs.steps.Numbers.{Number}
 use Rattle.conn_shares.specs.steps.Requests.{behind}
+use Rattle.conn_works.specs.steps.Laws.{BeginsNone, StaysSoBegun}
 use Rattle.replay.specs.Clients.{ClientState}
-use Rattle.replay.specs.Trace.{HasRun, IsReported, IsRunOf}
-use Rattle.replay.specs.Uncaused.{AreAllPlain}
+use Rattle.replay.specs.Trace.{HasRun, IsRunOf}
 use Rattle.replay.specs.declared.reports.Report.{Report}
 use Rattle.replay_shares.specs.Orderly.{dated}
-use Rattle.replay_shares.specs.Shares.{CostsWhatIsNeeded, SharesIfOrderly}
+use Rattle.replay_shares.specs.Shares.{SharesIfOrderly}
 use Rattle.replay_shares.specs.Works.{Ask}
-use Rattle.replay_shares.specs.steps.Costs.{cost_of_all, cost_on, is_needed}
-use Rattle.replay_shares.specs.steps.Resting.{IsKeptOver, IsResting, MayDo, StandBehind}
+use Rattle.replay_shares.specs.steps.Costs.{cost_on, is_needed}
+use Rattle.replay_shares.specs.steps.Resting.{IsKeptOver, IsResting, MayDo}
+
+-- where a connection stands at its start, when it is fed and when its input has ended; that it stays of its route; and that none of
+-- these begins a work
+pub record ClientLaws {W S : Type 0} (w : world.Ghosts W) (t : sitting.Ghosts S W) : Type 0 where
+  pub start : StandsAtStart w t
+  pub fed : StandsWhenFed w t
+  pub ended : StandsWhenEnded w t
+  pub of : StaysOfRoute w t
+  pub none : BeginsNone w S
+  pub begun : StaysSoBegun w S
 
 -- the works that are asked now and were not before
 abbrev pub works_now : (now : ℕ) → (asked all : List Work) → List DatedWork
@@ -40,17 +50,17 @@ module _ {W S : Type 0} (w : world.Ghosts W) (t : sitting.Ghosts S W) where
     pub door : after.door.counts.most ≡ outside.door.counts.most
     pub rests : IsResting w t route outside.door.counts.most octets ended all new
     pub kept : IsKeptOver w t route now (behind before (uses_of route (works_now now asked all))) after
-    pub cost : (number : Number) (class : ℕ)
-        → cost_on number class new.conn.totals
-        ≡ within64 (cost_on number class old.conn.totals
-        + count_after (is_needed w route number class) before (uses_of route (works_now now asked all)))
+    pub cost : (number : Number) (class others : ℕ)
+        → within64 (others + cost_on number class new.conn.totals)
+        ≡ within64 (others + (cost_on number class old.conn.totals
+        + count_after (is_needed w route number class) before (uses_of route (works_now now asked all))))
 
   -- a client that rests is run, on a fair route over a backend that is exact, with works that may be done
   abbrev pub RunsShare : Type 0
   RunsShare =
       (exact : Bool) (route : Route) (now : ℕ) (octets : List ℕ) (ended : Bool) (asked all : List Work) (before : List Use)
       (old new : ClientState S) (outside after : Outside S)
-      → exact ≡ true → IsFair w route → ArePoolNumbers route.pool
+      → exact ≡ true → IsFair w route → IsSound route
       → IsResting w t route outside.door.counts.most octets ended asked old → IsKeptOver w t route now before outside
       → Ask w route octets all → AreInOrder now before → MayDo route before (works_now now asked all)
       → HasRun w t exact route now old new outside after
@@ -63,5 +73,9 @@ module _ {W S : Type 0} (w : world.Ghosts W) (t : sitting.Ghosts S W) where
   abbrev pub RunsOfScriptsShare : Type 0
   RunsOfScriptsShare =
       (exact : Bool) (route : Route) (targets : ℕ) (events : List Event) (before after : Outside S) (report : Report)
-      → exact ≡ true → IsFair w route → ArePoolNumbers route.pool → AreEvents targets events → IsKeptOver w t route 0 [] before
+      → exact ≡ true → IsFair w route → IsSound route → AreEvents targets events → IsKeptOver w t route 0 [] before
       → IsRunOf w t exact route events before after report → SharesIfOrderly w route events report
+
+  -- where each run shares, a whole script does
+  abbrev pub ScriptsShareIfRunsDo : Type 0
+  ScriptsShareIfRunsDo = ClientLaws w t → RunsShare → RunsOfScriptsShare

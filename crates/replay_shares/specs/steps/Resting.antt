@@ -1,5 +1,5 @@
 -- For contracts alone: where the clients of an orderly script and the pool stand between its runs (this project's own)
-use Rattle.std.specs.Prelude.{◌≡◌, ℕ, ◌+◌, ◌≤◌, ◌<◌, Bool, false, List, [], ◌∷◌, ◌++◌, map, length, Option, None, Some}
+use Rattle.std.specs.Prelude.{◌≡◌, ℕ, ◌+◌, ◌≤◌, ◌<◌, Bool, false, List, [], ◌++◌, length, Option, None, Some}
 use Prim.Native.Nat.{suc}
 use Rattle.std.specs.List.{AllByRecursion}
 use Rattle.z_types.specs.Bounds.{within64}
@@ -8,7 +8,7 @@ use Rattle.z_types.specs.declared.sitting.Sitting as sitting
 use Rattle.z_types.specs.declared.work.Work.{Work}
 use Rattle.z_types.specs.declared.world.World as world
 use Rattle.route_config.specs.declared.route.Route.{Route}
-use Rattle.gateway_rules.specs.Answers.{Kind, empty, letter, unit, kind_of}
+use Rattle.gateway_rules.specs.Answers.{Kind, letter, kind_of}
 use Rattle.gateway_rules.specs.OneAnswer.{AreMarksPlain}
 use Rattle.pool_sets.specs.Plain.{Pool}
 use Rattle.front_conn.specs.steps.Answering.{Outside}
