@@ -2,7 +2,7 @@ mod MarkWorks
 mod CourseWorks
 mod OneCourse
 mod SetWorks
-mod BegunLemmas
+pub mod BegunLemmas
 mod UnitWorks
 mod RestWorks
 mod TurnWorks
