@@ -3,5 +3,7 @@
 #![tactic(auto)]
 
 mod laws;
+#[cfg(test)]
+mod tests;
 
 pub use laws::scripts_share_if_runs_do;
