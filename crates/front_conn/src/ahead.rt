@@ -1,6 +1,6 @@
 //! What a connection goes on with (ANSI/NISO Z39.50-2003, 4.2; X.690:2021, 8.1; RFC 9112, 2.1).
 
-ghost use Rattle.std.specs.Prelude.{◌≡◌, None};
+ghost use Rattle.std.specs.Prelude.{◌≡◌, IsTrue, None};
 ghost use Rattle.front_http.specs.Seeking.{HasPassed};
 ghost use Rattle.front_conn.specs.steps.Ahead.{IsAhead, IsHeadAhead, IsUnitAhead, end_or_nothing, is_letter_first};
 
@@ -23,6 +23,23 @@ pub(crate) enum Ahead {
     Whole(u64, u64),
     /// The head of an HTTP connection, which is a GET, or is none.
     Head(Result<Get, HeadFault>),
+}
+
+/// Whether more octets of a head are awaited, of which nothing is to be done yet. So many octets were
+/// looked through for its end.
+pub(crate) fn awaits_more(framer: &Framer, passed: &mut usize, has_ended: bool) -> bool
+    requires passed { HasPassed framer.now.rest passed.old }
+    ensures ahead { IsTrue result → IsAhead has_ended framer.now framer.now Ahead.Nothing }
+    ensures passed { HasPassed framer.now.rest passed.new }
+{
+    let rest = framer.rest();
+    let Some(octet) = rest.first().copied() else {
+        return false;
+    };
+    if has_ended || !is_letter_first(framer.offset(), octet) {
+        return false;
+    }
+    front_http::awaits_more(rest, passed)
 }
 
 /// What octets go on with that were not taken, where the input has ended or not. So many of them were

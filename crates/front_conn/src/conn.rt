@@ -13,7 +13,7 @@ ghost use Rattle.front_conn.specs.steps.Feeding.{with_end, with_piece, without_o
 ghost use Rattle.front_conn.specs.steps.States.{HasLegsOf, IsConnOf, IsOneWork, nothing_yet};
 ghost use Rattle.front_conn.specs.steps.Steps.{GoesAhead, HasTurned, IsStepped, KeepsState, UnlessMemory};
 
-use crate::ahead::{Ahead, look};
+use crate::ahead::{Ahead, awaits_more, look};
 use crate::answering::Answering;
 use crate::ends::end_step;
 use crate::{Stepped, Total};
@@ -198,6 +198,7 @@ impl<W: World, S: Sitting<W>> Conn<W, S> {
     }
 
     /// Turns the request in work.
+    #[inline(never)]
     fn turn<B: Backend<W, Session = S>, D: Door<W, S>>(
         &mut self,
         alloc: Global,
@@ -275,9 +276,25 @@ impl<W: World, S: Sitting<W>> Conn<W, S> {
             .drive(rt, alloc, route, backend, door, clock, end)
     }
 
-    /// Goes ahead where no request is in work: takes and begins the next unit, or the head of an HTTP
-    /// connection, or ends the connection.
+    /// Goes ahead where no request is in work: idles where more of a head is awaited, and else takes what
+    /// comes next. (Heads that come in many pieces are awaited here, at little cost for each.)
     fn go_ahead(&mut self, alloc: Global, route: &Route) -> Stepped
+        requires goes_on { self.old.end ≡ None }
+        requires rests { self.old.in_work ≡ None }
+        requires sets { AllByRecursion (HasLegsOf route.now) self.old.session.sets }
+        ensures of { (most : ℕ) → IsConnOf W.World S.Sitting route.now most self.new }
+        ensures goes { GoesAhead route.now self.old self.new result }
+        ensures keeps { UnlessMemory result (KeepsState W.World route.now self.old self.new) }
+    {
+        if awaits_more(&self.framer, &mut self.passed, self.has_ended) {
+            return Stepped::Idle;
+        }
+        self.take_next(alloc, route)
+    }
+
+    /// Takes and begins the next unit, or the head of an HTTP connection, or ends the connection.
+    #[inline(never)]
+    fn take_next(&mut self, alloc: Global, route: &Route) -> Stepped
         requires goes_on { self.old.end ≡ None }
         requires rests { self.old.in_work ≡ None }
         requires sets { AllByRecursion (HasLegsOf route.now) self.old.session.sets }

@@ -9,4 +9,4 @@ mod seek;
 
 pub use head::begin_head;
 pub use laws::{gets_go_on, heads_answer};
-pub use seek::seek_head;
+pub use seek::{awaits_more, seek_head};

@@ -1,8 +1,9 @@
 //! The end of a head, looked for as its octets come (RFC 9112, 2.1 and 2.2).
 
-ghost use Rattle.std.specs.Prelude.{◌≡◌, is_some};
+ghost use Rattle.std.specs.Prelude.{◌≡◌, IsTrue, Ok, is_some};
 ghost use Rattle.sru_request.specs.Head.{head_length};
-ghost use Rattle.front_http.specs.Seeking.{HasPassed, IsSought, ends_here, has_line_feed};
+ghost use Rattle.sru_request.specs.Request.{IsHeadAnswer};
+ghost use Rattle.front_http.specs.Seeking.{HasPassed, IsSought, awaits_more, ends_here, has_line_feed};
 
 use sru_request::{Get, HeadFault, HeadGot, MOST_HEAD_OCTETS, read_head};
 use std::alloc::Global;
@@ -67,12 +68,26 @@ pub fn seek_head(alloc: Global, octets: &[u8], passed: &mut usize) -> Option<Res
     ensures sought { IsSought octets.now result }
     ensures passed { HasPassed octets.now passed.new }
 {
+    if awaits_more(octets, passed) {
+        return None;
+    }
+    read_whole(alloc, octets)
+}
+
+/// Whether more octets are awaited: no head ends in those that have come, and one still may. So many of
+/// them were looked through before, in which no head ends; and so it is told behind.
+pub fn awaits_more(octets: &[u8], passed: &mut usize) -> bool
+    requires { HasPassed octets.now passed.old }
+    ensures awaits { result ≡ awaits_more octets.now }
+    ensures more { IsTrue result → IsHeadAnswer octets.now (Ok HeadGot.NeedMore) }
+    ensures passed { HasPassed octets.now passed.new }
+{
     let ends = has_new_end(octets, *passed);
     if ends || octets.len() >= MOST_HEAD_OCTETS {
-        return read_whole(alloc, octets);
+        return false;
     }
     *passed = octets.len();
-    None
+    true
 }
 
 /// The head that octets begin with.
