@@ -1,5 +1,5 @@
 -- What is counted of a deed that goes well: no fault, no look in vain and no set that is gone
-use Rattle.std.proofs.Common.{◌≡◌, ◌∙◌, ◌&&◌, ℕ, ◌≤◌, Bool, true, false, not, inl, inr, Option, refl, sym, ap, subst, arith}
+use Rattle.std.proofs.Common.{◌≡◌, ◌∙◌, ◌&&◌, ℕ, ◌-◌, ◌^◌, ◌<◌, ◌≤◌, Bool, true, false, not, inl, inr, Option, refl, sym, ap, subst, arith}
 use Rattle.z_types.specs.Counts.{one_more}
 use Rattle.z_types.specs.declared.key.SetKey.{SetKey}
 use Rattle.z_types.specs.declared.sitting.Sitting as sitting
@@ -16,6 +16,7 @@ use Rattle.leg.specs.Accounts.{counted, more}
 use Rattle.leg.specs.Deeds.{CountsMove, Deed, HappensThen, took, opened, began, heard, put_back, gave_up, redialled, no_memory, nothing, rises_of, waits}
 use Rattle.leg.specs.Rules.{always, lack_of}
 use Rattle.leg.specs.declared.accounts.Account.{Account}
+use Rattle.conn_quiet.specs.steps.Bearing.{DialsGoOn}
 use Rattle.conn_quiet.specs.steps.Quiet.{CountsStay, HasNoCause}
 
 -- no call fails, no look is in vain, and no set is gone
@@ -35,14 +36,57 @@ GotLink (opening.Session session) = Unit {0}
 GotLink (opening.Failed linked) = linked ≡ true
 GotLink opening.Memory = ⊥
 
-one-linked : (b : Bool) (old new : ℕ) → b ≡ true → new ≡ one_more b old → 1 ≤ new
-one-linked true old new is e = omega (arith, e)
-one-linked false old new is e = absurd cc
+linked-as : {S : Type 0} (made : Opening S) (old new : Counts) → GotLink made → OpenCounts true made old new
+    → new.dials ≡ one_more true old.dials
+linked-as {S = S} (opening.Session session) old new got h = ap (λ (c : Counts). c.dials) h.others
+linked-as {S = S} (opening.Failed linked) old new got h =
+    ap (λ (c : Counts). c.dials) h.others ∙ ap (λ (b : Bool). one_more b old.dials) got
+linked-as opening.Memory old new got h = absurd got
 
+-- there is one
 pub linked-then : {S : Type 0} (made : Opening S) (old new : Counts) → GotLink made → OpenCounts true made old new → 1 ≤ new.dials
-linked-then {S = S} (opening.Session session) old new got h = one-linked true old.dials new.dials refl (ap (λ (c : Counts). c.dials) h.others)
-linked-then {S = S} (opening.Failed linked) old new got h = one-linked linked old.dials new.dials got (ap (λ (c : Counts). c.dials) h.others)
-linked-then opening.Memory old new got h = absurd got
+linked-then made old new got h = let one = linked-as made old new got h in omega (arith, one)
+
+-- there is one more
+pub linked-more : {S : Type 0} (made : Opening S) (old new : Counts) → GotLink made → OpenCounts true made old new → DialsGoOn new
+    → old.dials < new.dials
+linked-more made old new got h go = let one = linked-as made old new got h in omega (arith, one, go)
+
+-- the count of links never falls
+one-on : (b : Bool) (old new : ℕ) → new ≡ one_more b old → new < 2 ^ 64 - 1 → old ≤ new
+one-on true old new e go = omega (arith, e, go)
+one-on false old new e go = omega (arith, e)
+
+call-on : (exact : Bool) (told : Type 0) (call : Counted) (old new : Counts) → BackendCounts exact told call old new → DialsGoOn new
+    → old.dials ≤ new.dials
+call-on exact told call old new h go = one-on call.dial old.dials new.dials (ap (λ (c : Counts). c.dials) h.others) go
+
+same-on : (old new : Counts) → new ≡ old → old.dials ≤ new.dials
+same-on old new e = let same = ap (λ (c : Counts). c.dials) e in omega (arith, same)
+
+module _ {W S : Type 0} (w : world.Ghosts W) (t : sitting.Ghosts S W) (exact : Bool) where
+  pub dials-on : (deed : Deed S) (old new : Counts) → CountsMove w t exact deed old new → DialsGoOn new → old.dials ≤ new.dials
+  dials-on (took gives) old new h go = same-on old new h
+  dials-on (opened (opening.Session session)) old new h go = call-on exact _ (open_counted (opening.Session session)) old new h go
+  dials-on (opened (opening.Failed linked)) old new h go = call-on exact _ (open_counted {S = S} (opening.Failed linked)) old new h go
+  dials-on (opened opening.Memory) old new (inl h) go = call-on exact _ _ old new h go
+  dials-on (opened opening.Memory) old new (inr h) go = call-on exact _ _ old new h go
+  dials-on (began ask reply session) old new h go = call-on exact _ (start_counted ask reply) old new h go
+  dials-on (heard look.Opened session) old new h go = call-on exact _ (heard_counted look.Opened) old new h go
+  dials-on (heard (look.Hits hits) session) old new h go = call-on exact _ (heard_counted (look.Hits hits)) old new h go
+  dials-on (heard (look.Refused diag) session) old new h go = call-on exact _ (heard_counted (look.Refused diag)) old new h go
+  dials-on (heard (look.Items items) session) old new h go = call-on exact _ (heard_counted (look.Items items)) old new h go
+  dials-on (heard look.Gone session) old new h go = call-on exact _ (heard_counted look.Gone) old new h go
+  dials-on (heard (look.Scanned entries) session) old new h go = call-on exact _ (heard_counted (look.Scanned entries)) old new h go
+  dials-on (heard look.NotYet session) old new h go = call-on exact _ (heard_counted look.NotYet) old new h go
+  dials-on (heard look.Failed session) old new h go = call-on exact _ (heard_counted look.Failed) old new h go
+  dials-on (heard look.Memory session) old new (inl h) go = call-on exact _ _ old new h go
+  dials-on (heard look.Memory session) old new (inr h) go = call-on exact _ _ old new h go
+  dials-on put_back old new h go = same-on old new h
+  dials-on gave_up old new h go = same-on old new h
+  dials-on (redialled member) old new h go = same-on old new h
+  dials-on no_memory old new h go = same-on old new h
+  dials-on nothing old new h go = same-on old new h
 
 -- ---- the counts of the backend
 

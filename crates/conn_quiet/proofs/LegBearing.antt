@@ -1,6 +1,6 @@
 -- One turn of a leg, while no more befalls links than it bears
 use Rattle.std.proofs.Common.{◌≡◌, ◌∙◌, ◌+◌, ◌-◌, ◌<◌, ◌≤◌, ◌&&◌, ℕ, Bool, true, false, not, cond, inl, inr, List, [], ◌++◌, length, Option, None, Some, is_some, refl, sym, ap, subst, arith, nat_lt, nat_le}
-use Rattle.std.proofs.lemmas.Bool.{cases_lt}
+use Rattle.std.proofs.lemmas.Bool.{cases_lt, lt-leb}
 use Rattle.std.proofs.lemmas.List.Elements.{Contains-get_or}
 use Rattle.z_types.specs.Pending.{IsPending, Pending, resting, opening, asked}
 use Rattle.z_types.specs.declared.address.Address.{Address}
@@ -13,12 +13,13 @@ use Rattle.z_types.specs.declared.records.Item.{Item}
 use Rattle.z_types.specs.declared.sitting.Sitting as sitting
 use Rattle.z_types.specs.declared.world.World as world
 use Rattle.gw_outside.specs.Happened.{Happened, at_address, is_cut}
-use Rattle.gw_outside.specs.Sessions.{Fits, IsWorlds}
+use Rattle.gw_outside.specs.Sessions.{Fits, IsWorlds, OpenCounts}
 use Rattle.gw_outside.specs.Steady.{AskHappens, LooksSteadily, TakesAsk, finds, is_good}
 use Rattle.gw_outside.specs.declared.backends.Began.{Began}
 use Rattle.gw_outside.specs.declared.backends.Began.TheVariants as start
 use Rattle.gw_outside.specs.declared.backends.Heard.{Heard}
 use Rattle.gw_outside.specs.declared.backends.Heard.TheVariants as look
+use Rattle.gw_outside.specs.declared.backends.Opening.{Opening}
 use Rattle.gw_outside.specs.declared.backends.Opening.TheVariants as gave
 use Rattle.gw_outside.specs.declared.happenings.Happening.{Happening}
 use Rattle.pool_sets.specs.Doors.{TakenFits, Takes}
@@ -43,13 +44,13 @@ use Rattle.leg.specs.declared.phases.Phase.{Phase}
 use Rattle.leg.specs.declared.phases.Phase.TheVariants.{Begin, Dialling, Dialled, Ready, Searching, Presenting, Fetching, Scanning, Returning, Losing, Redialling, Spoiled, Done, Ended}
 use Rattle.leg.specs.declared.tasks.Task.{Task}
 use Rattle.leg.specs.declared.tasks.Task.TheVariants.{Hits, Records, Scan}
-use Rattle.conn_quiet.specs.steps.Bearing.{AreBearable, AreNoWorse, FaresAt, HoldsFound, IsBorneAsked, IsBorneAt, IsBorneIn, IsReply, IsUncutBy, MayBeGone, MayMiss, is_cut_at, presents_at}
+use Rattle.conn_quiet.specs.steps.Bearing.{AreBearable, AreCutOnceMade, AreNoWorse, DialsGoOn, FaresAt, HoldsFound, IsBorneAsked, IsBorneAt, IsBorneIn, MayBeGone, MayMiss, is_cut_at, presents_at}
 use Rattle.conn_quiet.specs.steps.Quiet.{AreTold}
 use Rattle.conn_quiet.specs.steps.Whole.{AreIdle, IsPresent, IsScan, IsSearchUnder}
-use Rattle.conn_quiet.proofs.CountLemmas.{linked-then}
+use Rattle.conn_quiet.proofs.CountLemmas.{GotLink, linked-more, linked-then}
 use Rattle.conn_quiet.proofs.LegLemmas.{wanted-made}
 use Rattle.conn_quiet.proofs.PoolLemmas.{GivesWhole, IsGivenWhole, expire-whole, lose-whole, put-whole, redial-whole, take-whole}
-use Rattle.conn_quiet.proofs.SessionBearing.{ask-fares, at-bearable, look-in-time, look-rests, look-waits, new-fares}
+use Rattle.conn_quiet.proofs.SessionBearing.{IsReply, arrived, ask-fares, at-bearable, look-in-time, look-rests, look-waits, new-fares}
 
 -- ---- what was made to happen
 
@@ -70,6 +71,19 @@ uncut-at : (old new : Happened) (one other : Address) (number same : ℕ) → Ar
     → is_cut (at_address old one) number ≡ false → is_cut (at_address new other) same ≡ false
 uncut-at old new one other number same worse e f uncut =
     ap (λ (n : ℕ). nat_le same n) (cut-at old new one other worse e) ∙ ap (λ (n : ℕ). nat_le n (at_address old one).cut) f ∙ uncut
+
+-- a link that is made then is not cut
+cut-made : (backend : BackendView) (address : Address) → AreCutOnceMade backend → (at_address backend.happened address).cut ≤ backend.counts.dials
+cut-made backend (Test target) cuts = cuts target
+cut-made backend (Tcp host port) cuts = omega (arith)
+
+new-uncut : {S : Type 0} (backend moved : BackendView) (address : Address) (made : Opening S) → AreCutOnceMade backend → GotLink made
+    → OpenCounts true made backend.counts moved.counts → DialsGoOn moved.counts
+    → is_cut (at_address backend.happened address) moved.counts.dials ≡ false
+new-uncut backend moved address made cuts got counts go =
+    let last = cut-made backend address cuts in
+    let more_ = linked-more made backend.counts moved.counts got counts go in
+    lt-leb moved.counts.dials (at_address backend.happened address).cut (omega (arith, last, more_))
 
 -- a Present less is left of those that find their sets deleted
 present-less : (address : Address) (name : List ℕ) (first count : ℕ) (syntax element : Option (List ℕ)) (old new : Happened)
@@ -266,7 +280,8 @@ module _ {W S : Type 0} (w : world.Ghosts W) (t : sitting.Ghosts S W) (terms : T
 
 module _ {W S : Type 0} (w : world.Ghosts W) (t : sitting.Ghosts S W) (terms : Terms) (most : ℕ) (task : Task) (now gones : ℕ)
     (backend moved : BackendView) (p : Pool S) (behind : Option (Pool S)) (told : AreTold w terms.at)
-    (bearable : AreBearable terms.pool backend.happened) (worse : AreNoWorse backend.happened moved.happened)
+    (bearable : AreBearable terms.pool backend.happened) (cuts : AreCutOnceMade backend) (go : DialsGoOn moved.counts)
+    (worse : AreNoWorse backend.happened moved.happened)
     (few : gones ≤ terms.pool.repeats) (are : AreIdle (FaresAt w t terms.pool resting 0) (Some p)) where
   abbrev before_ : Happened
   before_ = backend.happened
@@ -418,11 +433,11 @@ module _ {W S : Type 0} (w : world.Ghosts W) (t : sitting.Ghosts S W) (terms : T
   open-goes : (seat : Seat) (member : ℕ) (made : _) → IsDue w t terms most task (Dialling seat member) (opened made)
       → LinksMove w t true terms backend moved (opened made) (Dialling seat member)
       → CountsMove w t true (opened made) backend.counts moved.counts
-      → IsUncutBy t terms backend moved (Dialling seat member) (opened made)
       → w.told (opened_at terms member) → gones ≡ 0 → behind ≡ Some p
       → FaresOn (Dialling seat member) (opened made)
-  open-goes seat member (gave.Session session) due links counts uncut at none k =
-      let steady = links at bearable.steady in record {
+  open-goes seat member (gave.Session session) due links counts at none k =
+      let steady = links at bearable.steady in
+      let uncut = new-uncut backend moved (opened_at terms member) (gave.Session session) cuts tt counts go in record {
         spends = refl;
         in_time = some-patience;
         few_gone = few;
@@ -439,9 +454,10 @@ module _ {W S : Type 0} (w : world.Ghosts W) (t : sitting.Ghosts S W) (terms : T
         left = tt;
         pool = same-pool k;
       }
-  open-goes seat member (gave.Failed made) due links counts uncut at none k =
-      neither-is (sym ((links at bearable.steady).1 refl) ∙ uncut)
-  open-goes seat member gave.Memory due links counts uncut at none k =
+  open-goes seat member (gave.Failed made) due links counts at none k =
+      let failed = links at bearable.steady in
+      neither-is (sym (failed.1 refl) ∙ new-uncut {S = S} backend moved (opened_at terms member) (gave.Failed made) cuts failed.0 counts go)
+  open-goes seat member gave.Memory due links counts at none k =
       record { spends = refl; in_time = some-patience; few_gone = few; stands = tt; left = tt; pool = same-pool k }
 
   -- ---- an ask
@@ -580,10 +596,10 @@ module _ {W S : Type 0} (w : world.Ghosts W) (t : sitting.Ghosts S W) (terms : T
         (look-waits w t terms.pool waits looks held.parts.session session before_ pends is.at l steady)
 
     -- a reply
-    replies : (reply : Heard) (counted_ : ℕ) → IsReply reply → Looks reply → Steady reply → (IsReply reply → is_cut_at t before_ held.parts.session ≡ false)
+    replies : (reply : Heard) (counted_ : ℕ) → IsReply reply → Looks reply → Steady reply
         → counted_ + presents_at t before_ held.parts.session ≤ terms.pool.repeats → Is resting 0 (replied session held) counted_
-    replies reply counted_ so l steady uncut own =
-        has-replied held session counted_ (uncut so) own l.address steady.number
+    replies reply counted_ so l steady own =
+        has-replied held session counted_ (steady.arrives (arrived reply so)) own l.address steady.number
         (look-rests w t terms.pool waits looks held.parts.session session before_ pends is.at reply so l steady)
 
     failed-stands : IsBorneIn w t terms behind_ (after_fault held) gones
@@ -609,41 +625,40 @@ module _ {W S : Type 0} (w : world.Ghosts W) (t : sitting.Ghosts S W) (terms : T
   dialled-stands : (held : Held S) (looks : ℕ) (reply : Heard) (session : S) → Was opening looks held gones
       → IsLook w t held.parts.session session reply
       → LooksSteadily (t.address held.parts.session) before_ (t.link held.parts.session) (t.link session) reply
-      → (IsReply reply → is_cut_at t before_ held.parts.session ≡ false)
       → IsBorneIn w t terms behind_ (after_opened terms.pool.patience held looks reply session) (gones_after (heard reply session))
-  dialled-stands held looks look.Opened session is l steady uncut = replies held opening looks session is tt look.Opened gones tt l steady uncut is.few_gone
-  dialled-stands held looks (look.Hits found) session is l steady uncut = tt
-  dialled-stands held looks (look.Refused diag) session is l steady uncut = tt
-  dialled-stands held looks (look.Items more_) session is l steady uncut = tt
-  dialled-stands held looks look.Gone session is l steady uncut = tt
-  dialled-stands held looks (look.Scanned entries) session is l steady uncut = tt
-  dialled-stands held looks look.NotYet session is l steady uncut =
+  dialled-stands held looks look.Opened session is l steady = replies held opening looks session is tt look.Opened gones tt l steady is.few_gone
+  dialled-stands held looks (look.Hits found) session is l steady = tt
+  dialled-stands held looks (look.Refused diag) session is l steady = tt
+  dialled-stands held looks (look.Items more_) session is l steady = tt
+  dialled-stands held looks look.Gone session is l steady = tt
+  dialled-stands held looks (look.Scanned entries) session is l steady = tt
+  dialled-stands held looks look.NotYet session is l steady =
       silent-borne w t terms behind_ terms.pool.patience (looks + 1) gones held (Dialled (with_session session held) (looks + 1))
       (waits-on held opening looks session is tt l steady)
-  dialled-stands held looks look.Failed session is l steady uncut = failed-stands held opening looks session is tt
-  dialled-stands held looks look.Memory session is l steady uncut = tt
+  dialled-stands held looks look.Failed session is l steady = failed-stands held opening looks session is tt
+  dialled-stands held looks look.Memory session is l steady = tt
 
   dialled-goes : (held : Held S) (looks : ℕ) (reply : Heard) (session : S) → IsLook w t held.parts.session session reply
       → LinksMove w t true terms backend moved (heard reply session) (Dialled held looks)
-      → IsUncutBy t terms backend moved (Dialled held looks) (heard reply session) → Was opening looks held gones
+      → Was opening looks held gones
       → behind ≡ Some p → FaresOn (Dialled held looks) (heard reply session)
-  dialled-goes held looks reply session l links uncut is k =
+  dialled-goes held looks reply session l links is k =
       let steady = links is.at.fares.told bearable.steady in
       look-goes held opening looks session is tt (Dialled held looks) reply refl refl
       (may-hear held opening looks session is tt reply l steady
       (λ e. absurd (subst (λ (r : Heard). Fits opening r) e (subst (λ (x : Pending). Fits x reply) is.at.waits l.fits))))
-      (dialled-stands held looks reply session is l steady uncut) tt k
+      (dialled-stands held looks reply session is l steady) tt k
 
   -- to a search
   searched-stands : (held : Held S) (items : List Item) (slot looks : ℕ) (reply : Heard) (session : S)
       → (is : IsBorneAsked w t terms before_ (IsSearchUnder slot) looks held gones)
       → IsLook w t held.parts.session session reply
       → LooksSteadily (t.address held.parts.session) before_ (t.link held.parts.session) (t.link session) reply
-      → (IsReply reply → is_cut_at t before_ held.parts.session ≡ false) → (reply ≡ look.Gone → ⊥)
+      → (reply ≡ look.Gone → ⊥)
       → IsBorneIn w t terms behind_ (after_search terms task now held items slot looks reply session) (gones_after (heard reply session))
-  searched-stands held items slot looks look.Opened session is l steady uncut fits = tt
-  searched-stands held items slot looks (look.Hits found) session is l steady uncut fits =
-      let stands = replies held (asked is.ask) looks session is.at tt (look.Hits found) gones tt l steady uncut is.at.few_gone in
+  searched-stands held items slot looks look.Opened session is l steady fits = tt
+  searched-stands held items slot looks (look.Hits found) session is l steady fits =
+      let stands = replies held (asked is.ask) looks session is.at tt (look.Hits found) gones tt l steady is.at.few_gone in
       let there : (t.link session).holds (slot_name slot) ≡ true =
       steady.holds (slot_name slot)
       ∙ hits-held w terms (t.address held.parts.session) slot found is.ask (t.made held.parts.session) (t.link held.parts.session).holds is.is_so
@@ -653,30 +668,29 @@ module _ {W S : Type 0} (w : world.Ghosts W) (t : sitting.Ghosts S W) (terms : T
       set-borne w t terms behind_ task (recorded (want_of task) slot found now (replied session held)) items slot found gones
       (recorded-borne w t terms behind_ (want_of task) slot found now (replied session held) gones stands)
       (recorded-may w t terms behind_ (want_of task) slot found now (replied session held) gones (λ missing. neither-is (sym there ∙ missing)))
-  searched-stands held items slot looks (look.Refused diag) session is l steady uncut fits =
-      (replies held (asked is.ask) looks session is.at tt (look.Refused diag) gones tt l steady uncut is.at.few_gone).at
-  searched-stands held items slot looks (look.Items more_) session is l steady uncut fits = tt
-  searched-stands held items slot looks look.Gone session is l steady uncut fits = tt
-  searched-stands held items slot looks (look.Scanned entries) session is l steady uncut fits = tt
-  searched-stands held items slot looks look.NotYet session is l steady uncut fits =
+  searched-stands held items slot looks (look.Refused diag) session is l steady fits =
+      (replies held (asked is.ask) looks session is.at tt (look.Refused diag) gones tt l steady is.at.few_gone).at
+  searched-stands held items slot looks (look.Items more_) session is l steady fits = tt
+  searched-stands held items slot looks look.Gone session is l steady fits = tt
+  searched-stands held items slot looks (look.Scanned entries) session is l steady fits = tt
+  searched-stands held items slot looks look.NotYet session is l steady fits =
       silent-borne w t terms behind_ terms.pool.patience (looks + 1) gones held (Searching (with_session session held) items slot (looks + 1))
       (record { ask = is.ask; at = waits-on held (asked is.ask) looks session is.at tt l steady; is_so = is.is_so })
-  searched-stands held items slot looks look.Failed session is l steady uncut fits = failed-stands held (asked is.ask) looks session is.at tt
-  searched-stands held items slot looks look.Memory session is l steady uncut fits = tt
+  searched-stands held items slot looks look.Failed session is l steady fits = failed-stands held (asked is.ask) looks session is.at tt
+  searched-stands held items slot looks look.Memory session is l steady fits = tt
 
   searching-goes : (held : Held S) (items : List Item) (slot looks : ℕ) (reply : Heard) (session : S) → IsLook w t held.parts.session session reply
       → LinksMove w t true terms backend moved (heard reply session) (Searching held items slot looks)
-      → IsUncutBy t terms backend moved (Searching held items slot looks) (heard reply session)
       → IsBorneAsked w t terms before_ (IsSearchUnder slot) looks held gones → behind ≡ Some p
       → FaresOn (Searching held items slot looks) (heard reply session)
-  searching-goes held items slot looks reply session l links uncut is k =
+  searching-goes held items slot looks reply session l links is k =
       let steady = links is.at.at.fares.told bearable.steady in
       let stands : reply ≡ look.Gone → ⊥ =
       λ e. search-stands slot is.ask is.is_so
       (subst (λ (r : Heard). Fits (asked is.ask) r) e (subst (λ (x : Pending). Fits x reply) is.at.at.waits l.fits)) in
       look-goes held (asked is.ask) looks session is.at tt (Searching held items slot looks) reply refl refl
       (may-hear held (asked is.ask) looks session is.at tt reply l steady (λ e. absurd (stands e)))
-      (searched-stands held items slot looks reply session is l steady uncut stands) tt k
+      (searched-stands held items slot looks reply session is l steady stands) tt k
 
   -- to a Present
   fetched-stands : (held : Held S) (items : List Item) (slot hits looks : ℕ) (reply : Heard) (session : S)
@@ -684,24 +698,23 @@ module _ {W S : Type 0} (w : world.Ghosts W) (t : sitting.Ghosts S W) (terms : T
       → MayMiss w t terms before_ slot held.parts.session gones → MayBeGone w t terms before_ held.parts.session gones
       → IsLook w t held.parts.session session reply
       → LooksSteadily (t.address held.parts.session) before_ (t.link held.parts.session) (t.link session) reply
-      → (IsReply reply → is_cut_at t before_ held.parts.session ≡ false)
       → IsBorneIn w t terms behind_
       (after_present terms task (gones_after (heard reply session)) held items slot hits looks reply session) (gones_after (heard reply session))
-  fetched-stands held items slot hits looks look.Opened session is may be l steady uncut = tt
-  fetched-stands held items slot hits looks (look.Hits found) session is may be l steady uncut = tt
-  fetched-stands held items slot hits looks (look.Refused diag) session is may be l steady uncut =
-      (replies held (asked is.ask) looks session is.at tt (look.Refused diag) gones tt l steady uncut is.at.few_gone).at
-  fetched-stands held items slot hits looks (look.Items others) session is may be l steady uncut =
+  fetched-stands held items slot hits looks look.Opened session is may be l steady = tt
+  fetched-stands held items slot hits looks (look.Hits found) session is may be l steady = tt
+  fetched-stands held items slot hits looks (look.Refused diag) session is may be l steady =
+      (replies held (asked is.ask) looks session is.at tt (look.Refused diag) gones tt l steady is.at.few_gone).at
+  fetched-stands held items slot hits looks (look.Items others) session is may be l steady =
       items-borne w t terms behind_ task (replied session held) (items ++ others) slot hits gones
-      (replies held (asked is.ask) looks session is.at tt (look.Items others) gones tt l steady uncut is.at.few_gone)
+      (replies held (asked is.ask) looks session is.at tt (look.Items others) gones tt l steady is.at.few_gone)
       (λ missing. may (sym (steady.holds (slot_name slot)) ∙ missing))
-  fetched-stands held items slot hits looks look.Gone session is may be l steady uncut =
+  fetched-stands held items slot hits looks look.Gone session is may be l steady =
       let room_ = be (steady.gone refl) in
-      let stands = replies held (asked is.ask) looks session is.at tt look.Gone (gones + 1) tt l steady uncut (omega (arith, room_)) in
+      let stands = replies held (asked is.ask) looks session is.at tt look.Gone (gones + 1) tt l steady (omega (arith, room_)) in
       again-borne w t terms behind_ terms.pool.repeats (gones + 1) _ items
       (record { at = stands.at; uncut = stands.uncut; first = stands.first; few_gone = stands.few_gone })
-  fetched-stands held items slot hits looks (look.Scanned entries) session is may be l steady uncut = tt
-  fetched-stands held items slot hits looks look.NotYet session is may be l steady uncut =
+  fetched-stands held items slot hits looks (look.Scanned entries) session is may be l steady = tt
+  fetched-stands held items slot hits looks look.NotYet session is may be l steady =
       silent-borne w t terms behind_ terms.pool.patience (looks + 1) gones held (Fetching (with_session session held) items slot hits (looks + 1)) (
         record { ask = is.ask; at = waits-on held (asked is.ask) looks session is.at tt l steady; is_so = is.is_so },
         λ missing. may (sym (steady.holds (slot_name slot)) ∙ missing),
@@ -710,56 +723,53 @@ module _ {W S : Type 0} (w : world.Ghosts W) (t : sitting.Ghosts S W) (terms : T
             let less = fewer-at before_ behind_ (t.address held.parts.session) (t.address session) worse l.address in
             omega (arith, room_, less),
       )
-  fetched-stands held items slot hits looks look.Failed session is may be l steady uncut = failed-stands held (asked is.ask) looks session is.at tt
-  fetched-stands held items slot hits looks look.Memory session is may be l steady uncut = tt
+  fetched-stands held items slot hits looks look.Failed session is may be l steady = failed-stands held (asked is.ask) looks session is.at tt
+  fetched-stands held items slot hits looks look.Memory session is may be l steady = tt
 
   fetching-goes : (held : Held S) (items : List Item) (slot hits looks : ℕ) (reply : Heard) (session : S)
       → IsLook w t held.parts.session session reply
       → LinksMove w t true terms backend moved (heard reply session) (Fetching held items slot hits looks)
-      → IsUncutBy t terms backend moved (Fetching held items slot hits looks) (heard reply session)
       → IsBorneAsked w t terms before_ IsPresent looks held gones → MayMiss w t terms before_ slot held.parts.session gones
       → MayBeGone w t terms before_ held.parts.session gones → behind ≡ Some p
       → FaresOn (Fetching held items slot hits looks) (heard reply session)
-  fetching-goes held items slot hits looks reply session l links uncut is may be k =
+  fetching-goes held items slot hits looks reply session l links is may be k =
       let steady = links is.at.at.fares.told bearable.steady in
       look-goes held (asked is.ask) looks session is.at tt (Fetching held items slot hits looks) reply refl refl
       (may-hear held (asked is.ask) looks session is.at tt reply l steady
       (λ e. let room_ = be (steady.gone e) in omega (arith, room_)))
-      (fetched-stands held items slot hits looks reply session is may be l steady uncut) tt k
+      (fetched-stands held items slot hits looks reply session is may be l steady) tt k
 
   -- to a Scan
   scanned-stands : (held : Held S) (looks : ℕ) (reply : Heard) (session : S)
       → (is : IsBorneAsked w t terms before_ IsScan looks held gones)
       → IsLook w t held.parts.session session reply
       → LooksSteadily (t.address held.parts.session) before_ (t.link held.parts.session) (t.link session) reply
-      → (IsReply reply → is_cut_at t before_ held.parts.session ≡ false)
       → IsBorneIn w t terms behind_ (after_scan terms.pool.patience held looks reply session) (gones_after (heard reply session))
-  scanned-stands held looks look.Opened session is l steady uncut = tt
-  scanned-stands held looks (look.Hits found) session is l steady uncut = tt
-  scanned-stands held looks (look.Refused diag) session is l steady uncut =
-      (replies held (asked is.ask) looks session is.at tt (look.Refused diag) gones tt l steady uncut is.at.few_gone).at
-  scanned-stands held looks (look.Items more_) session is l steady uncut = tt
-  scanned-stands held looks look.Gone session is l steady uncut = tt
-  scanned-stands held looks (look.Scanned entries) session is l steady uncut =
-      (replies held (asked is.ask) looks session is.at tt (look.Scanned entries) gones tt l steady uncut is.at.few_gone).at
-  scanned-stands held looks look.NotYet session is l steady uncut =
+  scanned-stands held looks look.Opened session is l steady = tt
+  scanned-stands held looks (look.Hits found) session is l steady = tt
+  scanned-stands held looks (look.Refused diag) session is l steady =
+      (replies held (asked is.ask) looks session is.at tt (look.Refused diag) gones tt l steady is.at.few_gone).at
+  scanned-stands held looks (look.Items more_) session is l steady = tt
+  scanned-stands held looks look.Gone session is l steady = tt
+  scanned-stands held looks (look.Scanned entries) session is l steady =
+      (replies held (asked is.ask) looks session is.at tt (look.Scanned entries) gones tt l steady is.at.few_gone).at
+  scanned-stands held looks look.NotYet session is l steady =
       silent-borne w t terms behind_ terms.pool.patience (looks + 1) gones held (Scanning (with_session session held) (looks + 1))
       (record { ask = is.ask; at = waits-on held (asked is.ask) looks session is.at tt l steady; is_so = is.is_so })
-  scanned-stands held looks look.Failed session is l steady uncut = failed-stands held (asked is.ask) looks session is.at tt
-  scanned-stands held looks look.Memory session is l steady uncut = tt
+  scanned-stands held looks look.Failed session is l steady = failed-stands held (asked is.ask) looks session is.at tt
+  scanned-stands held looks look.Memory session is l steady = tt
 
   scanning-goes : (held : Held S) (looks : ℕ) (reply : Heard) (session : S) → IsLook w t held.parts.session session reply
       → LinksMove w t true terms backend moved (heard reply session) (Scanning held looks)
-      → IsUncutBy t terms backend moved (Scanning held looks) (heard reply session)
       → IsBorneAsked w t terms before_ IsScan looks held gones → behind ≡ Some p
       → FaresOn (Scanning held looks) (heard reply session)
-  scanning-goes held looks reply session l links uncut is k =
+  scanning-goes held looks reply session l links is k =
       let steady = links is.at.at.fares.told bearable.steady in
       look-goes held (asked is.ask) looks session is.at tt (Scanning held looks) reply refl refl
       (may-hear held (asked is.ask) looks session is.at tt reply l steady
       (λ e. absurd (scan-stands is.ask is.is_so
       (subst (λ (r : Heard). Fits (asked is.ask) r) e (subst (λ (x : Pending). Fits x reply) is.at.at.waits l.fits)))))
-      (scanned-stands held looks reply session is l steady uncut) tt k
+      (scanned-stands held looks reply session is l steady) tt k
 
   -- ---- each phase
 
@@ -790,131 +800,131 @@ module _ {W S : Type 0} (w : world.Ghosts W) (t : sitting.Ghosts S W) (terms : T
   }
 
   pub deed-bears : (old : Phase S) (deed : Deed S) → IsDue w t terms most task old deed → LinksMove w t true terms backend moved deed old
-      → CountsMove w t true deed backend.counts moved.counts → IsUncutBy t terms backend moved old deed → IsBorneIn w t terms before_ old gones
+      → CountsMove w t true deed backend.counts moved.counts → IsBorneIn w t terms before_ old gones
       → PoolMoves terms task now old deed (Some p) behind → FaresOn old deed
-  deed-bears Begin (took gives) d links c u is k = take-goes gives is d k
-  deed-bears Begin (opened made) d links c u is k = absurd d
-  deed-bears Begin (began asks reply session) d links c u is k = absurd d
-  deed-bears Begin (heard reply session) d links c u is k = absurd d
-  deed-bears Begin put_back d links c u is k = absurd d
-  deed-bears Begin gave_up d links c u is k = absurd d
-  deed-bears Begin (redialled member_) d links c u is k = absurd d
-  deed-bears Begin no_memory d links c u is k = absurd d
-  deed-bears Begin nothing d links c u is k = absurd d
-  deed-bears (Dialling seat member) (took gives) d links c u is k = absurd d
-  deed-bears (Dialling seat member) (opened made) d links c u is k = open-goes seat member made d links c u is.0 is.1 k
-  deed-bears (Dialling seat member) (began asks reply session) d links c u is k = absurd d
-  deed-bears (Dialling seat member) (heard reply session) d links c u is k = absurd d
-  deed-bears (Dialling seat member) put_back d links c u is k = absurd d
-  deed-bears (Dialling seat member) gave_up d links c u is k = absurd d
-  deed-bears (Dialling seat member) (redialled member_) d links c u is k = absurd d
-  deed-bears (Dialling seat member) no_memory d links c u is k = still (Dialling seat member) no_memory refl refl refl refl is (λ stands. tt) k
-  deed-bears (Dialling seat member) nothing d links c u is k = absurd d
-  deed-bears (Dialled held looks) (took gives) d links c u is k = absurd d
-  deed-bears (Dialled held looks) (opened made) d links c u is k = absurd d
-  deed-bears (Dialled held looks) (began asks reply session) d links c u is k = absurd d
-  deed-bears (Dialled held looks) (heard reply session) d links c u is k = dialled-goes held looks reply session d links u is k
-  deed-bears (Dialled held looks) put_back d links c u is k = absurd d
-  deed-bears (Dialled held looks) gave_up d links c u is k = absurd d
-  deed-bears (Dialled held looks) (redialled member_) d links c u is k = absurd d
-  deed-bears (Dialled held looks) no_memory d links c u is k = absurd d
-  deed-bears (Dialled held looks) nothing d links c u is k = absurd d
-  deed-bears (Ready held items) (took gives) d links c u is k = absurd d
-  deed-bears (Ready held items) (opened made) d links c u is k = absurd d
-  deed-bears (Ready held items) (began asks reply session) d links c u is k = first-goes held items asks reply session d links is k
-  deed-bears (Ready held items) (heard reply session) d links c u is k = absurd d
-  deed-bears (Ready held items) put_back d links c u is k = absurd d
-  deed-bears (Ready held items) gave_up d links c u is k = absurd d
-  deed-bears (Ready held items) (redialled member_) d links c u is k = absurd d
-  deed-bears (Ready held items) no_memory d links c u is k = still (Ready held items) no_memory refl refl refl refl is (λ stands. tt) k
-  deed-bears (Ready held items) nothing d links c u is k = absurd d
-  deed-bears (Searching held items slot looks) (took gives) d links c u is k = absurd d
-  deed-bears (Searching held items slot looks) (opened made) d links c u is k = absurd d
-  deed-bears (Searching held items slot looks) (began asks reply session) d links c u is k = absurd d
-  deed-bears (Searching held items slot looks) (heard reply session) d links c u is k = searching-goes held items slot looks reply session d links u is k
-  deed-bears (Searching held items slot looks) put_back d links c u is k = absurd d
-  deed-bears (Searching held items slot looks) gave_up d links c u is k = absurd d
-  deed-bears (Searching held items slot looks) (redialled member_) d links c u is k = absurd d
-  deed-bears (Searching held items slot looks) no_memory d links c u is k = absurd d
-  deed-bears (Searching held items slot looks) nothing d links c u is k = absurd d
-  deed-bears (Presenting held items slot hits) (took gives) d links c u is k = absurd d
-  deed-bears (Presenting held items slot hits) (opened made) d links c u is k = absurd d
-  deed-bears (Presenting held items slot hits) (began asks reply session) d links c u is k = next-goes held items slot hits asks reply session task refl d links is.0 is.1 k
-  deed-bears (Presenting held items slot hits) (heard reply session) d links c u is k = absurd d
-  deed-bears (Presenting held items slot hits) put_back d links c u is k = absurd d
-  deed-bears (Presenting held items slot hits) gave_up d links c u is k = absurd d
-  deed-bears (Presenting held items slot hits) (redialled member_) d links c u is k = absurd d
-  deed-bears (Presenting held items slot hits) no_memory d links c u is k = still (Presenting held items slot hits) no_memory refl refl refl refl is (λ stands. tt) k
-  deed-bears (Presenting held items slot hits) nothing d links c u is k = absurd d
-  deed-bears (Fetching held items slot hits looks) (took gives) d links c u is k = absurd d
-  deed-bears (Fetching held items slot hits looks) (opened made) d links c u is k = absurd d
-  deed-bears (Fetching held items slot hits looks) (began asks reply session) d links c u is k = absurd d
-  deed-bears (Fetching held items slot hits looks) (heard reply session) d links c u is k = fetching-goes held items slot hits looks reply session d links u is.0 is.1 is.2 k
-  deed-bears (Fetching held items slot hits looks) put_back d links c u is k = absurd d
-  deed-bears (Fetching held items slot hits looks) gave_up d links c u is k = absurd d
-  deed-bears (Fetching held items slot hits looks) (redialled member_) d links c u is k = absurd d
-  deed-bears (Fetching held items slot hits looks) no_memory d links c u is k = absurd d
-  deed-bears (Fetching held items slot hits looks) nothing d links c u is k = absurd d
-  deed-bears (Scanning held looks) (took gives) d links c u is k = absurd d
-  deed-bears (Scanning held looks) (opened made) d links c u is k = absurd d
-  deed-bears (Scanning held looks) (began asks reply session) d links c u is k = absurd d
-  deed-bears (Scanning held looks) (heard reply session) d links c u is k = scanning-goes held looks reply session d links u is k
-  deed-bears (Scanning held looks) put_back d links c u is k = absurd d
-  deed-bears (Scanning held looks) gave_up d links c u is k = absurd d
-  deed-bears (Scanning held looks) (redialled member_) d links c u is k = absurd d
-  deed-bears (Scanning held looks) no_memory d links c u is k = absurd d
-  deed-bears (Scanning held looks) nothing d links c u is k = absurd d
-  deed-bears (Returning held own) (took gives) d links c u is k = absurd d
-  deed-bears (Returning held own) (opened made) d links c u is k = absurd d
-  deed-bears (Returning held own) (began asks reply session) d links c u is k = absurd d
-  deed-bears (Returning held own) (heard reply session) d links c u is k = absurd d
-  deed-bears (Returning held own) put_back d links c u is k = gone-on (Returning held own) put_back refl refl refl tt tt (moved-pool k (put-whole (FaresAt w t terms.pool resting 0) held.seat held.parts now p is are))
-  deed-bears (Returning held own) gave_up d links c u is k = absurd d
-  deed-bears (Returning held own) (redialled member_) d links c u is k = absurd d
-  deed-bears (Returning held own) no_memory d links c u is k = absurd d
-  deed-bears (Returning held own) nothing d links c u is k = absurd d
-  deed-bears (Losing seat own) (took gives) d links c u is k = absurd d
-  deed-bears (Losing seat own) (opened made) d links c u is k = absurd d
-  deed-bears (Losing seat own) (began asks reply session) d links c u is k = absurd d
-  deed-bears (Losing seat own) (heard reply session) d links c u is k = absurd d
-  deed-bears (Losing seat own) put_back d links c u is k = absurd d
-  deed-bears (Losing seat own) gave_up d links c u is k = gone-on (Losing seat own) gave_up refl refl refl tt tt (moved-pool k (lose-whole (FaresAt w t terms.pool resting 0) seat p are))
-  deed-bears (Losing seat own) (redialled member_) d links c u is k = absurd d
-  deed-bears (Losing seat own) no_memory d links c u is k = absurd d
-  deed-bears (Losing seat own) nothing d links c u is k = absurd d
-  deed-bears (Redialling seat) (took gives) d links c u is k = absurd d
-  deed-bears (Redialling seat) (opened made) d links c u is k = absurd d
-  deed-bears (Redialling seat) (began asks reply session) d links c u is k = absurd d
-  deed-bears (Redialling seat) (heard reply session) d links c u is k = absurd d
-  deed-bears (Redialling seat) put_back d links c u is k = absurd d
-  deed-bears (Redialling seat) gave_up d links c u is k = absurd d
-  deed-bears (Redialling seat) (redialled member_) d links c u is k = gone-on (Redialling seat) (redialled member_) refl refl refl (member-told member_ d, is) tt (moved-pool k.1 (redial-whole (FaresAt w t terms.pool resting 0) seat terms.at p are))
-  deed-bears (Redialling seat) no_memory d links c u is k = absurd d
-  deed-bears (Redialling seat) nothing d links c u is k = absurd d
-  deed-bears (Spoiled seat) (took gives) d links c u is k = absurd d
-  deed-bears (Spoiled seat) (opened made) d links c u is k = absurd d
-  deed-bears (Spoiled seat) (began asks reply session) d links c u is k = absurd d
-  deed-bears (Spoiled seat) (heard reply session) d links c u is k = absurd d
-  deed-bears (Spoiled seat) put_back d links c u is k = absurd d
-  deed-bears (Spoiled seat) gave_up d links c u is k = absurd d
-  deed-bears (Spoiled seat) (redialled member_) d links c u is k = absurd d
-  deed-bears (Spoiled seat) no_memory d links c u is k = still (Spoiled seat) no_memory refl refl refl refl is (λ stands. tt) k
-  deed-bears (Spoiled seat) nothing d links c u is k = absurd d
-  deed-bears (Done own) (took gives) d links c u is k = absurd d
-  deed-bears (Done own) (opened made) d links c u is k = absurd d
-  deed-bears (Done own) (began asks reply session) d links c u is k = absurd d
-  deed-bears (Done own) (heard reply session) d links c u is k = absurd d
-  deed-bears (Done own) put_back d links c u is k = absurd d
-  deed-bears (Done own) gave_up d links c u is k = absurd d
-  deed-bears (Done own) (redialled member_) d links c u is k = absurd d
-  deed-bears (Done own) no_memory d links c u is k = absurd d
-  deed-bears (Done own) nothing d links c u is k = still (Done own) nothing refl refl refl refl is (λ stands. tt) k
-  deed-bears Ended (took gives) d links c u is k = absurd d
-  deed-bears Ended (opened made) d links c u is k = absurd d
-  deed-bears Ended (began asks reply session) d links c u is k = absurd d
-  deed-bears Ended (heard reply session) d links c u is k = absurd d
-  deed-bears Ended put_back d links c u is k = absurd d
-  deed-bears Ended gave_up d links c u is k = absurd d
-  deed-bears Ended (redialled member_) d links c u is k = absurd d
-  deed-bears Ended no_memory d links c u is k = still Ended no_memory refl refl refl refl is (λ stands. tt) k
-  deed-bears Ended nothing d links c u is k = absurd d
+  deed-bears Begin (took gives) d links c is k = take-goes gives is d k
+  deed-bears Begin (opened made) d links c is k = absurd d
+  deed-bears Begin (began asks reply session) d links c is k = absurd d
+  deed-bears Begin (heard reply session) d links c is k = absurd d
+  deed-bears Begin put_back d links c is k = absurd d
+  deed-bears Begin gave_up d links c is k = absurd d
+  deed-bears Begin (redialled member_) d links c is k = absurd d
+  deed-bears Begin no_memory d links c is k = absurd d
+  deed-bears Begin nothing d links c is k = absurd d
+  deed-bears (Dialling seat member) (took gives) d links c is k = absurd d
+  deed-bears (Dialling seat member) (opened made) d links c is k = open-goes seat member made d links c is.0 is.1 k
+  deed-bears (Dialling seat member) (began asks reply session) d links c is k = absurd d
+  deed-bears (Dialling seat member) (heard reply session) d links c is k = absurd d
+  deed-bears (Dialling seat member) put_back d links c is k = absurd d
+  deed-bears (Dialling seat member) gave_up d links c is k = absurd d
+  deed-bears (Dialling seat member) (redialled member_) d links c is k = absurd d
+  deed-bears (Dialling seat member) no_memory d links c is k = still (Dialling seat member) no_memory refl refl refl refl is (λ stands. tt) k
+  deed-bears (Dialling seat member) nothing d links c is k = absurd d
+  deed-bears (Dialled held looks) (took gives) d links c is k = absurd d
+  deed-bears (Dialled held looks) (opened made) d links c is k = absurd d
+  deed-bears (Dialled held looks) (began asks reply session) d links c is k = absurd d
+  deed-bears (Dialled held looks) (heard reply session) d links c is k = dialled-goes held looks reply session d links is k
+  deed-bears (Dialled held looks) put_back d links c is k = absurd d
+  deed-bears (Dialled held looks) gave_up d links c is k = absurd d
+  deed-bears (Dialled held looks) (redialled member_) d links c is k = absurd d
+  deed-bears (Dialled held looks) no_memory d links c is k = absurd d
+  deed-bears (Dialled held looks) nothing d links c is k = absurd d
+  deed-bears (Ready held items) (took gives) d links c is k = absurd d
+  deed-bears (Ready held items) (opened made) d links c is k = absurd d
+  deed-bears (Ready held items) (began asks reply session) d links c is k = first-goes held items asks reply session d links is k
+  deed-bears (Ready held items) (heard reply session) d links c is k = absurd d
+  deed-bears (Ready held items) put_back d links c is k = absurd d
+  deed-bears (Ready held items) gave_up d links c is k = absurd d
+  deed-bears (Ready held items) (redialled member_) d links c is k = absurd d
+  deed-bears (Ready held items) no_memory d links c is k = still (Ready held items) no_memory refl refl refl refl is (λ stands. tt) k
+  deed-bears (Ready held items) nothing d links c is k = absurd d
+  deed-bears (Searching held items slot looks) (took gives) d links c is k = absurd d
+  deed-bears (Searching held items slot looks) (opened made) d links c is k = absurd d
+  deed-bears (Searching held items slot looks) (began asks reply session) d links c is k = absurd d
+  deed-bears (Searching held items slot looks) (heard reply session) d links c is k = searching-goes held items slot looks reply session d links is k
+  deed-bears (Searching held items slot looks) put_back d links c is k = absurd d
+  deed-bears (Searching held items slot looks) gave_up d links c is k = absurd d
+  deed-bears (Searching held items slot looks) (redialled member_) d links c is k = absurd d
+  deed-bears (Searching held items slot looks) no_memory d links c is k = absurd d
+  deed-bears (Searching held items slot looks) nothing d links c is k = absurd d
+  deed-bears (Presenting held items slot hits) (took gives) d links c is k = absurd d
+  deed-bears (Presenting held items slot hits) (opened made) d links c is k = absurd d
+  deed-bears (Presenting held items slot hits) (began asks reply session) d links c is k = next-goes held items slot hits asks reply session task refl d links is.0 is.1 k
+  deed-bears (Presenting held items slot hits) (heard reply session) d links c is k = absurd d
+  deed-bears (Presenting held items slot hits) put_back d links c is k = absurd d
+  deed-bears (Presenting held items slot hits) gave_up d links c is k = absurd d
+  deed-bears (Presenting held items slot hits) (redialled member_) d links c is k = absurd d
+  deed-bears (Presenting held items slot hits) no_memory d links c is k = still (Presenting held items slot hits) no_memory refl refl refl refl is (λ stands. tt) k
+  deed-bears (Presenting held items slot hits) nothing d links c is k = absurd d
+  deed-bears (Fetching held items slot hits looks) (took gives) d links c is k = absurd d
+  deed-bears (Fetching held items slot hits looks) (opened made) d links c is k = absurd d
+  deed-bears (Fetching held items slot hits looks) (began asks reply session) d links c is k = absurd d
+  deed-bears (Fetching held items slot hits looks) (heard reply session) d links c is k = fetching-goes held items slot hits looks reply session d links is.0 is.1 is.2 k
+  deed-bears (Fetching held items slot hits looks) put_back d links c is k = absurd d
+  deed-bears (Fetching held items slot hits looks) gave_up d links c is k = absurd d
+  deed-bears (Fetching held items slot hits looks) (redialled member_) d links c is k = absurd d
+  deed-bears (Fetching held items slot hits looks) no_memory d links c is k = absurd d
+  deed-bears (Fetching held items slot hits looks) nothing d links c is k = absurd d
+  deed-bears (Scanning held looks) (took gives) d links c is k = absurd d
+  deed-bears (Scanning held looks) (opened made) d links c is k = absurd d
+  deed-bears (Scanning held looks) (began asks reply session) d links c is k = absurd d
+  deed-bears (Scanning held looks) (heard reply session) d links c is k = scanning-goes held looks reply session d links is k
+  deed-bears (Scanning held looks) put_back d links c is k = absurd d
+  deed-bears (Scanning held looks) gave_up d links c is k = absurd d
+  deed-bears (Scanning held looks) (redialled member_) d links c is k = absurd d
+  deed-bears (Scanning held looks) no_memory d links c is k = absurd d
+  deed-bears (Scanning held looks) nothing d links c is k = absurd d
+  deed-bears (Returning held own) (took gives) d links c is k = absurd d
+  deed-bears (Returning held own) (opened made) d links c is k = absurd d
+  deed-bears (Returning held own) (began asks reply session) d links c is k = absurd d
+  deed-bears (Returning held own) (heard reply session) d links c is k = absurd d
+  deed-bears (Returning held own) put_back d links c is k = gone-on (Returning held own) put_back refl refl refl tt tt (moved-pool k (put-whole (FaresAt w t terms.pool resting 0) held.seat held.parts now p is are))
+  deed-bears (Returning held own) gave_up d links c is k = absurd d
+  deed-bears (Returning held own) (redialled member_) d links c is k = absurd d
+  deed-bears (Returning held own) no_memory d links c is k = absurd d
+  deed-bears (Returning held own) nothing d links c is k = absurd d
+  deed-bears (Losing seat own) (took gives) d links c is k = absurd d
+  deed-bears (Losing seat own) (opened made) d links c is k = absurd d
+  deed-bears (Losing seat own) (began asks reply session) d links c is k = absurd d
+  deed-bears (Losing seat own) (heard reply session) d links c is k = absurd d
+  deed-bears (Losing seat own) put_back d links c is k = absurd d
+  deed-bears (Losing seat own) gave_up d links c is k = gone-on (Losing seat own) gave_up refl refl refl tt tt (moved-pool k (lose-whole (FaresAt w t terms.pool resting 0) seat p are))
+  deed-bears (Losing seat own) (redialled member_) d links c is k = absurd d
+  deed-bears (Losing seat own) no_memory d links c is k = absurd d
+  deed-bears (Losing seat own) nothing d links c is k = absurd d
+  deed-bears (Redialling seat) (took gives) d links c is k = absurd d
+  deed-bears (Redialling seat) (opened made) d links c is k = absurd d
+  deed-bears (Redialling seat) (began asks reply session) d links c is k = absurd d
+  deed-bears (Redialling seat) (heard reply session) d links c is k = absurd d
+  deed-bears (Redialling seat) put_back d links c is k = absurd d
+  deed-bears (Redialling seat) gave_up d links c is k = absurd d
+  deed-bears (Redialling seat) (redialled member_) d links c is k = gone-on (Redialling seat) (redialled member_) refl refl refl (member-told member_ d, is) tt (moved-pool k.1 (redial-whole (FaresAt w t terms.pool resting 0) seat terms.at p are))
+  deed-bears (Redialling seat) no_memory d links c is k = absurd d
+  deed-bears (Redialling seat) nothing d links c is k = absurd d
+  deed-bears (Spoiled seat) (took gives) d links c is k = absurd d
+  deed-bears (Spoiled seat) (opened made) d links c is k = absurd d
+  deed-bears (Spoiled seat) (began asks reply session) d links c is k = absurd d
+  deed-bears (Spoiled seat) (heard reply session) d links c is k = absurd d
+  deed-bears (Spoiled seat) put_back d links c is k = absurd d
+  deed-bears (Spoiled seat) gave_up d links c is k = absurd d
+  deed-bears (Spoiled seat) (redialled member_) d links c is k = absurd d
+  deed-bears (Spoiled seat) no_memory d links c is k = still (Spoiled seat) no_memory refl refl refl refl is (λ stands. tt) k
+  deed-bears (Spoiled seat) nothing d links c is k = absurd d
+  deed-bears (Done own) (took gives) d links c is k = absurd d
+  deed-bears (Done own) (opened made) d links c is k = absurd d
+  deed-bears (Done own) (began asks reply session) d links c is k = absurd d
+  deed-bears (Done own) (heard reply session) d links c is k = absurd d
+  deed-bears (Done own) put_back d links c is k = absurd d
+  deed-bears (Done own) gave_up d links c is k = absurd d
+  deed-bears (Done own) (redialled member_) d links c is k = absurd d
+  deed-bears (Done own) no_memory d links c is k = absurd d
+  deed-bears (Done own) nothing d links c is k = still (Done own) nothing refl refl refl refl is (λ stands. tt) k
+  deed-bears Ended (took gives) d links c is k = absurd d
+  deed-bears Ended (opened made) d links c is k = absurd d
+  deed-bears Ended (began asks reply session) d links c is k = absurd d
+  deed-bears Ended (heard reply session) d links c is k = absurd d
+  deed-bears Ended put_back d links c is k = absurd d
+  deed-bears Ended gave_up d links c is k = absurd d
+  deed-bears Ended (redialled member_) d links c is k = absurd d
+  deed-bears Ended no_memory d links c is k = still Ended no_memory refl refl refl refl is (λ stands. tt) k
+  deed-bears Ended nothing d links c is k = absurd d

@@ -1,125 +1,28 @@
--- The legs of a request, while no more befalls links than they bear, and none was cut
-use Rattle.std.proofs.Common.{◌≡◌, ◌∙◌, ◌≤◌, ℕ, Bool, true, false, List, [], ◌∷◌, ◌++◌, map, refl, sym, ap, subst, arith, nat_le}
-use Rattle.std.specs.Prelude.{IfSome}
-use Rattle.z_types.specs.declared.address.Address.{Address}
-use Rattle.z_types.specs.declared.address.Address.TheVariants.{Test, Tcp}
+-- The legs of a request, while no more befalls links than they bear
+use Rattle.std.proofs.Common.{◌≡◌, ◌∙◌, ◌≤◌, ℕ, Bool, true, false, List, [], ◌∷◌, ◌++◌, map, refl, sym, ap, subst, arith}
 use Rattle.z_types.specs.declared.sitting.Sitting as sitting
 use Rattle.z_types.specs.declared.work.Work.{Work}
 use Rattle.z_types.specs.declared.world.World as world
-use Rattle.gw_outside.specs.Happened.{Happened, at_address, is_cut}
-use Rattle.gw_outside.specs.declared.backends.Heard.{Heard}
-use Rattle.gw_outside.specs.declared.backends.Opening.TheVariants as opening
-use Rattle.gw_outside.proofs.QuietLemmas.{none_cut}
+use Rattle.gw_outside.specs.Happened.{Happened}
 use Rattle.route_config.specs.declared.route.Route.{Route}
-use Rattle.leg.specs.Deeds.{BackendView, CountsMove, Deed, took, opened, began, heard, put_back, gave_up, redialled, no_memory, nothing}
+use Rattle.leg.specs.Deeds.{BackendView}
 use Rattle.leg.specs.LegView.{LegView}
-use Rattle.leg.specs.Links.{LinksMove}
-use Rattle.leg.specs.Phases.{is_done, session_of}
-use Rattle.leg.specs.Terms.{Terms, opened_at, terms_of}
+use Rattle.leg.specs.Phases.{is_done}
+use Rattle.leg.specs.Terms.{terms_of}
 use Rattle.leg.specs.Turns.{DoorView}
 use Rattle.leg.specs.declared.answers.Turned.{Turned}
 use Rattle.leg.specs.declared.answers.Turned.TheVariants as turned
-use Rattle.leg.specs.declared.phases.Phase.{Phase}
-use Rattle.leg.specs.declared.phases.Phase.TheVariants.{Begin, Dialling, Dialled, Ready, Searching, Presenting, Fetching, Scanning, Returning, Losing, Redialling, Spoiled, Done, Ended}
 use Rattle.package_rules.specs.Asked.{Asked, first_asked}
 use Rattle.package_rules.specs.Planned.{then_asked_by}
 use Rattle.package.specs.declared.turning.Round.{Round}
 use Rattle.package.specs.steps.Packages.{PackageView, answers_of, begun, new_package}
 use Rattle.package.specs.steps.Turns.{GoesOn, HasTurned, HaveTurned, IsPackageTurn, Plans, TakesTurn, all_done, no_round}
-use Rattle.conn_quiet.specs.steps.Bearing.{AllBear, AreBearable, AreNoWorse, AreUncut, BearsAt, BearsOn, FaresAt, IsBorneBy, IsBorneIn, IsReply, IsUncutBy, LegBears, is_cut_at}
+use Rattle.conn_quiet.specs.steps.Bearing.{AllBear, AreBearable, AreNoWorse, BearsAt, BearsOn, DialsGoOn, IsBorneBy, LegBears}
 use Rattle.conn_quiet.specs.steps.Quiet.{IsToldRoute}
-use Rattle.conn_quiet.proofs.CountLemmas.{linked-then}
+use Rattle.conn_quiet.proofs.CountLemmas.{dials-on}
 use Rattle.conn_quiet.proofs.LegBearing.{leg-stays}
 use Rattle.conn_quiet.proofs.PackageLemmas.{leg-told}
 use Rattle.conn_quiet.proofs.TurnBearing.{turn-bears}
-
--- ---- no link was cut
-
-cut-none : (h : Happened) (address : Address) → AreUncut h → (at_address h address).cut ≡ 0
-cut-none h (Test target) uncut = uncut target
-cut-none h (Tcp host port) uncut = refl
-
-uncut-link : (h : Happened) (address : Address) (number : ℕ) → AreUncut h → 1 ≤ number → is_cut (at_address h address) number ≡ false
-uncut-link h address number uncut linked = ap (λ (c : ℕ). nat_le number c) (cut-none h address uncut) ∙ none_cut number linked
-
-pub uncut-stays : (old new : Happened) → AreNoWorse old new → AreUncut old → AreUncut new
-uncut-stays old new worse uncut = λ target. worse.cut target ∙ uncut target
-
-module _ {W S : Type 0} (w : world.Ghosts W) (t : sitting.Ghosts S W) (terms : Terms) (backend moved : BackendView)
-    (uncut : AreUncut backend.happened) where
-  reply-uncut : (waits : _) (looks : ℕ) (session : S) (reply : Heard) → FaresAt w t terms.pool waits looks session
-      → IsReply reply → is_cut_at t backend.happened session ≡ false
-  reply-uncut waits looks session reply fares so =
-      uncut-link backend.happened (t.address session) (t.link session).number uncut fares.fares.linked
-
-  heard-uncut : (phase : Phase S) (gones : ℕ) (reply : Heard) → IsBorneIn w t terms backend.happened phase gones
-      → IfSome (session_of phase) (λ session. IsReply reply → is_cut_at t backend.happened session ≡ false)
-  heard-uncut Begin gones reply is = tt
-  heard-uncut (Dialling seat member) gones reply is = tt
-  heard-uncut (Dialled held looks) gones reply is = reply-uncut _ _ held.parts.session reply is.at
-  heard-uncut (Ready held items) gones reply is = reply-uncut _ _ held.parts.session reply is.at
-  heard-uncut (Searching held items slot looks) gones reply is = reply-uncut _ _ held.parts.session reply is.at.at
-  heard-uncut (Presenting held items slot hits) gones reply is = reply-uncut _ _ held.parts.session reply is.0.at
-  heard-uncut (Fetching held items slot hits looks) gones reply is = reply-uncut _ _ held.parts.session reply is.0.at.at
-  heard-uncut (Scanning held looks) gones reply is = reply-uncut _ _ held.parts.session reply is.at.at
-  heard-uncut (Returning held own) gones reply is = reply-uncut _ _ held.parts.session reply is
-  heard-uncut (Losing seat own) gones reply is = tt
-  heard-uncut (Redialling seat) gones reply is = tt
-  heard-uncut (Spoiled seat) gones reply is = tt
-  heard-uncut (Done own) gones reply is = tt
-  heard-uncut Ended gones reply is = tt
-
-  session-uncut : (phase : Phase S) (gones : ℕ) (session : S) → IsBorneIn w t terms backend.happened phase gones → backend.happened.steady ≡ true
-      → LinksMove w t true terms backend moved (opened (opening.Session session)) phase
-      → CountsMove w t true (opened (opening.Session session)) backend.counts moved.counts → IsUncutBy t terms backend moved phase (opened (opening.Session session))
-  session-uncut Begin gones session is steady links c = tt
-  session-uncut (Dialling seat member) gones session is steady links c = uncut-link backend.happened (opened_at terms member) moved.counts.dials uncut (linked-then {S = S} (opening.Session session) backend.counts moved.counts tt c)
-  session-uncut (Dialled held looks) gones session is steady links c = tt
-  session-uncut (Ready held items) gones session is steady links c = tt
-  session-uncut (Searching held items slot looks) gones session is steady links c = tt
-  session-uncut (Presenting held items slot hits) gones session is steady links c = tt
-  session-uncut (Fetching held items slot hits looks) gones session is steady links c = tt
-  session-uncut (Scanning held looks) gones session is steady links c = tt
-  session-uncut (Returning held own) gones session is steady links c = tt
-  session-uncut (Losing seat own) gones session is steady links c = tt
-  session-uncut (Redialling seat) gones session is steady links c = tt
-  session-uncut (Spoiled seat) gones session is steady links c = tt
-  session-uncut (Done own) gones session is steady links c = tt
-  session-uncut Ended gones session is steady links c = tt
-
-  failed-uncut : (phase : Phase S) (gones : ℕ) (linked : Bool) → IsBorneIn w t terms backend.happened phase gones → backend.happened.steady ≡ true
-      → LinksMove w t true terms backend moved (opened (opening.Failed linked)) phase
-      → CountsMove w t true (opened (opening.Failed linked)) backend.counts moved.counts → IsUncutBy t terms backend moved phase (opened (opening.Failed linked))
-  failed-uncut Begin gones linked is steady links c = tt
-  failed-uncut (Dialling seat member) gones linked is steady links c = uncut-link backend.happened (opened_at terms member) moved.counts.dials uncut (linked-then {S = S} (opening.Failed linked) backend.counts moved.counts (links is.0 steady).0 c)
-  failed-uncut (Dialled held looks) gones linked is steady links c = tt
-  failed-uncut (Ready held items) gones linked is steady links c = tt
-  failed-uncut (Searching held items slot looks) gones linked is steady links c = tt
-  failed-uncut (Presenting held items slot hits) gones linked is steady links c = tt
-  failed-uncut (Fetching held items slot hits looks) gones linked is steady links c = tt
-  failed-uncut (Scanning held looks) gones linked is steady links c = tt
-  failed-uncut (Returning held own) gones linked is steady links c = tt
-  failed-uncut (Losing seat own) gones linked is steady links c = tt
-  failed-uncut (Redialling seat) gones linked is steady links c = tt
-  failed-uncut (Spoiled seat) gones linked is steady links c = tt
-  failed-uncut (Done own) gones linked is steady links c = tt
-  failed-uncut Ended gones linked is steady links c = tt
-
-  -- so no turn meets one that is
-  pub uncut-by : (phase : Phase S) (gones : ℕ) (deed : Deed S) → IsBorneIn w t terms backend.happened phase gones → backend.happened.steady ≡ true
-      → LinksMove w t true terms backend moved deed phase → CountsMove w t true deed backend.counts moved.counts
-      → IsUncutBy t terms backend moved phase deed
-  uncut-by phase gones (took gives) is steady links c = tt
-  uncut-by phase gones (opened (opening.Session session)) is steady links c = session-uncut phase gones session is steady links c
-  uncut-by phase gones (opened (opening.Failed linked)) is steady links c = failed-uncut phase gones linked is steady links c
-  uncut-by phase gones (opened opening.Memory) is steady links c = tt
-  uncut-by phase gones (began ask reply session) is steady links c = tt
-  uncut-by phase gones (heard reply session) is steady links c = heard-uncut phase gones reply is
-  uncut-by phase gones put_back is steady links c = tt
-  uncut-by phase gones gave_up is steady links c = tt
-  uncut-by phase gones (redialled member) is steady links c = tt
-  uncut-by phase gones no_memory is steady links c = tt
-  uncut-by phase gones nothing is steady links c = tt
 
 -- ---- legs
 
@@ -169,6 +72,43 @@ no-worse-on a b c h k = record {
   cut = λ target. k.cut target ∙ h.cut target;
 }
 
+-- ---- links that are made
+
+module _ {W S : Type 0} (w : world.Ghosts W) (t : sitting.Ghosts S W) (exact : Bool) (route : Route) (now : ℕ) where
+  same-dials : (backend moved : BackendView) → moved ≡ backend → backend.counts.dials ≤ moved.counts.dials
+  same-dials backend moved e = let same = ap (λ (b : BackendView). b.counts.dials) e in omega (arith, same)
+
+  first-dials : (done : Bool) (old new : LegView S) (round next : Round) (door after : DoorView S) (backend moved : BackendView)
+      → HasTurned w t exact route now done old new round next door after backend moved → DialsGoOn moved.counts
+      → backend.counts.dials ≤ moved.counts.dials
+  first-dials true old new round next door after backend moved h go = same-dials backend moved h.3
+  first-dials false old new round next door after backend moved h go =
+      dials-on w t exact h.2.law.deed backend.counts moved.counts h.2.law.backend_moves.counts go
+
+  legs-dial : (olds news : List (LegView S)) (round last : Round) (door after : DoorView S) (backend moved : BackendView)
+      → HaveTurned w t exact route now olds news round last door after backend moved → DialsGoOn moved.counts
+      → backend.counts.dials ≤ moved.counts.dials
+  legs-dial [] [] round last door after backend moved h go = same-dials backend moved h.2
+  legs-dial [] (new ∷ news) round last door after backend moved h go = absurd h
+  legs-dial (old ∷ olds) [] round last door after backend moved h go = absurd h
+  legs-dial (old ∷ olds) (new ∷ news) round last door after backend moved h go =
+      let others = legs-dial olds news h.next last h.between after h.amid moved h.others go in
+      let first = first-dials (is_done old.phase) old new round h.next door h.between backend h.amid h.turned (omega (arith, others, go)) in
+      omega (arith, first, others)
+
+  turn-dials : (planned : Bool) (old new : PackageView S) (answer : Turned) (round : Round) (door after : DoorView S) (backend moved : BackendView)
+      → TakesTurn w t exact route now planned old new answer round door after backend moved → DialsGoOn moved.counts
+      → backend.counts.dials ≤ moved.counts.dials
+  turn-dials false old new answer round door after backend moved h go = legs-dial old.first new.first no_round round door after backend moved h.0 go
+  turn-dials true old new answer round door after backend moved h go = legs-dial old.later new.later no_round round door after backend moved h.2 go
+
+  pub package-dials : (old new : PackageView S) (answer : Turned) (door after : DoorView S) (backend moved : BackendView)
+      → IsPackageTurn w t exact route now old new answer door after backend moved → DialsGoOn moved.counts
+      → backend.counts.dials ≤ moved.counts.dials
+  package-dials old new answer door after backend moved h go = turn-dials old.planned old new answer h.round door after backend moved h.turns go
+
+-- ---- a turn
+
 module _ {W S : Type 0} (w : world.Ghosts W) (t : sitting.Ghosts S W) (route : Route) (now : ℕ) (told : IsToldRoute w route) where
   abbrev Bears : Happened → List (LegView S) → Type 0
   Bears h legs = AllBear w t route h legs
@@ -184,38 +124,36 @@ module _ {W S : Type 0} (w : world.Ghosts W) (t : sitting.Ghosts S W) (route : R
 
   -- one leg
   first-bears : (done : Bool) (old new : LegView S) (round next : Round) (door after : DoorView S) (backend moved : BackendView)
-      → HasTurned w t true route now done old new round next door after backend moved → AreUncut backend.happened → Borne door backend
+      → HasTurned w t true route now done old new round next door after backend moved → DialsGoOn moved.counts → Borne door backend
       → LegBears w t route backend.happened old → LegBears w t route moved.happened new × On after backend moved
-  first-bears true old new round next door after backend moved h uncut borne bears = (
+  first-bears true old new round next door after backend moved h go borne bears = (
     subst (λ (v : LegView S). LegBears w t route moved.happened v) (sym h.0)
         (subst (λ (b : BackendView). LegBears w t route b.happened old) (sym h.3) bears),
     subst (λ (d : DoorView S). On d backend moved) (sym h.2)
         (subst (λ (b : BackendView). On door backend b) (sym h.3) (still-on door backend borne)),
   )
-  first-bears false old new round next door after backend moved h uncut borne bears =
+  first-bears false old new round next door after backend moved h go borne bears =
       let law = h.2.law in
       let terms = terms_of route old.leg in
       let both = turn-bears w t true terms old.task now old.phase new.phase old.account new.account h.0 door after backend moved refl
-      (leg-told w route old.leg told) law
-      (uncut-by w t terms backend moved uncut old.phase old.account.gones law.deed bears.stands borne.bearable.steady law.links law.backend_moves.counts)
-      borne bears in
+      (leg-told w route old.leg told) law go borne bears in
       (subst (λ (l : ℕ). BearsAt w t (terms_of route l) moved.happened new.phase new.account) (sym h.2.leg) both.0, both.1)
 
   -- legs, one after another
   legs-bear : (olds news : List (LegView S)) (round last : Round) (door after : DoorView S) (backend moved : BackendView)
-      → HaveTurned w t true route now olds news round last door after backend moved → AreUncut backend.happened → Borne door backend
+      → HaveTurned w t true route now olds news round last door after backend moved → DialsGoOn moved.counts → Borne door backend
       → Bears backend.happened olds → Bears moved.happened news × On after backend moved
-  legs-bear [] [] round last door after backend moved h uncut borne bear = (
+  legs-bear [] [] round last door after backend moved h go borne bear = (
     tt,
     subst (λ (d : DoorView S). On d backend moved) (sym h.1)
         (subst (λ (b : BackendView). On door backend b) (sym h.2) (still-on door backend borne)),
   )
-  legs-bear [] (new ∷ news) round last door after backend moved h uncut borne bear = absurd h
-  legs-bear (old ∷ olds) [] round last door after backend moved h uncut borne bear = absurd h
-  legs-bear (old ∷ olds) (new ∷ news) round last door after backend moved h uncut borne bear =
-      let first = first-bears (is_done old.phase) old new round h.next door h.between backend h.amid h.turned uncut borne bear.0 in
-      let others = legs-bear olds news h.next last h.between after h.amid moved h.others
-      (uncut-stays backend.happened h.amid.happened first.1.worse uncut) first.1.borne
+  legs-bear [] (new ∷ news) round last door after backend moved h go borne bear = absurd h
+  legs-bear (old ∷ olds) [] round last door after backend moved h go borne bear = absurd h
+  legs-bear (old ∷ olds) (new ∷ news) round last door after backend moved h go borne bear =
+      let later = legs-dial w t true route now olds news h.next last h.between after h.amid moved h.others go in
+      let first = first-bears (is_done old.phase) old new round h.next door h.between backend h.amid h.turned (omega (arith, later, go)) borne bear.0 in
+      let others = legs-bear olds news h.next last h.between after h.amid moved h.others go first.1.borne
       (all-stay w t route backend.happened h.amid.happened olds first.1.worse bear.1) in (
         (one-stays w t route h.amid.happened moved.happened new others.1.worse first.0, others.0),
         record {
@@ -238,17 +176,17 @@ module _ {W S : Type 0} (w : world.Ghosts W) (t : sitting.Ghosts S W) (route : R
   goes-bear true new round answer h bearable k = planned-bears new answer h bearable k
 
   turn-by : (planned : Bool) (old new : PackageView S) (answer : Turned) (round : Round) (door after : DoorView S) (backend moved : BackendView)
-      → TakesTurn w t true route now planned old new answer round door after backend moved → AreUncut backend.happened → Borne door backend
+      → TakesTurn w t true route now planned old new answer round door after backend moved → DialsGoOn moved.counts → Borne door backend
       → Bears backend.happened (old.first ++ old.later) → Bears moved.happened (new.first ++ new.later) × On after backend moved
-  turn-by false old new answer round door after backend moved h uncut borne bear =
-      let legs = legs-bear old.first new.first no_round round door after backend moved h.0 uncut borne
+  turn-by false old new answer round door after backend moved h go borne bear =
+      let legs = legs-bear old.first new.first no_round round door after backend moved h.0 go borne
       (front-bears w t route backend.happened old.first old.later bear) in (
         both-bear w t route moved.happened new.first new.later legs.0
             (goes-bear (all_done new.first) new round answer moved.happened legs.1.borne.bearable h.1),
         legs.1,
       )
-  turn-by true old new answer round door after backend moved h uncut borne bear =
-      let legs = legs-bear old.later new.later no_round round door after backend moved h.2 uncut borne
+  turn-by true old new answer round door after backend moved h go borne bear =
+      let legs = legs-bear old.later new.later no_round round door after backend moved h.2 go borne
       (back-bears w t route backend.happened old.first old.later bear) in (
         both-bear w t route moved.happened new.first new.later
             (subst (λ (ls : List (LegView S)). Bears moved.happened ls) (sym h.0)
@@ -259,9 +197,9 @@ module _ {W S : Type 0} (w : world.Ghosts W) (t : sitting.Ghosts S W) (route : R
 
 pub package-bears : {W S : Type 0} (w : world.Ghosts W) (t : sitting.Ghosts S W) (exact : Bool) (route : Route) (now : ℕ) (old new : PackageView S)
     (answer : Turned) (door after : DoorView S) (backend moved : BackendView) → exact ≡ true → IsToldRoute w route
-    → IsPackageTurn w t exact route now old new answer door after backend moved → AreUncut backend.happened
+    → IsPackageTurn w t exact route now old new answer door after backend moved → DialsGoOn moved.counts
     → IsBorneBy w t route.pool door.pool backend → AllBear w t route backend.happened (old.first ++ old.later)
     → AllBear w t route moved.happened (new.first ++ new.later) × BearsOn w t route.pool after.pool backend moved
-package-bears w t true route now old new answer door after backend moved e told h uncut borne bear =
-    turn-by w t route now told old.planned old new answer h.round door after backend moved h.turns uncut borne bear
-package-bears w t false route now old new answer door after backend moved e told h uncut borne bear = absurd cc
+package-bears w t true route now old new answer door after backend moved e told h go borne bear =
+    turn-by w t route now told old.planned old new answer h.round door after backend moved h.turns go borne bear
+package-bears w t false route now old new answer door after backend moved e told h go borne bear = absurd cc

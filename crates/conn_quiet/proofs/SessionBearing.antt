@@ -23,7 +23,7 @@ use Rattle.gw_outside.specs.declared.wires.Looked.{Looked}
 use Rattle.gw_outside.specs.declared.wires.Looked.TheVariants as looked
 use Rattle.leg.specs.Turns.{IsAsked, IsLook}
 use Rattle.route_config.specs.declared.route.PoolNumbers.{PoolNumbers}
-use Rattle.conn_quiet.specs.steps.Bearing.{AreBearable, AreNoWorse, ComesInTime, FaresAs, FaresAt, HoldsFound, IsBearable, IsReply, RepliesInTime}
+use Rattle.conn_quiet.specs.steps.Bearing.{AreBearable, AreNoWorse, ComesInTime, FaresAs, FaresAt, HoldsFound, IsBearable, RepliesInTime}
 use Rattle.conn_quiet.specs.steps.Whole.{will_stand}
 
 -- ---- what was made to happen
@@ -139,7 +139,14 @@ module _ (pool : PoolNumbers) where
       (subst (λ (ds : List ℕ). ComesInTime pool (looks + 1) ds) (sym h.1) (omega (arith, comes, some)), omega (arith, comes, some))
   waited looks (delay ∷ second ∷ others) new comes h = absurd comes
 
-arrived : (answer : Heard) → IsReply answer → looked_by answer ≡ looked.Arrived
+-- a reply is heard
+abbrev pub IsReply : Heard → Type 0
+IsReply heard.NotYet = ⊥
+IsReply heard.Failed = ⊥
+IsReply heard.Memory = ⊥
+IsReply reply = Unit {0}
+
+pub arrived : (answer : Heard) → IsReply answer → looked_by answer ≡ looked.Arrived
 arrived heard.Opened h = refl
 arrived (heard.Hits hits) h = refl
 arrived (heard.Refused diag) h = refl

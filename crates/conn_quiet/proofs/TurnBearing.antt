@@ -16,8 +16,9 @@ use Rattle.leg.specs.declared.accounts.Account.{Account}
 use Rattle.leg.specs.declared.answers.Turned.{Turned}
 use Rattle.leg.specs.declared.phases.Phase.{Phase}
 use Rattle.leg.specs.declared.tasks.Task.{Task}
-use Rattle.conn_quiet.specs.steps.Bearing.{BearsAt, BearsOn, IsBorneBy, IsBorneIn, IsUncutBy}
+use Rattle.conn_quiet.specs.steps.Bearing.{AreCutOnceMade, BearsAt, BearsOn, DialsGoOn, IsBorneBy, IsBorneIn}
 use Rattle.conn_quiet.specs.steps.Quiet.{AreTold}
+use Rattle.conn_quiet.proofs.CountLemmas.{dials-on}
 use Rattle.conn_quiet.proofs.LegBearing.{deed-bears}
 use Rattle.conn_quiet.proofs.SessionBearing.{less-bearable, less-no-worse}
 use Rattle.conn_quiet.proofs.TurnLemmas.{ends-in}
@@ -50,6 +51,12 @@ module _ {W S : Type 0} (w : world.Ghosts W) (t : sitting.Ghosts S W) where
   deed-less no_memory old new h = equal-less old new h
   deed-less nothing old new h = equal-less old new h
 
+-- links that are cut were made
+still-made : (backend moved : BackendView) → AreLess backend.happened moved.happened → backend.counts.dials ≤ moved.counts.dials
+    → AreCutOnceMade backend → AreCutOnceMade moved
+still-made backend moved less on cuts target =
+    let last = cuts target in let same = less.cut target in omega (arith, last, same, on)
+
 -- ---- what is counted
 
 both-below : (a b n : ℕ) → a < n → b < n → max a b < n
@@ -64,16 +71,15 @@ none-spent false spent e z = z
 module _ {W S : Type 0} (w : world.Ghosts W) (t : sitting.Ghosts S W) where
   turn-told : (terms : Terms) (task : Task) (now : ℕ) (old new : Phase S) (a b : Account) (answer : Turned) (door after : DoorView S)
       (backend moved : BackendView) (pool : Option (Pool S)) → door.pool ≡ pool → AreTold w terms.at
-      → (h : IsTurn w t true terms task now old new a b answer door after backend moved)
-      → IsUncutBy t terms backend moved old h.deed
+      → (h : IsTurn w t true terms task now old new a b answer door after backend moved) → DialsGoOn moved.counts
       → IsBorneBy w t terms.pool pool backend → BearsAt w t terms backend.happened old a
       → BearsAt w t terms moved.happened new b × BearsOn w t terms.pool after.pool backend moved
-  turn-told terms task now old new a b answer door after backend moved None e told h uncut borne is = absurd borne.idle
-  turn-told terms task now old new a b answer door after backend moved (Some p) e told h uncut borne is =
+  turn-told terms task now old new a b answer door after backend moved None e told h go borne is = absurd borne.idle
+  turn-told terms task now old new a b answer door after backend moved (Some p) e told h go borne is =
       let less = deed-less w t h.deed backend.happened moved.happened h.backend_moves.happened in
       let worse = less-no-worse backend.happened moved.happened less in
-      let on = deed-bears w t terms door.counts.most task now a.gones backend moved p after.pool told borne.bearable worse is.borne.few_gone borne.idle
-      old h.deed h.due h.links h.backend_moves.counts uncut is.stands
+      let on = deed-bears w t terms door.counts.most task now a.gones backend moved p after.pool told borne.bearable borne.cut go worse is.borne.few_gone borne.idle
+      old h.deed h.due h.links h.backend_moves.counts is.stands
       (subst (λ (q : Option (Pool S)). PoolMoves terms task now old h.deed q after.pool) e h.pool) in
       let gone : b.gones ≡ more (rises_of (want_of task) h.deed).gones a.gones = ap (λ (x : Account). x.gones) h.account in
       let goes = subst (λ (n : ℕ). Ends (lack_of h.deed) (next terms task now n old h.deed) (left_by old h.deed) (answer_of h.deed new) answer new) gone h.goes in (
@@ -92,6 +98,7 @@ module _ {W S : Type 0} (w : world.Ghosts W) (t : sitting.Ghosts S W) where
         record {
           borne = record {
             bearable = less-bearable terms.pool backend.happened moved.happened less borne.bearable;
+            cut = still-made backend moved less (dials-on w t true h.deed backend.counts moved.counts h.backend_moves.counts go) borne.cut;
             idle = on.pool;
           };
           worse = worse;
@@ -100,10 +107,9 @@ module _ {W S : Type 0} (w : world.Ghosts W) (t : sitting.Ghosts S W) where
 
   pub turn-bears : (exact : Bool) (terms : Terms) (task : Task) (now : ℕ) (old new : Phase S) (a b : Account) (answer : Turned)
       (door after : DoorView S) (backend moved : BackendView) → exact ≡ true → AreTold w terms.at
-      → (h : IsTurn w t exact terms task now old new a b answer door after backend moved)
-      → IsUncutBy t terms backend moved old h.deed
+      → (h : IsTurn w t exact terms task now old new a b answer door after backend moved) → DialsGoOn moved.counts
       → IsBorneBy w t terms.pool door.pool backend → BearsAt w t terms backend.happened old a
       → BearsAt w t terms moved.happened new b × BearsOn w t terms.pool after.pool backend moved
-  turn-bears true terms task now old new a b answer door after backend moved e told h uncut borne is =
-      turn-told terms task now old new a b answer door after backend moved door.pool refl told h uncut borne is
-  turn-bears false terms task now old new a b answer door after backend moved e told h uncut borne is = absurd cc
+  turn-bears true terms task now old new a b answer door after backend moved e told h go borne is =
+      turn-told terms task now old new a b answer door after backend moved door.pool refl told h go borne is
+  turn-bears false terms task now old new a b answer door after backend moved e told h go borne is = absurd cc

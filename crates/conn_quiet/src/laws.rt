@@ -1,7 +1,7 @@
 //! Nothing goes wrong over a quiet backend, and what befalls links marks no leg that bears it. These
 //! functions do nothing; what they ensure is the law. A pool that is not told is outside of it.
 
-ghost use Rattle.conn_quiet.specs.steps.Laws.{BearingStays, BegunBears, BegunIsWell, PackagesBear, PackagesGoWell, TurnsBear, TurnsGoWell};
+ghost use Rattle.conn_quiet.specs.steps.Laws.{BearingStays, BegunBears, BegunIsWell, PackagesBear, PackagesDialOn, PackagesGoWell, TurnsBear, TurnsGoWell};
 
 use z_types::{Sitting, World};
 
@@ -31,9 +31,14 @@ pub fn begun_bears<W: World, S: Sitting<W>>()
     ensures { BegunBears W.World S.Sitting }
 {}
 
-/// A turn of a package whose legs do, where no link was cut.
+/// A turn of a package whose legs do.
 pub fn packages_bear<W: World, S: Sitting<W>>()
     ensures { PackagesBear W.World S.Sitting }
+{}
+
+/// No turn of a package lowers the count of links that were made.
+pub fn packages_dial_on<W: World, S: Sitting<W>>()
+    ensures { PackagesDialOn W.World S.Sitting }
 {}
 
 /// Legs that bear it go on so as no worse becomes of links.

@@ -8,6 +8,6 @@ mod laws;
 mod tests;
 
 pub use laws::{
-    bearing_stays, begun_bears, begun_is_well, packages_bear, packages_go_well, turns_bear,
-    turns_go_well,
+    bearing_stays, begun_bears, begun_is_well, packages_bear, packages_dial_on, packages_go_well,
+    turns_bear, turns_go_well,
 };

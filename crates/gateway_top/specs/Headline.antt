@@ -15,7 +15,14 @@
 -- Where the script cuts and slows no link and deletes no set, over a wire to which nothing was made to happen before and
 -- whose counts are exact and stood at 0, at targets that tell what they answer, no call failed and no set was gone, and
 -- every mark is Plain or Full; and Plain, where fewer links were made than there may be sessions of a class, or where
--- there may be 16 of them for each client that the script names.
+-- there may be 16 of them for each client that the script names. So are all marks where links are cut, replies are late
+-- and sets are deleted, over such a wire whatever it counted, if no cut and no deletion falls while a request is in work
+-- (at each, every client that took a step was run since), no more Presents find their sets deleted than the pool repeats,
+-- and replies come within its patience.
+-- And where a script is orderly over such a wire without links (no two requests are in work at once, nothing befalls a
+-- link, the legs of each request go to different classes, and the sets of a class find room in one session), every mark
+-- is Plain, and the searches and dials that are printed are those that sharing needs, class by class: they are counted
+-- from the script and what targets mean, without a pool.
 -- Where every mark is Plain, octets have one answer (`one_answer` of `sru_rules`), and how a connection ends follows
 -- from its octets and the route alone (`one_end`). So two replays that feed a client the same octets, with all its
 -- marks Plain, write it the same and end its connection the same.

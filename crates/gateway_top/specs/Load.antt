@@ -13,6 +13,8 @@ use Rattle.replay.specs.Page.{requests}
 use Rattle.replay.specs.Report.{IsReportOf}
 use Rattle.replay.specs.Undisturbed.{IsUntroubledIf}
 use Rattle.replay.specs.Wires.{IsCountedBy}
+use Rattle.replay_laws.specs.Borne.{IsBorneIf}
+use Rattle.replay_shares.specs.Shares.{SharesIfOrderlyOver}
 use Rattle.gateway_config.specs.Lines.{Received, ReceivedNothing, FailedWithin, line_of}
 use Rattle.gateway_config.specs.Outside.{SinkWrites}
 use Rattle.gateway_config.specs.declared.status.Status.{Status}
@@ -59,6 +61,8 @@ pub record HasLoaded {W : Type 0} (w : world.Ghosts W) (calls : WireCalls) (clie
   pub right : IsReportOf w smallest_route (load_events clients) report
   pub counted : IsCountedBy w calls.exact smallest_route calls.before calls.behind report
   pub untroubled : IsUntroubledIf w calls.exact smallest_route (load_events clients) calls.before calls.happened report
+  pub borne : IsBorneIf w calls.exact smallest_route (load_events clients) calls.happened calls.behind report
+  pub shared : SharesIfOrderlyOver w calls.exact smallest_route (load_events clients) calls.before calls.happened report
   pub printed : Received writes (load_line clients report)
 
 -- the same, of which a front of the line was printed, and nothing else, since a write failed
@@ -67,6 +71,8 @@ pub record HasLoadedPart {W : Type 0} (w : world.Ghosts W) (calls : WireCalls) (
   pub right : IsReportOf w smallest_route (load_events clients) report
   pub counted : IsCountedBy w calls.exact smallest_route calls.before calls.behind report
   pub untroubled : IsUntroubledIf w calls.exact smallest_route (load_events clients) calls.before calls.happened report
+  pub borne : IsBorneIf w calls.exact smallest_route (load_events clients) calls.happened calls.behind report
+  pub shared : SharesIfOrderlyOver w calls.exact smallest_route (load_events clients) calls.before calls.happened report
   pub printed : FailedWithin writes (load_line clients report)
 
 -- the load of so many clients was played: its line is printed, or a front of it where the sink failed,

@@ -11,6 +11,8 @@ use Rattle.replay.specs.Report.{IsReportOf}
 use Rattle.replay.specs.Page.{page}
 use Rattle.replay.specs.Undisturbed.{IsUntroubledIf}
 use Rattle.replay.specs.Wires.{IsCountedBy}
+use Rattle.replay_laws.specs.Borne.{IsBorneIf}
+use Rattle.replay_shares.specs.Shares.{SharesIfOrderlyOver}
 use Rattle.gateway_config.specs.ConfigRead.{IsUnread}
 use Rattle.gateway_config.specs.Configs.{IsTaken, IsRefusedConfig}
 use Rattle.gateway_config.specs.Lines.{Received, ReceivedNothing, FailedWithin, Says, usage_line}
@@ -30,6 +32,8 @@ pub record HasPrinted {W : Type 0} (w : world.Ghosts W) (calls : WireCalls) (rou
   pub right : IsReportOf w route events report
   pub counted : IsCountedBy w calls.exact route calls.before calls.behind report
   pub untroubled : IsUntroubledIf w calls.exact route events calls.before calls.happened report
+  pub borne : IsBorneIf w calls.exact route events calls.happened calls.behind report
+  pub shared : SharesIfOrderlyOver w calls.exact route events calls.before calls.happened report
   pub printed : Received writes (page report)
 
 -- a front of the page of one report of the events was printed, and nothing else, since a write failed
@@ -39,6 +43,8 @@ pub record HasPrintedPart {W : Type 0} (w : world.Ghosts W) (calls : WireCalls) 
   pub right : IsReportOf w route events report
   pub counted : IsCountedBy w calls.exact route calls.before calls.behind report
   pub untroubled : IsUntroubledIf w calls.exact route events calls.before calls.happened report
+  pub borne : IsBorneIf w calls.exact route events calls.happened calls.behind report
+  pub shared : SharesIfOrderlyOver w calls.exact route events calls.before calls.happened report
   pub printed : FailedWithin writes (page report)
 
 -- the events were played: their page is printed, or a front of it where the sink failed, or nothing

@@ -9,13 +9,16 @@ ghost use Rattle.replay.specs.Page.{requests};
 ghost use Rattle.replay.specs.Report.{IsReportOf};
 ghost use Rattle.replay.specs.Undisturbed.{IsUntroubledIf};
 ghost use Rattle.replay.specs.Wires.{IsCountedBy};
+ghost use Rattle.replay_laws.specs.Borne.{IsBorneIf};
+ghost use Rattle.replay_shares.specs.Shares.{SharesIfOrderlyOver};
 ghost use Rattle.gateway_top.specs.Load.{LoadDone, is_plain, links_made, load_line, octets_written, plain_requests, searches_sent};
 ghost use Rattle.gateway_config.specs.Outside.{sink_writes};
 ghost use Rattle.gateway_top.specs.Outside.{wire_calls};
 
 use gateway_config::Status;
 use gw_outside::{Events, Sink, Wire, write_all};
-use replay::{ClassReport, ClientReport, Report, run};
+use replay::{ClassReport, ClientReport, Report};
+use replay_top::run;
 use route_config::Route;
 use sample_maker::make;
 use std::alloc::Global;
@@ -56,6 +59,10 @@ fn play_load<W: World, N: Wire<W> + Events>(
     ensures counted { IfOk result (IsCountedBy W.World N.exact smallest_route
         (N.counts wire.old) (N.counts wire.new)) }
     ensures untroubled { IfOk result (IsUntroubledIf W.World N.exact smallest_route
+        (load_events clients) (N.counts wire.old) (N.happened wire.old)) }
+    ensures borne { IfOk result (IsBorneIf W.World N.exact smallest_route
+        (load_events clients) (N.happened wire.old) (N.counts wire.new)) }
+    ensures shared { IfOk result (SharesIfOrderlyOver W.World N.exact smallest_route
         (load_events clients) (N.counts wire.old) (N.happened wire.old)) }
 {
     let route = Route::smallest(alloc)?;

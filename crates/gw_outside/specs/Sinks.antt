@@ -1,5 +1,5 @@
 -- What a sink receives (this project's own)
-use Rattle.std.specs.Prelude.{◌≡◌, ℕ, ◌≤◌, List, ◌++◌, Option, None, Some, length, take}
+use Rattle.std.specs.Prelude.{◌≡◌, ℕ, ◌<◌, ◌≤◌, List, ◌++◌, Option, None, Some, length, take}
 use Rattle.gw_outside.specs.declared.sinks.Took.{Took}
 use Rattle.gw_outside.specs.declared.sinks.Took.TheVariants.{Bytes, Failed}
 
@@ -8,10 +8,10 @@ abbrev pub appended : Option (List ℕ) → List ℕ → Option (List ℕ)
 appended None bytes = None
 appended (Some old) bytes = Some (old ++ bytes)
 
--- some front of the octets was received
+-- a front of the octets was received, and not all of them
 pub record ReceivedPrefix (old new : Option (List ℕ)) (bytes : List ℕ) : Type 0 where
   pub count : ℕ
-  pub within : count ≤ length bytes
+  pub within : count < length bytes
   pub received : new ≡ appended old (take count bytes)
 
 -- the answer to a write: the first octets of the piece were received, or none

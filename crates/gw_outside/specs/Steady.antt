@@ -95,7 +95,7 @@ IfStands heard.Failed P = Unit {0}
 IfStands heard.Memory P = Unit {0}
 IfStands answer P = P
 
--- a reply comes when it is due; a set is gone where its target said so; and a look that fails is at a link that is cut
+-- a reply comes when it is due, over a link that is not cut; a set is gone where its target said so; and a look that fails is at a link that is
 pub record LooksSteadily (address : Address) (h : Happened) (old new : LinkView) (answer : Heard) : Type 0 where
   pub number : new.number ≡ old.number
   pub delays : DelaysLooked old.delays new.delays (looked_by answer)
@@ -103,3 +103,4 @@ pub record LooksSteadily (address : Address) (h : Happened) (old new : LinkView)
   pub gone : answer ≡ heard.Gone → old.gone ≡ true
   pub still_gone : answer ≡ heard.NotYet → new.gone ≡ old.gone
   pub fails : answer ≡ heard.Failed → is_cut (at_address h address) old.number ≡ true
+  pub arrives : looked_by answer ≡ looked.Arrived → is_cut (at_address h address) old.number ≡ false

@@ -97,6 +97,10 @@ LookFits old new before after looked.Memory = Unit {0}
 abbrev pub FailsCut : {L : Type 0} → linked.Ghosts L → Happened → L → Type 0
 FailsCut l h link = h.steady ≡ true → is_cut (to_peer h (l.peer link)) (l.number link) ≡ true
 
+-- and not where octets arrive over it
+abbrev pub ArrivesUncut : {L : Type 0} → linked.Ghosts L → Happened → L → Type 0
+ArrivesUncut l h link = h.steady ≡ true → is_cut (to_peer h (l.peer link)) (l.number link) ≡ false
+
 -- what is left to happen after a unit that is a request
 abbrev pub IsSentTo : Option Peer → Request → Happened → Happened → Type 0
 IsSentTo None request old new = AreSame old new
@@ -124,9 +128,10 @@ DelaysLooked (first ∷ rest) new looked.NotYet = (0 < first) × (new ≡ (first
 DelaysLooked old new looked.Failed = new ≡ old
 DelaysLooked old new looked.Memory = Unit {0}
 
--- a look on a steady wire: it fails where the link is cut, and finds nothing as often as was stated
+-- a look on a steady wire: it fails where the link is cut, finds something over no such link, and finds nothing as often as was stated
 pub record LooksSteadily {L : Type 0} (l : linked.Ghosts L) (old new : L) (before after : Happened) (answer : Looked) : Type 0 where
   pub fails : answer ≡ looked.Failed → FailsCut l before old
+  pub arrives : answer ≡ looked.Arrived → ArrivesUncut l before old
   pub happened : AreSame before after
   pub number : l.number new ≡ l.number old
   pub delays : before.steady ≡ true → DelaysLooked (l.delays old) (l.delays new) answer

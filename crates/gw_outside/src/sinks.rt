@@ -29,7 +29,7 @@ pub trait Sink: Drop {
         ensures faults { faults self.old ≤ faults self.new };
 }
 
-/// Writes all of it, or answers `false` after a fault, when a front of it was received.
+/// Writes all of it, or answers `false` after a fault, when a front of it was received, and not all.
 pub fn write_all<K: Sink>(sink: &mut K, bytes: &[u8]) -> bool
     ensures all { IsTrue result → K.received sink.new ≡ appended (K.received sink.old) bytes.now }
     ensures part { result ≡ false

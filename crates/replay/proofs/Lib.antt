@@ -14,7 +14,6 @@ pub mod SitsLemmas
 pub mod TurnMoves
 pub mod MovesLemmas
 pub mod WireLemmas
-pub mod LentLemmas
 pub mod ListedLemmas
 pub mod MarkLemmas
 pub mod FullLemmas

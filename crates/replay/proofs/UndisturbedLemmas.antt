@@ -11,7 +11,6 @@ use Rattle.z_types.specs.declared.sitting.Sitting as sitting
 use Rattle.z_types.specs.declared.world.World as world
 use Rattle.gateway_rules.proofs.Runs.{all-append}
 use Rattle.gw_outside.specs.Counts.{Counts, no_counts}
-use Rattle.gw_outside.specs.Happened.{AreQuiet, Happened}
 use Rattle.pool_sets.specs.Counts.{DoorCounts}
 use Rattle.pool_sets.specs.Plain.{Pool}
 use Rattle.route_config.specs.Sound.{ArePoolNumbers}
@@ -42,7 +41,6 @@ use Rattle.replay.specs.Undisturbed.{BefallsNothing, IsPlainOrFull, IsUntroubled
 use Rattle.replay.specs.Wires.{AreTold, IsCountedBy}
 use Rattle.replay.specs.declared.reports.ClientReport.{ClientReport}
 use Rattle.replay.specs.declared.reports.Report.{Report}
-use Rattle.replay.specs.steps.Lent.{lent_by}
 use Rattle.replay.specs.steps.Quiet.{GoesWell}
 use Rattle.replay.specs.steps.Room.{FindsRoom, IsEmptyPool, IsNewDoor}
 use Rattle.replay.proofs.FullLemmas.{IsToldFull}
@@ -296,20 +294,3 @@ untroubled_ok W S w t exact route events before behind (Ok report) run goes new 
     untroubled w t route events before behind report new numbers w0 w1 own0 own1 none exact e f goes sums causes room
     (counted_run w t exact route events before behind report run new w0 w1 own0 own1 none e f sums causes dialled)
 untroubled_ok W S w t exact route events before behind (Err err) run goes new numbers w0 w1 own0 own1 none e f sums causes dialled room = tt
-
--- ---- a wire that is lent
-
-lent-quiet : (reference : ℕ) (happened : Happened) → AreQuiet happened → AreQuiet (lent_by reference happened)
-lent-quiet reference happened quiet = record { steady = quiet.steady; nothing = quiet.nothing }
-
-pub lent_untroubled : {E W : Type 0} (w : world.Ghosts W) (exact : Bool) (route : Route) (events : List Event) (counts : Counts) (reference : ℕ)
-    (happened : Happened) (result : Result Report E) → IfOk result (IsUntroubledIf w exact route events counts (lent_by reference happened))
-    → IfOk result (IsUntroubledIf w exact route events counts happened)
-lent_untroubled w exact route events counts reference happened (Ok report) so = λ is und.
-    so is (record {
-      nothing = und.nothing;
-      quiet = lent-quiet reference happened und.quiet;
-      uncounted = und.uncounted;
-      told = und.told;
-    })
-lent_untroubled w exact route events counts reference happened (Err err) so = tt

@@ -4,6 +4,5 @@ pub mod Playing
 pub mod Closing
 pub mod Laws
 pub mod Costs
-pub mod Lent
 pub mod Quiet
 pub mod Room

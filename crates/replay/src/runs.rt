@@ -1,13 +1,11 @@
 //! A whole replay.
 
-ghost use Rattle.std.specs.Prelude.{◌≡◌, ℕ, IfOk, OnOk};
+ghost use Rattle.std.specs.Prelude.{ℕ, IfOk, OnOk};
 ghost use Rattle.script.specs.Events.{AreEvents};
 ghost use Rattle.replay.specs.Counts.{AreDialled, AreSums, HaveCauses};
 ghost use Rattle.replay.specs.Marks.{AreMarksOf};
 ghost use Rattle.replay.specs.Report.{IsReportOf};
 ghost use Rattle.replay.specs.Trace.{IsRunOf, outside_of};
-ghost use Rattle.replay.specs.Undisturbed.{IsUntroubledIf};
-ghost use Rattle.replay.specs.Wires.{IsCountedBy};
 ghost use Rattle.replay.specs.steps.Clients.{AreNobody};
 ghost use Rattle.replay.specs.steps.Quiet.{GoesWell};
 ghost use Rattle.replay.specs.steps.Room.{FindsRoom};
@@ -17,66 +15,14 @@ use crate::client::Client;
 use crate::clients::{give_up_all, no_clients};
 use crate::closing::close_all;
 use crate::laws::{connection_laws, cost_laws, run_laws};
-use crate::lent::LentWire;
 use crate::playing::play;
 use crate::reporting::report;
-use gw_outside::{Backend, Events, Wire};
-use pool_index::IndexedPool;
+use gw_outside::{Backend, Events};
 use pool_sets::Door;
 use route_config::Route;
 use script::{Event, MOST_CLIENTS};
 use std::alloc::Global;
-use z_client::ZBackend;
 use z_types::{List, Memory, World};
-
-/// Plays the events of a script over the links of a wire, with a new pool.
-#[tactic(auto, using(crate::proofs::UndisturbedLemmas::lent_untroubled))]
-pub fn run<W: World, N: Wire<W> + Events>(
-    alloc: Global,
-    route: &Route,
-    events: &List<Event>,
-    wire: &mut N,
-) -> Result<Report, Memory>
-    requires { (targets : ℕ) × AreEvents targets events.now }
-    // Each client was answered to the octets that it was fed.
-    ensures report { IfOk result (IsReportOf W.World route.now events.now) }
-
-    // The sums are what the wire counted, and the marks have their counted cause.
-    ensures counted { IfOk result (IsCountedBy W.World N.exact route.now
-        (N.counts wire.old) (N.counts wire.new)) }
-
-    // Where nothing befalls links, each request is answered as it asks, or finds the pool full.
-    ensures untroubled { IfOk result (IsUntroubledIf W.World N.exact route.now events.now
-        (N.counts wire.old) (N.happened wire.old)) }
-{
-    let mut backend = ZBackend::new(alloc, LentWire::new(wire));
-    let report = run_with(alloc, route, events, &mut backend);
-    let LentWire { wire: lent } = backend.into_wire();
-    let _ = lent;
-    report
-}
-
-/// Plays the events of a script over the sessions of a backend, with a new pool.
-fn run_with<W: World, N: Wire<W> + Events>(
-    alloc: Global,
-    route: &Route,
-    events: &List<Event>,
-    backend: &mut ZBackend<N>,
-) -> Result<Report, Memory>
-    requires events { (targets : ℕ) × AreEvents targets events.now }
-    requires no_breach { backend.old.own.breaches ≡ 0 }
-    ensures report { IfOk result (IsReportOf W.World route.now events.now) }
-    ensures counted { IfOk result (IsCountedBy W.World N.exact route.now
-        (N.counts backend.old.wire) (N.counts backend.new.wire)) }
-    ensures untroubled { IfOk result (IsUntroubledIf W.World N.exact route.now events.now
-        (N.counts backend.old.wire) (N.happened backend.old.wire)) }
-    ensures lent { OnOk result
-        ((N.happened backend.new.wire).lent ≡ (N.happened backend.old.wire).lent) }
-{
-    let _ = route.parts();
-    let mut door: IndexedPool<W, _> = IndexedPool::new(alloc, route)?;
-    run_over::<W, _, _>(alloc, route, events, backend, &mut door)
-}
 
 /// Plays the events of a script over one backend and one pool for all clients. The clock begins at 0.
 /// Behind the last event the input of each client that they name ends, and it is run, in ascending

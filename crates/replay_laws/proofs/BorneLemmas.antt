@@ -1,11 +1,12 @@
 -- where no more befalls the links of a replay than its requests bear, each is answered as it asks, or finds the pool full
-use Rattle.std.proofs.Common.{◌≡◌, ◌≢◌, ◌∙◌, ◌⊎◌, ◌+◌, ◌-◌, ◌<◌, ◌≤◌, ℕ, Bool, true, false, inl, inr, List, [], ◌∷◌, ◌++◌, Option, None, Some, IfSome, length, slice_set, refl, sym, ap, subst, arith}
+use Rattle.std.proofs.Common.{◌≡◌, ◌≢◌, ◌∙◌, ◌⊎◌, ◌+◌, ◌-◌, ◌<◌, ◌≤◌, ℕ, Bool, true, false, inl, inr, List, [], ◌∷◌, ◌++◌, Option, None, Some, IfSome, length, slice_set, refl, sym, subst, arith}
 use Rattle.std.specs.List.{AllByRecursion, flat_map}
 use Rattle.std.proofs.Math.ListN.{length-set}
 use Rattle.std.proofs.lemmas.Bool.{cases_eq, cases_lt}
 use Rattle.z_types.specs.declared.marks.End.{End as Ending}
 use Rattle.z_types.specs.declared.sitting.Sitting as sitting
 use Rattle.z_types.specs.declared.world.World as world
+use Rattle.gw_outside.specs.Counts.{Counts}
 use Rattle.gw_outside.specs.Happened.{Happened, IsMade}
 use Rattle.gw_outside.specs.declared.happenings.Happening.{Happening}
 use Rattle.route_config.specs.declared.route.PoolNumbers.{PoolNumbers}
@@ -24,8 +25,8 @@ use Rattle.front_conn.specs.steps.Steps.{StepsFrom, answering_of}
 use Rattle.script.specs.declared.event.Event.{Event}
 use Rattle.script.specs.declared.event.Event.TheVariants.{Feed, End, Step, Run, Tick, Gone, Cut, Slow}
 use Rattle.script.specs.Events.{client_of, named, seconds_of}
-use Rattle.conn_quiet.specs.steps.Bearing.{AreBearable, AreNoWorse, AreUncut, HasBorne, IsBearable, IsBorneBy, LegBears}
-use Rattle.conn_quiet.specs.steps.Laws.{BearingStays, PackagesBear}
+use Rattle.conn_quiet.specs.steps.Bearing.{AreBearable, AreCutOnceMade, AreNoWorse, DialsGoOn, HasBorne, IsBearable, IsBorneBy, LegBears}
+use Rattle.conn_quiet.specs.steps.Laws.{BearingStays, PackagesBear, PackagesDialOn}
 use Rattle.replay.specs.Clients.{AreNone, ClientState, client_at, client_or_new}
 use Rattle.replay.specs.Trace.{ArePlayed, AreSteps, BefallsIf, HasRun, IsBefallen, IsClientStep, IsRunOf, PlaysFor, PlaysOf, Playing, Point, closing, closings, moment_behind, test_number}
 use Rattle.replay.specs.Undisturbed.{IsPlainOrFull}
@@ -34,8 +35,9 @@ use Rattle.replay.specs.declared.reports.Report.{Report}
 use Rattle.replay.proofs.ClientLemmas.{client_at-behind, client_at-other, client_at-set}
 use Rattle.replay.proofs.ListedLemmas.{AreFit, ahead-fits, piece-fits, reported-fit, works-fit}
 use Rattle.replay.proofs.TurnKeeps.{LegsKept, ahead-keeps, works-keep}
-use Rattle.replay_laws.specs.Between.{DisturbsNobody, FallBetween, FallsBetween, IsNoneInWork}
-use Rattle.replay_laws.specs.Borne.{AreAllPlainOrFull, CutsNothing, HasBorneNumber}
+use Rattle.replay_laws.specs.Between.{FallBetween, FallsBetween, IsNoneInWork}
+use Rattle.replay_laws.specs.Borne.{AreAllPlainOrFull, HasBorneNumber, IsBorneRun}
+use Rattle.replay_laws.proofs.DialLemmas.{client-dial, dials-before, events-dial}
 use Rattle.replay_laws.proofs.RequestLemmas.{request-borne}
 
 -- ---- no worse becomes of links
@@ -48,9 +50,6 @@ worse-on a b c h k = record {
   presents = λ target. (let one = h.presents target in let other = k.presents target in omega (arith, one, other));
   cut = λ target. k.cut target ∙ h.cut target;
 }
-
-uncut-on : (a b : Happened) → AreNoWorse a b → AreUncut a → AreUncut b
-uncut-on a b worse uncut = λ target. worse.cut target ∙ uncut target
 
 -- ---- two parts of a list
 
@@ -68,97 +67,108 @@ all-back P (x ∷ xs) ys h = all-back P xs ys h.1
 
 -- ---- what befalls links
 
+-- what holds of each target's happenings holds where those of one are changed
+made-all : (P : Happening → Type 0) (number : ℕ) (change : Happening → Happening) (old new : Happened) → IsMade number change old new
+    → P (change (old.of_target number)) → ((target : ℕ) → P (old.of_target target)) → (target : ℕ) → P (new.of_target target)
+made-all P number change old new made own others target =
+    elim (cases_eq target number) [
+      | inl e ↦ subst (λ (n : ℕ). P (new.of_target n)) (sym e) (subst (λ (x : Happening). P x) (sym made.own) own)
+      | inr ne ↦ subst (λ (x : Happening). P x) (sym (made.others target ne)) (others target)
+    ]
+
+-- so does what the change keeps to what was
+made-as : (R : Happening → Happening → Type 0) (number : ℕ) (change : Happening → Happening) (old new : Happened) → IsMade number change old new
+    → ((x : Happening) → R x (change x)) → ((x : Happening) → R x x) → (target : ℕ) → R (old.of_target target) (new.of_target target)
+made-as R number change old new made changed same target =
+    elim (cases_eq target number) [
+      | inl e ↦
+          subst (λ (n : ℕ). R (old.of_target n) (new.of_target n)) (sym e)
+          (subst (λ (x : Happening). R (old.of_target number) x) (sym made.own) (changed (old.of_target number)))
+      | inr ne ↦ subst (λ (x : Happening). R (old.of_target target) x) (sym (made.others target ne)) (same (old.of_target target))
+    ]
+
+-- what events make of a target's happenings
+abbrev deleted : ℕ → Happening → Happening
+deleted presents x = record x { presents = presents }
+
+abbrev cut_to : ℕ → Happening → Happening
+cut_to last x = record x { cut = last }
+
+abbrev slowed : ℕ → Happening → Happening
+slowed looks x = record x { delay = looks }
+
+abbrev HasFewer : Happening → Happening → Type 0
+HasFewer old new = new.presents ≤ old.presents
+
+abbrev IsCutAs : Happening → Happening → Type 0
+IsCutAs old new = new.cut ≡ old.cut
+
 module _ (pool : PoolNumbers) where
-  -- what an event leaves bearable, and cuts nothing; it comes where nobody has a request in work, or makes nothing worse
-  pub record BefallsSo (alone : Type 0) (old new : Happened) : Type 0 where
-    pub bearable : AreBearable pool new
-    pub uncut : AreUncut new
-    pub for_legs : alone ⊎ AreNoWorse old new
+  -- what an event leaves bearable, and cut once it was made; it comes where nobody has a request in work, or makes nothing worse
+  pub record BefallsSo (alone : Type 0) (old new : BackendView) : Type 0 where
+    pub bearable : AreBearable pool new.happened
+    pub cut : AreCutOnceMade new
+    pub for_legs : alone ⊎ AreNoWorse old.happened new.happened
 
-  same-so : (alone : Type 0) (old new : BackendView) → AreBearable pool old.happened → AreUncut old.happened → new ≡ old
-      → BefallsSo alone old.happened new.happened
-  same-so alone old new bearable uncut e = subst (λ (b : BackendView). BefallsSo alone old.happened b.happened) (sym e)
-      (record { bearable = bearable; uncut = uncut; for_legs = inr (still old.happened) })
+  same-so : (alone : Type 0) (old new : BackendView) → AreBearable pool old.happened → AreCutOnceMade old → new ≡ old → BefallsSo alone old new
+  same-so alone old new bearable cuts e = subst (λ (b : BackendView). BefallsSo alone old b) (sym e)
+      (record { bearable = bearable; cut = cuts; for_legs = inr (still old.happened) })
 
-  gone-so : (alone : Type 0) (number presents : ℕ) (old new : Happened) → alone → presents ≤ pool.repeats → AreBearable pool old → AreUncut old
-      → IsMade number (λ (happening : Happening). record happening { presents = presents }) old new → BefallsSo alone old new
-  gone-so alone number presents old new none few bearable uncut made = record {
+  -- one target's happenings are changed to what is bearable, and counts stay
+  made-so : (alone : Type 0) (number : ℕ) (change : Happening → Happening) (old new : BackendView) → AreBearable pool old.happened
+      → AreCutOnceMade old → new.counts ≡ old.counts → IsMade number change old.happened new.happened
+      → IsBearable pool (change (old.happened.of_target number)) → (change (old.happened.of_target number)).cut ≤ old.counts.dials
+      → alone ⊎ AreNoWorse old.happened new.happened → BefallsSo alone old new
+  made-so alone number change old new bearable cuts counts made own last worse = record {
     bearable = record {
       steady = made.steady ∙ bearable.steady;
-      each = λ target. elim (cases_eq target number) [
-        | inl e ↦ subst (λ (n : ℕ). IsBearable pool (new.of_target n)) (sym e)
-            (subst (λ (x : Happening). IsBearable pool x) (sym made.own)
-            (record { presents = few; delay = (bearable.each number).delay }))
-        | inr ne ↦ subst (λ (x : Happening). IsBearable pool x) (sym (made.others target ne)) (bearable.each target)
-      ];
+      each = made-all (λ (x : Happening). IsBearable pool x) number change old.happened new.happened made own bearable.each;
     };
-    uncut = λ target. elim (cases_eq target number) [
-      | inl e ↦ ap (λ (n : ℕ). (new.of_target n).cut) e ∙ ap (λ (x : Happening). x.cut) made.own ∙ uncut number
-      | inr ne ↦ ap (λ (x : Happening). x.cut) (made.others target ne) ∙ uncut target
-    ];
-    for_legs = inl none;
+    cut = subst (λ (c : Counts). (target : ℕ) → (new.happened.of_target target).cut ≤ c.dials) (sym counts)
+        (made-all (λ (x : Happening). x.cut ≤ old.counts.dials) number change old.happened new.happened made last cuts);
+    for_legs = worse;
   }
 
-  slow-so : (alone : Type 0) (number looks : ℕ) (old new : Happened) → looks < pool.patience → AreBearable pool old → AreUncut old
-      → IsMade number (λ (happening : Happening). record happening { delay = looks }) old new → BefallsSo alone old new
-  slow-so alone number looks old new early bearable uncut made =
-      let cut : (target : ℕ) → (new.of_target target).cut ≡ (old.of_target target).cut =
-      λ target. elim (cases_eq target number) [
-        | inl e ↦
-            ap (λ (n : ℕ). (new.of_target n).cut) e ∙ ap (λ (x : Happening). x.cut) made.own ∙ ap (λ (n : ℕ). (old.of_target n).cut) (sym e)
-        | inr ne ↦ ap (λ (x : Happening). x.cut) (made.others target ne)
-      ] in
-      let presents : (target : ℕ) → (new.of_target target).presents ≡ (old.of_target target).presents =
-      λ target. elim (cases_eq target number) [
-        | inl e ↦
-            ap (λ (n : ℕ). (new.of_target n).presents) e ∙ ap (λ (x : Happening). x.presents) made.own
-            ∙ ap (λ (n : ℕ). (old.of_target n).presents) (sym e)
-        | inr ne ↦ ap (λ (x : Happening). x.presents) (made.others target ne)
-      ] in record {
-        bearable = record {
-          steady = made.steady ∙ bearable.steady;
-          each = λ target. record {
-            presents = (let few = (bearable.each target).presents in let same = presents target in omega (arith, few, same));
-            delay = elim (cases_eq target number) [
-              | inl e ↦ (let is : (new.of_target target).delay ≡ looks =
-                  ap (λ (n : ℕ). (new.of_target n).delay) e ∙ ap (λ (x : Happening). x.delay) made.own in omega (arith, is, early))
-              | inr ne ↦ (let is : (new.of_target target).delay ≡ (old.of_target target).delay =
-                  ap (λ (x : Happening). x.delay) (made.others target ne) in
-                  let own = (bearable.each target).delay in omega (arith, is, own))
-            ];
-          };
-        };
-        uncut = λ target. cut target ∙ uncut target;
-        for_legs = inr (record { presents = λ target. (let same = presents target in omega (arith, same)); cut = cut });
-      }
-
   if-gone : (exact : Bool) (alone : Type 0) (target presents : ℕ) (number : Option ℕ) (old new : BackendView) → alone → presents ≤ pool.repeats
-      → AreBearable pool old.happened → AreUncut old.happened → BefallsIf exact (Gone target presents) number old new
-      → BefallsSo alone old.happened new.happened
-  if-gone exact alone target presents None old new none few bearable uncut h = same-so alone old new bearable uncut h
-  if-gone exact alone target presents (Some number) old new none few bearable uncut h =
-      gone-so alone number presents old.happened new.happened none few bearable uncut h.happens
+      → AreBearable pool old.happened → AreCutOnceMade old → BefallsIf exact (Gone target presents) number old new → BefallsSo alone old new
+  if-gone exact alone target presents None old new none few bearable cuts h = same-so alone old new bearable cuts h
+  if-gone exact alone target presents (Some number) old new none few bearable cuts h =
+      made-so alone number (deleted presents) old new bearable cuts h.counts h.happens
+      (record { presents = few; delay = (bearable.each number).delay }) (cuts number) (inl none)
+
+  if-cut : (exact : Bool) (alone : Type 0) (target : ℕ) (number : Option ℕ) (old new : BackendView) → alone → exact ≡ true
+      → AreBearable pool old.happened → AreCutOnceMade old → BefallsIf exact (Cut target) number old new → BefallsSo alone old new
+  if-cut exact alone target None old new none is bearable cuts h = same-so alone old new bearable cuts h
+  if-cut exact alone target (Some number) old new none is bearable cuts h =
+      let last = h.happens.is_last is in
+      made-so alone number (cut_to h.happens.last) old new bearable cuts h.counts h.happens.made
+      (record { presents = (bearable.each number).presents; delay = (bearable.each number).delay }) (omega (arith, last)) (inl none)
 
   if-slow : (exact : Bool) (alone : Type 0) (target looks : ℕ) (number : Option ℕ) (old new : BackendView) → looks < pool.patience
-      → AreBearable pool old.happened → AreUncut old.happened → BefallsIf exact (Slow target looks) number old new
-      → BefallsSo alone old.happened new.happened
-  if-slow exact alone target looks None old new early bearable uncut h = same-so alone old new bearable uncut h
-  if-slow exact alone target looks (Some number) old new early bearable uncut h =
-      slow-so alone number looks old.happened new.happened early bearable uncut h.happens
+      → AreBearable pool old.happened → AreCutOnceMade old → BefallsIf exact (Slow target looks) number old new → BefallsSo alone old new
+  if-slow exact alone target looks None old new early bearable cuts h = same-so alone old new bearable cuts h
+  if-slow exact alone target looks (Some number) old new early bearable cuts h =
+      made-so alone number (slowed looks) old new bearable cuts h.counts h.happens
+      (record { presents = (bearable.each number).presents; delay = early }) (cuts number)
+      (inr (record {
+        presents = made-as HasFewer number (slowed looks) old.happened new.happened h.happens (λ x. omega (arith)) (λ x. omega (arith));
+        cut = made-as IsCutAs number (slowed looks) old.happened new.happened h.happens (λ x. refl) (λ x. refl);
+      }))
 
   befallen-so : {S : Type 0} (exact : Bool) (route : Route) (event : Event) (clients : List (Option (ClientState S))) (old new : BackendView)
-      → HasBorneNumber pool event → CutsNothing event → FallsBetween event clients → AreBearable pool old.happened → AreUncut old.happened
-      → IsBefallen exact route event old new → BefallsSo (IsNoneInWork clients) old.happened new.happened
-  befallen-so exact route (Feed client octets) clients old new few cuts falls bearable uncut h = same-so (IsNoneInWork clients) old new bearable uncut h
-  befallen-so exact route (End client) clients old new few cuts falls bearable uncut h = same-so (IsNoneInWork clients) old new bearable uncut h
-  befallen-so exact route (Step client) clients old new few cuts falls bearable uncut h = same-so (IsNoneInWork clients) old new bearable uncut h
-  befallen-so exact route (Run client) clients old new few cuts falls bearable uncut h = same-so (IsNoneInWork clients) old new bearable uncut h
-  befallen-so exact route (Tick seconds) clients old new few cuts falls bearable uncut h = same-so (IsNoneInWork clients) old new bearable uncut h
-  befallen-so exact route (Gone target presents) clients old new few cuts falls bearable uncut h =
-      if-gone exact (IsNoneInWork clients) target presents (test_number route target) old new falls few bearable uncut h
-  befallen-so exact route (Cut target) clients old new few cuts falls bearable uncut h = absurd cuts
-  befallen-so exact route (Slow target looks) clients old new few cuts falls bearable uncut h =
-      if-slow exact (IsNoneInWork clients) target looks (test_number route target) old new few bearable uncut h
+      → exact ≡ true → HasBorneNumber pool event → FallsBetween event clients → AreBearable pool old.happened → AreCutOnceMade old
+      → IsBefallen exact route event old new → BefallsSo (IsNoneInWork clients) old new
+  befallen-so exact route (Feed client octets) clients old new is few falls bearable cuts h = same-so (IsNoneInWork clients) old new bearable cuts h
+  befallen-so exact route (End client) clients old new is few falls bearable cuts h = same-so (IsNoneInWork clients) old new bearable cuts h
+  befallen-so exact route (Step client) clients old new is few falls bearable cuts h = same-so (IsNoneInWork clients) old new bearable cuts h
+  befallen-so exact route (Run client) clients old new is few falls bearable cuts h = same-so (IsNoneInWork clients) old new bearable cuts h
+  befallen-so exact route (Tick seconds) clients old new is few falls bearable cuts h = same-so (IsNoneInWork clients) old new bearable cuts h
+  befallen-so exact route (Gone target presents) clients old new is few falls bearable cuts h =
+      if-gone exact (IsNoneInWork clients) target presents (test_number route target) old new falls few bearable cuts h
+  befallen-so exact route (Cut target) clients old new is few falls bearable cuts h =
+      if-cut exact (IsNoneInWork clients) target (test_number route target) old new falls is bearable cuts h
+  befallen-so exact route (Slow target looks) clients old new is few falls bearable cuts h =
+      if-slow exact (IsNoneInWork clients) target looks (test_number route target) old new few bearable cuts h
 
 -- ---- connections
 
@@ -169,9 +179,8 @@ module _ {W S : Type 0} (w : world.Ghosts W) (t : sitting.Ghosts S W) (route : R
     pub marks : AreFit IsPlainOrFull conn.marks
 
   -- so does what is outside
-  pub record IsSound (here : Outside S) : Type 0 where
-    pub borne : IsBorneBy w t route.pool here.door.pool here.backend
-    pub uncut : AreUncut here.backend.happened
+  abbrev pub IsSound : Outside S → Type 0
+  IsSound here = IsBorneBy w t route.pool here.door.pool here.backend
 
   -- a connection, and what is outside, behind what was done
   pub record Goes (new : ConnectionState S) (before behind : Outside S) : Type 0 where
@@ -203,8 +212,8 @@ counted-so w t route h (leg ∷ legs) bear = (bear.0.borne, counted-so w t route
 
 -- ---- steps
 
-module _ {W S : Type 0} (w : world.Ghosts W) (t : sitting.Ghosts S W) (exact : Bool) (route : Route) (law : PackagesBear w t) (stays : BearingStays w t)
-    (is : exact ≡ true) (told : AreTold w route) where
+module _ {W S : Type 0} (w : world.Ghosts W) (t : sitting.Ghosts S W) (exact : Bool) (route : Route) (law : PackagesBear w t)
+    (dials : PackagesDialOn w t) (stays : BearingStays w t) (is : exact ≡ true) (told : AreTold w route) where
   abbrev Bears : Happened → ConnectionState S → Type 0
   Bears h conn = ConnBears w t route h conn
 
@@ -220,22 +229,23 @@ module _ {W S : Type 0} (w : world.Ghosts W) (t : sitting.Ghosts S W) (exact : B
       subst (λ (o : Outside S). Goes_ new before o) (sym e) (record { conn = bears; sound = sound; worse = still before.backend.happened })
 
   from-bears : (now : ℕ) (end : Option Ending) (in_work : Option (PackageView S)) (old new : ConnectionState S) (answer : Stepped)
-      (before behind : Outside S) → answer ≢ Memory → old.in_work ≡ in_work → Bears before.backend.happened old → Sound before
-      → StepsFrom w t exact route now end in_work old new answer before behind → Goes_ new before behind
-  from-bears now (Some end) in_work old new answer before behind had e bears sound h =
+      (before behind : Outside S) → answer ≢ Memory → old.in_work ≡ in_work → DialsGoOn behind.backend.counts
+      → Bears before.backend.happened old → Sound before → StepsFrom w t exact route now end in_work old new answer before behind
+      → Goes_ new before behind
+  from-bears now (Some end) in_work old new answer before behind had e count bears sound h =
       unmoved new before behind h.2 (subst (λ (c : ConnectionState S). Bears before.backend.happened c) (sym h.1) bears) sound
-  from-bears now None None old new answer before behind had e bears sound h =
+  from-bears now None None old new answer before behind had e count bears sound h =
       unmoved new before behind h.1
       (record {
         legs = ahead-keeps route (LegBears w t route before.backend.happened)
-            (λ asked. fresh w t route before.backend.happened sound.borne.bearable asked) old new answer bears.legs h.0;
+            (λ asked. fresh w t route before.backend.happened sound.bearable asked) old new answer bears.legs h.0;
         marks = ahead-fits IsPlainOrFull tt route old new answer h.0 bears.marks;
       }) sound
-  from-bears now None (Some view) old new answer before behind had e bears sound h =
+  from-bears now None (Some view) old new answer before behind had e count bears sound h =
       let goes = h.turns in
       let kept = subst (λ (v : Option (PackageView S)). LegsKept (LegBears w t route before.backend.happened) v) e bears.legs in
-      let both = law exact route now view goes.next goes.turned before.door behind.door before.backend behind.backend is told goes.law sound.uncut
-      sound.borne (all-both (LegBears w t route before.backend.happened) view.first view.later kept.0 kept.1) in
+      let both = law exact route now view goes.next goes.turned before.door behind.door before.backend behind.backend is told goes.law count
+      sound (all-both (LegBears w t route before.backend.happened) view.first view.later kept.0 kept.1) in
       let first = all-front (LegBears w t route behind.backend.happened) goes.next.first goes.next.later both.0 in
       let later = all-back (LegBears w t route behind.backend.happened) goes.next.first goes.next.later both.0 in
       record {
@@ -248,19 +258,17 @@ module _ {W S : Type 0} (w : world.Ghosts W) (t : sitting.Ghosts S W) (exact : B
               (counted-so w t route behind.backend.happened goes.next.first first)
               (counted-so w t route behind.backend.happened goes.next.later later)) goes.works bears.marks;
         };
-        sound = record {
-          borne = both.1.borne;
-          uncut = uncut-on before.backend.happened behind.backend.happened both.1.worse sound.uncut;
-        };
+        sound = both.1.borne;
         worse = both.1.worse;
       }
 
   -- ---- one client
 
-  client-bears : (now : ℕ) (idle : Bool) (old new : ClientState S) (before behind : Outside S) → Bears before.backend.happened old.conn
-      → Sound before → IsClientStep w t exact route now idle old new before behind → Goes_ new.conn before behind
-  client-bears now idle old new before behind bears sound h =
-      let one = from-bears now old.conn.end old.conn.in_work old.conn h.stepped_to h.answer before behind h.remembers refl bears sound h.steps in
+  client-bears : (now : ℕ) (idle : Bool) (old new : ClientState S) (before behind : Outside S) → DialsGoOn behind.backend.counts
+      → Bears before.backend.happened old.conn → Sound before → IsClientStep w t exact route now idle old new before behind
+      → Goes_ new.conn before behind
+  client-bears now idle old new before behind count bears sound h =
+      let one = from-bears now old.conn.end old.conn.in_work old.conn h.stepped_to h.answer before behind h.remembers refl count bears sound h.steps in
       record {
         conn = subst (λ (c : ConnectionState S). Bears behind.backend.happened c) (sym h.conn)
             (record { legs = one.conn.legs; marks = one.conn.marks });
@@ -276,30 +284,39 @@ module _ {W S : Type 0} (w : world.Ghosts W) (t : sitting.Ghosts S W) (exact : B
     worse = worse-on before.backend.happened amid.backend.happened behind.backend.happened worse goes.worse;
   }
 
-  steps-bear : (now : ℕ) (from : Point S) (earlier : List (Point S)) (last : Point S) → Bears from.outside.backend.happened from.client.conn
-      → Sound from.outside → AreSteps w t exact route now from earlier last → Goes_ last.client.conn from.outside last.outside
-  steps-bear now from [] last bears sound h =
+  -- links go on to be counted before it, too
+  counts-before : (now : ℕ) (idle : Bool) (old new : ClientState S) (before behind : Outside S)
+      → IsClientStep w t exact route now idle old new before behind → DialsGoOn behind.backend.counts → DialsGoOn before.backend.counts
+  counts-before now idle old new before behind h count =
+      dials-before before.backend behind.backend (client-dial w t exact route dials now idle old new before behind h) count
+
+  steps-bear : (now : ℕ) (from : Point S) (earlier : List (Point S)) (last : Point S) → DialsGoOn last.outside.backend.counts
+      → Bears from.outside.backend.happened from.client.conn → Sound from.outside → AreSteps w t exact route now from earlier last
+      → Goes_ last.client.conn from.outside last.outside
+  steps-bear now from [] last count bears sound h =
       subst (λ (p : Point S). Goes_ p.client.conn from.outside p.outside) (sym h)
       (record { conn = bears; sound = sound; worse = still from.outside.backend.happened })
-  steps-bear now from (mid ∷ earlier) last bears sound h =
-      let so_far = steps-bear now from earlier mid bears sound h.0 in
+  steps-bear now from (mid ∷ earlier) last count bears sound h =
+      let so_far = steps-bear now from earlier mid (counts-before now false mid.client last.client mid.outside last.outside h.1 count) bears sound
+      h.0 in
       on last.client.conn from.outside mid.outside last.outside so_far.worse
-      (client-bears now false mid.client last.client mid.outside last.outside so_far.conn so_far.sound h.1)
+      (client-bears now false mid.client last.client mid.outside last.outside count so_far.conn so_far.sound h.1)
 
-  run-bears : (now : ℕ) (old new : ClientState S) (before behind : Outside S) → Bears before.backend.happened old.conn → Sound before
-      → HasRun w t exact route now old new before behind → Goes_ new.conn before behind
-  run-bears now old new before behind bears sound h =
-      let so_far = steps-bear now (record { client = old; outside = before }) h.earlier h.last bears sound h.steps in
+  run-bears : (now : ℕ) (old new : ClientState S) (before behind : Outside S) → DialsGoOn behind.backend.counts
+      → Bears before.backend.happened old.conn → Sound before → HasRun w t exact route now old new before behind → Goes_ new.conn before behind
+  run-bears now old new before behind count bears sound h =
+      let amid = counts-before now true h.last.client new h.last.outside behind h.rests count in
+      let so_far = steps-bear now (record { client = old; outside = before }) h.earlier h.last amid bears sound h.steps in
       on new.conn before h.last.outside behind so_far.worse
-      (client-bears now true h.last.client new h.last.outside behind so_far.conn so_far.sound h.rests)
+      (client-bears now true h.last.client new h.last.outside behind count so_far.conn so_far.sound h.rests)
 
   piece-work : (end : Option Ending) (state : ConnectionState S) (piece : List ℕ) → (fed_piece end state piece).in_work ≡ state.in_work
   piece-work None state piece = refl
   piece-work (Some end) state piece = refl
 
-  plays-bear : (event : Event) (now : ℕ) (old new : ClientState S) (before behind : Outside S) → Bears before.backend.happened old.conn
-      → Sound before → PlaysFor w t exact route event now old new before behind → Goes_ new.conn before behind
-  plays-bear (Feed client octets) now old new before behind bears sound h =
+  plays-bear : (event : Event) (now : ℕ) (old new : ClientState S) (before behind : Outside S) → DialsGoOn behind.backend.counts
+      → Bears before.backend.happened old.conn → Sound before → PlaysFor w t exact route event now old new before behind → Goes_ new.conn before behind
+  plays-bear (Feed client octets) now old new before behind count bears sound h =
       unmoved new.conn before behind h.1
       (subst (λ (c : ClientState S). Bears before.backend.happened c.conn) (sym h.0)
       (record {
@@ -307,15 +324,15 @@ module _ {W S : Type 0} (w : world.Ghosts W) (t : sitting.Ghosts S W) (exact : B
             (sym (piece-work old.conn.end old.conn octets)) bears.legs;
         marks = piece-fits IsPlainOrFull old.conn.end old.conn octets bears.marks;
       })) sound
-  plays-bear (End client) now old new before behind bears sound h =
+  plays-bear (End client) now old new before behind count bears sound h =
       unmoved new.conn before behind h.1
       (subst (λ (c : ClientState S). Bears before.backend.happened c.conn) (sym h.0) (record { legs = bears.legs; marks = bears.marks })) sound
-  plays-bear (Step client) now old new before behind bears sound h = client-bears now h.0 old new before behind bears sound h.1
-  plays-bear (Run client) now old new before behind bears sound h = run-bears now old new before behind bears sound h
-  plays-bear (Tick seconds) now old new before behind bears sound h = absurd h
-  plays-bear (Gone target presents) now old new before behind bears sound h = absurd h
-  plays-bear (Cut target) now old new before behind bears sound h = absurd h
-  plays-bear (Slow target looks) now old new before behind bears sound h = absurd h
+  plays-bear (Step client) now old new before behind count bears sound h = client-bears now h.0 old new before behind count bears sound h.1
+  plays-bear (Run client) now old new before behind count bears sound h = run-bears now old new before behind count bears sound h
+  plays-bear (Tick seconds) now old new before behind count bears sound h = absurd h
+  plays-bear (Gone target presents) now old new before behind count bears sound h = absurd h
+  plays-bear (Cut target) now old new before behind count bears sound h = absurd h
+  plays-bear (Slow target looks) now old new before behind count bears sound h = absurd h
 
   -- ---- all of them
 
@@ -358,13 +375,13 @@ module _ {W S : Type 0} (w : world.Ghosts W) (t : sitting.Ghosts S W) (exact : B
         | inr ne ↦ subst (λ (c : Option (ClientState S)). Here h c) (sym (client_at-other clients place other here ne)) (all other)
       ]
 
-  event-goes : (event : Event) (client : Option ℕ) (now : ℕ) (old new : Playing S) → HasBorneNumber route.pool event → CutsNothing event
-      → FallsBetween event old.clients → AllGo old → PlaysOf w t exact route client event now old new → AllGo new
-  event-goes event None now old new few cuts falls go h =
+  event-goes : (event : Event) (client : Option ℕ) (now : ℕ) (old new : Playing S) → HasBorneNumber route.pool event
+      → FallsBetween event old.clients → DialsGoOn new.outside.backend.counts → AllGo old → PlaysOf w t exact route client event now old new → AllGo new
+  event-goes event None now old new few falls count go h =
       let old_h = old.outside.backend.happened in
       let new_h = new.outside.backend.happened in
-      let so = befallen-so route.pool exact route event old.clients old.outside.backend new.outside.backend few cuts falls
-      go.sound.borne.bearable go.sound.uncut h.backend in
+      let so = befallen-so route.pool exact route event old.clients old.outside.backend new.outside.backend is few falls
+      go.sound.bearable go.sound.cut h.backend in
       record {
         clients = subst (λ (cs : List (Option (ClientState S))). (place : ℕ) → Here new_h (client_at cs place)) (sym h.clients)
             (λ place. elim so.for_legs [
@@ -372,16 +389,14 @@ module _ {W S : Type 0} (w : world.Ghosts W) (t : sitting.Ghosts S W) (exact : B
               | inr worse ↦ here-stays old_h new_h (client_at old.clients place) worse (go.clients place)
             ]);
         sound = record {
-          borne = record {
-            bearable = so.bearable;
-            idle = (subst (λ (d : DoorView S). IsBorneBy w t route.pool d.pool old.outside.backend) (sym h.door) go.sound.borne).idle;
-          };
-          uncut = so.uncut;
+          bearable = so.bearable;
+          cut = so.cut;
+          idle = (subst (λ (d : DoorView S). IsBorneBy w t route.pool d.pool old.outside.backend) (sym h.door) go.sound).idle;
         };
       }
-  event-goes event (Some number) now old new few cuts falls go h =
+  event-goes event (Some number) now old new few falls count go h =
       let here = client_at old.clients (number - 1) in
-      let one = plays-bear event now (client_or_new here) h.plays.client old.outside new.outside
+      let one = plays-bear event now (client_or_new here) h.plays.client old.outside new.outside count
       (or-new old.outside.backend.happened here (go.clients (number - 1))) go.sound h.plays.plays in
       record {
         clients = subst (λ (cs : List (Option (ClientState S))). (place : ℕ) → Here new.outside.backend.happened (client_at cs place)) (sym h.others)
@@ -392,22 +407,20 @@ module _ {W S : Type 0} (w : world.Ghosts W) (t : sitting.Ghosts S W) (exact : B
       }
 
   events-go : (events : List Event) (now : ℕ) (old new : Playing S) → AllByRecursion (HasBorneNumber route.pool) events
-      → AllByRecursion CutsNothing events → (h : ArePlayed w t exact route events now old new) → FallBetween w t exact route events now old new h
-      → AllGo old → AllGo new
-  events-go [] now old new few cuts h falls go = subst (λ (p : Playing S). AllGo p) (sym h) go
-  events-go (event ∷ events) now old new few cuts h falls go =
-      events-go events (now + seconds_of event) h.0 new few.1 cuts.1 h.2 falls.1
-      (event-goes event (client_of event) now old h.0 few.0 cuts.0 falls.0 go h.1)
+      → (h : ArePlayed w t exact route events now old new) → FallBetween w t exact route events now old new h
+      → DialsGoOn new.outside.backend.counts → AllGo old → AllGo new
+  events-go [] now old new few h falls count go = subst (λ (p : Playing S). AllGo p) (sym h) go
+  events-go (event ∷ events) now old new few h falls count go =
+      let amid = dials-before h.0.outside.backend new.outside.backend
+      (events-dial w t exact route dials events (now + seconds_of event) h.0 new h.2) count in
+      events-go events (now + seconds_of event) h.0 new few.1 h.2 falls.1 count
+      (event-goes event (client_of event) now old h.0 few.0 falls.0 amid go h.1)
 
   -- ---- behind the last event
 
   closings-few : (clients : List ℕ) → AllByRecursion (HasBorneNumber route.pool) (flat_map closing clients)
   closings-few [] = tt
   closings-few (client ∷ clients) = (tt, (tt, closings-few clients))
-
-  closings-cut : (clients : List ℕ) → AllByRecursion CutsNothing (flat_map closing clients)
-  closings-cut [] = tt
-  closings-cut (client ∷ clients) = (tt, (tt, closings-cut clients))
 
   closings-fall : (clients : List ℕ) (now : ℕ) (old new : Playing S) (h : ArePlayed w t exact route (flat_map closing clients) now old new)
       → FallBetween w t exact route (flat_map closing clients) now old new h
@@ -422,16 +435,15 @@ module _ {W S : Type 0} (w : world.Ghosts W) (t : sitting.Ghosts S W) (exact : B
   marks-go h (Some client) bears = bears.marks
 
   pub run-borne : (events : List Event) (before behind : Outside S) (report : Report) (run : IsRunOf w t exact route events before behind report)
-      → AllByRecursion (HasBorneNumber route.pool) events → AllByRecursion CutsNothing events
-      → DisturbsNobody w t exact route events before behind report run
-      → AreUncut before.backend.happened → IsBorneBy w t route.pool before.door.pool before.backend → AreAllPlainOrFull report.clients
-  run-borne events before behind report run few cuts falls uncut borne =
+      → IsBorneRun w t exact route events before behind report run → AreAllPlainOrFull report.clients
+  run-borne events before behind report run borne =
       let first : Playing S = record { clients = run.start; outside = before } in
       let last : Playing S = record { clients = run.finish; outside = behind } in
-      let start : AllGo first =
-      record { clients = none-go run.start before.backend.happened run.nobody; sound = record { borne = borne; uncut = uncut } } in
-      let mid = events-go events 0 first run.mid few cuts run.played falls start in
-      let end = events-go (closings events) (moment_behind events) run.mid last (closings-few (named events)) (closings-cut (named events)) run.closed
-      (closings-fall (named events) (moment_behind events) run.mid last run.closed) mid in
+      let start : AllGo first = record { clients = none-go run.start before.backend.happened run.nobody; sound = borne.start } in
+      let amid = dials-before run.mid.outside.backend behind.backend
+      (events-dial w t exact route dials (closings events) (moment_behind events) run.mid last run.closed) borne.counted in
+      let mid = events-go events 0 first run.mid borne.few run.played borne.between amid start in
+      let end = events-go (closings events) (moment_behind events) run.mid last (closings-few (named events)) run.closed
+      (closings-fall (named events) (moment_behind events) run.mid last run.closed) borne.counted mid in
       reported-fit IsPlainOrFull (length run.finish) run.finish report.clients
       (λ place. marks-go behind.backend.happened (client_at run.finish place) (end.clients place)) run.reported.clients_of

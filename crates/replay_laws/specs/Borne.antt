@@ -1,20 +1,27 @@
 -- What befalls the links of a replay and marks no request but where the pool was full (this project's own)
-use Rattle.std.specs.Prelude.{◌≡◌, ◌<◌, ◌≤◌, Bool, true, List}
+use Rattle.std.specs.Prelude.{◌≡◌, ◌*◌, ◌<◌, ◌≤◌, Bool, true, List, length}
 use Rattle.std.specs.List.{AllByRecursion}
+use Rattle.z_types.specs.Bounds.{most_legs}
 use Rattle.z_types.specs.declared.sitting.Sitting as sitting
 use Rattle.z_types.specs.declared.world.World as world
+use Rattle.gw_outside.specs.Counts.{Counts}
+use Rattle.gw_outside.specs.Happened.{AreQuiet, Happened}
 use Rattle.route_config.specs.declared.route.PoolNumbers.{PoolNumbers}
 use Rattle.route_config.specs.declared.route.Route.{Route}
 use Rattle.front_conn.specs.steps.Answering.{Outside}
 use Rattle.script.specs.declared.event.Event.{Event}
-use Rattle.script.specs.declared.event.Event.TheVariants.{Gone, Cut, Slow}
-use Rattle.conn_quiet.specs.steps.Bearing.{AreUncut, IsBorneBy}
+use Rattle.script.specs.declared.event.Event.TheVariants.{Gone, Slow}
+use Rattle.conn_costs.specs.steps.Growth.{last64}
+use Rattle.conn_quiet.specs.steps.Bearing.{DialsGoOn, IsBorneBy}
+use Rattle.replay.specs.Counts.{HaveCauses}
 use Rattle.replay.specs.Trace.{IsRunOf}
+use Rattle.replay.specs.Uncaused.{AreAllPlain}
 use Rattle.replay.specs.Undisturbed.{IsPlainOrFull}
 use Rattle.replay.specs.Wires.{AreTold}
 use Rattle.replay.specs.declared.reports.ClientReport.{ClientReport}
 use Rattle.replay.specs.declared.reports.Report.{Report}
 use Rattle.replay_laws.specs.Between.{DisturbsNobody}
+use Rattle.replay_laws.specs.Quiet.{IsQuiet}
 
 -- no more Presents find their sets deleted than the pool repeats, and replies come within its patience
 abbrev pub HasBorneNumber : PoolNumbers → Event → Type 0
@@ -22,23 +29,59 @@ HasBorneNumber pool (Gone target presents) = presents ≤ pool.repeats
 HasBorneNumber pool (Slow target looks) = looks < pool.patience
 HasBorneNumber pool event = Unit {0}
 
--- no link is cut
-abbrev pub CutsNothing : Event → Type 0
-CutsNothing (Cut target) = ⊥
-CutsNothing event = Unit {0}
-
 -- each request was answered as it asks, or found the pool full
 abbrev pub AreAllPlainOrFull : List ClientReport → Type 0
 AreAllPlainOrFull clients = AllByRecursion (λ client. AllByRecursion IsPlainOrFull client.marks) clients
 
--- so is each of a replay that disturbs nobody, where each target of the route tells what it answers, each number of a deletion or a delay is
--- borne, no link is cut, and no more was made to happen before than is borne
+-- ---- a replay
+
+-- each target of the route tells what it answers, each number of a deletion or a delay is borne, no cut and no deletion falls while a
+-- request is in work, no more was made to happen before than is borne, and links that are made go on to be counted
+pub record IsBorneRun {W S : Type 0} (w : world.Ghosts W) (t : sitting.Ghosts S W) (exact : Bool) (route : Route) (events : List Event)
+    (before behind : Outside S) (report : Report) (run : IsRunOf w t exact route events before behind report) : Type 0 where
+  pub told : AreTold w route
+  pub few : AllByRecursion (HasBorneNumber route.pool) events
+  pub between : DisturbsNobody w t exact route events before behind report run
+  pub start : IsBorneBy w t route.pool before.door.pool before.backend
+  pub counted : DialsGoOn behind.backend.counts
+
+-- so each request of it was answered as it asks, or found the pool full
 abbrev pub BorneIsPlainOrFull : {W S : Type 0} → world.Ghosts W → sitting.Ghosts S W → Type 0
 BorneIsPlainOrFull {W} {S} w t =
     (exact : Bool) (route : Route) (events : List Event) (before behind : Outside S) (report : Report)
     (run : IsRunOf w t exact route events before behind report)
-    → exact ≡ true → AreTold w route
-    → AllByRecursion (HasBorneNumber route.pool) events → AllByRecursion CutsNothing events
-    → DisturbsNobody w t exact route events before behind report run
-    → AreUncut before.backend.happened → IsBorneBy w t route.pool before.door.pool before.backend
-    → AreAllPlainOrFull report.clients
+    → exact ≡ true → IsBorneRun w t exact route events before behind report run → AreAllPlainOrFull report.clients
+
+-- the door was never full: the count of that, below its last value, did not rise
+pub record WasNeverFull {S : Type 0} (before behind : Outside S) : Type 0 where
+  pub below : before.door.counts.fulls < last64
+  pub still : behind.door.counts.fulls ≡ before.door.counts.fulls
+
+-- then each was answered as it asks
+abbrev pub BorneIsPlain : {W S : Type 0} → world.Ghosts W → sitting.Ghosts S W → Type 0
+BorneIsPlain {W} {S} w t =
+    (exact : Bool) (route : Route) (events : List Event) (before behind : Outside S) (report : Report)
+    (run : IsRunOf w t exact route events before behind report)
+    → exact ≡ true → IsBorneRun w t exact route events before behind report run
+    → HaveCauses route.pool report before behind → WasNeverFull before behind → AreAllPlain report.clients
+
+-- ---- over a quiet wire
+
+-- each number of a deletion or a delay is borne, at each cut and each deletion every client that took a step was run since, nothing was
+-- made to happen to any target before, and each target of the route tells what it answers
+pub record IsBorne {W : Type 0} (w : world.Ghosts W) (route : Route) (events : List Event) (happened : Happened) : Type 0 where
+  pub few : AllByRecursion (HasBorneNumber route.pool) events
+  pub between : IsQuiet events
+  pub quiet : AreQuiet happened
+  pub told : AreTold w route
+
+-- each mark is Plain or Full, and all are Plain where there may be as many sessions of a class as the clients have legs at most
+pub record AreBorneMarks (pool : PoolNumbers) (report : Report) : Type 0 where
+  pub marks : AreAllPlainOrFull report.clients
+  pub places : length report.clients * most_legs ≤ pool.max_sessions → AreAllPlain report.clients
+
+-- a wire whose counts are exact, and whose count of links is below its last value behind the replay, leaves such marks where it was borne
+abbrev pub IsBorneIf : {W : Type 0} → world.Ghosts W → (exact : Bool) → Route → List Event → Happened → (behind : Counts) → Report
+    → Type 0
+IsBorneIf w exact route events happened behind report =
+    exact ≡ true → IsBorne w route events happened → DialsGoOn behind → AreBorneMarks route.pool report

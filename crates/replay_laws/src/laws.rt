@@ -1,11 +1,11 @@
 //! What holds of whole replays.
 
-ghost use Rattle.replay_laws.specs.Borne.{BorneIsPlainOrFull};
+ghost use Rattle.replay_laws.specs.Borne.{BorneIsPlain, BorneIsPlainOrFull};
 ghost use Rattle.replay_laws.specs.Pages.{SumsLeaveMarks};
 ghost use Rattle.replay_laws.specs.Quiet.{QuietDisturbsNobody};
 ghost use Rattle.replay_laws.specs.Requests.{UncausedRequestIsPlain};
 
-use conn_quiet::{bearing_stays, packages_bear};
+use conn_quiet::{bearing_stays, packages_bear, packages_dial_on};
 use z_types::{Sitting, World};
 
 /// Where each client that took a step was run since, whenever links are cut or result sets deleted,
@@ -25,11 +25,19 @@ pub fn uncaused_request_is_plain<W: World, S: Sitting<W>>()
     ensures { UncausedRequestIsPlain W.World S.Sitting }
 {}
 
-/// Where no request is in work at a deletion, each number of a deletion or a delay is one that a
-/// request bears, and no link is cut, each mark is Plain or Full, whatever the pool and the clients do.
+/// Where no request is in work at a cut or a deletion, and each number of a deletion or a delay is
+/// one that a request bears, each mark is Plain or Full, whatever the pool and the clients do.
 pub fn borne_is_plain_or_full<W: World, S: Sitting<W>>()
     ensures { BorneIsPlainOrFull W.World S.Sitting }
 {
     packages_bear::<W, S>();
+    packages_dial_on::<W, S>();
     bearing_stays::<W, S>();
+}
+
+/// Each is Plain where, besides, the pool was never full.
+pub fn borne_is_plain<W: World, S: Sitting<W>>()
+    ensures { BorneIsPlain W.World S.Sitting }
+{
+    borne_is_plain_or_full::<W, S>();
 }

@@ -8,5 +8,6 @@ mod laws;
 mod tests;
 
 pub use laws::{
-    borne_is_plain_or_full, quiet_disturbs_nobody, sums_leave_marks, uncaused_request_is_plain,
+    borne_is_plain, borne_is_plain_or_full, quiet_disturbs_nobody, sums_leave_marks,
+    uncaused_request_is_plain,
 };

@@ -120,7 +120,8 @@ module _ {W S : Type 0} (w : world.Ghosts W) (t : sitting.Ghosts S W) (exact : B
     }
 
     module _ (law : RequestsShare w t) (is : exact ≡ true) (fair : IsFair w route) (sound : IsSound route) where
-      shared : (view : PackageView S) (works : List Work) (totals : List Total) (marks : List Mark) (outside : Outside S) → IsOver view
+      -- what its legs have shared
+      pub shared : (view : PackageView S) (works : List Work) (totals : List Total) (marks : List Mark) (outside : Outside S) → IsOver view
           → (h : IsInWork w t exact route now before start view works totals marks outside)
           → HasShared w t route now (behind before (uses_now route now h.earlier)) view.work (At view outside)
       shared view works totals marks outside over h =

@@ -1,10 +1,13 @@
 -- What sharing makes of an orderly script (this project's own): no request is marked, and each class costs what the uses of it
 -- need
-use Rattle.std.specs.Prelude.{◌≡◌, ℕ, List, map, length}
+use Rattle.std.specs.Prelude.{◌≡◌, ℕ, Bool, true, List, map, length}
 use Rattle.std.specs.List.{range_with_len}
 use Rattle.z_types.specs.Bounds.{within64}
 use Rattle.z_types.specs.declared.world.World as world
+use Rattle.gw_outside.specs.Counts.{Counts}
+use Rattle.gw_outside.specs.Happened.{Happened, IsQuietWire}
 use Rattle.route_config.specs.declared.route.Route.{Route}
+use Rattle.gateway_rules.specs.Fair.{IsFair}
 use Rattle.script.specs.declared.event.Event.{Event}
 use Rattle.sharing_rules.specs.Needed.{dials_needed, needed}
 use Rattle.sharing_rules.specs.Uses.{Use, uses_of}
@@ -31,3 +34,8 @@ pub record IsOrderlyReport {W : Type 0} (w : world.Ghosts W) (route : Route) (tu
 -- of any events: where they are orderly
 abbrev pub SharesIfOrderly : {W : Type 0} → world.Ghosts W → Route → List Event → Report → Type 0
 SharesIfOrderly w route events report = (turns : List Turn) → IsOrderly w route events turns → IsOrderlyReport w route turns report
+
+-- so of events that are played over a wire: where it counts exactly, was quiet and without links before, and the route is fair
+abbrev pub SharesIfOrderlyOver : {W : Type 0} → world.Ghosts W → (exact : Bool) → Route → List Event → Counts → Happened → Report → Type 0
+SharesIfOrderlyOver w exact route events counts happened report =
+    exact ≡ true → IsFair w route → IsQuietWire counts happened → SharesIfOrderly w route events report

@@ -1,9 +1,9 @@
 //! Orderly scripts share the sessions of the pool: which works the runs of a script ask, and when, and
-//! that each class costs what the uses of these works need, where each run shares.
+//! that each class costs what the uses of these works need.
 #![tactic(auto)]
 
 mod laws;
 #[cfg(test)]
 mod tests;
 
-pub use laws::scripts_share_if_runs_do;
+pub use laws::{gets_share, runs_share, scripts_share, units_share};

@@ -1,5 +1,5 @@
 -- Where the serving of a connection stands behind a step, a write and a read.
-use Rattle.std.proofs.Common.{◌≡◌, ℕ, ◌≤◌, ◌⊎◌, Bool, true, false, List, [], ◌++◌, Option, Some, None, Result, Ok, Err, IsSome, refl, sym, ap, ◌∙◌, subst, append_assoc, append-nil, arith, inl, inr, take, drop}
+use Rattle.std.proofs.Common.{◌≡◌, ◌≢◌, ℕ, ◌≤◌, ◌<◌, ◌⊎◌, Bool, true, false, List, [], ◌++◌, Option, Some, None, Result, Ok, Err, IsSome, refl, sym, ap, ◌∙◌, subst, append_assoc, append-nil, arith, inl, inr, length, length-append, length-drop, take, drop}
 use Rattle.std.specs.Prelude.{option_map}
 use Rattle.std.proofs.lemmas.List.{take-append-drop}
 use Rattle.z_types.specs.declared.marks.End.{End}
@@ -256,7 +256,7 @@ module _ {W S : Type 0} (w : world.Ghosts W) (t : sitting.Ghosts S W) (route : R
   }
 
   -- a front of a front is one
-  less-in_front : (octets : List ℕ) (marks : List Mark) (written out : List ℕ) → AreInFront w route octets marks (written ++ out)
+  abbrev less-in_front : (octets : List ℕ) (marks : List Mark) (written out : List ℕ) → AreInFront w route octets marks (written ++ out)
       → AreInFront w route octets marks written
   less-in_front octets marks written out h = record {
     answered = h.answered;
@@ -305,12 +305,22 @@ module _ {W S : Type 0} (w : world.Ghosts W) (t : sitting.Ghosts S W) (route : R
     nothing_out = refl;
   }
 
-  more-in_front : (octets : List ℕ) (marks : List Mark) (written out : List ℕ) (count : ℕ)
-      → AreInFront w route octets marks (written ++ out) → AreInFront w route octets marks (written ++ take count out)
-  more-in_front octets marks written out count h =
-      less-in_front octets marks (written ++ take count out) (drop count out)
-      (subst (λ (o : List ℕ). AreInFront w route octets marks o)
-      (ap (λ o. written ++ o) (sym (take-append-drop count out)) ∙ sym (append_assoc written (take count out) (drop count out))) h)
+  -- behind a front of octets that is not all of them some are left
+  left-behind : (count : ℕ) (out more : List ℕ) → count < length out → drop count out ++ more ≢ []
+  left-behind count out more within e =
+      let none : length (drop count out ++ more) ≡ 0 = ap length e in
+      omega (arith, none, within, length-append (drop count out) more, length-drop count out)
+
+  -- so a front of the answers, and not all of them, is one where a front of what is to be written is written, and not all of it
+  more-in_front : (octets : List ℕ) (marks : List Mark) (written out : List ℕ) (count : ℕ) → count < length out
+      → AreInFront w route octets marks (written ++ out)
+      → (front : AreInFront w route octets marks (written ++ take count out)) × (front.unwritten ≢ [])
+  more-in_front octets marks written out count within h =
+      let whole = subst (λ (o : List ℕ). AreInFront w route octets marks o)
+      (ap (λ o. written ++ o) (sym (take-append-drop count out)) ∙ sym (append_assoc written (take count out) (drop count out))) h in (
+        less-in_front octets marks (written ++ take count out) (drop count out) whole,
+        left-behind count out whole.unwritten within,
+      )
 
   pub serving-unwritten : (input : SourceView) (old new : SinkView) (state : ConnectionState S)
       → ReceivedPrefix old.received new.received state.out → Rose old.faults new.faults
@@ -322,7 +332,7 @@ module _ {W S : Type 0} (w : world.Ghosts W) (t : sitting.Ghosts S W) (route : R
     given = serving.given;
     received = more-told start.output.received old.received new.received serving.written (take front.count state.out)
         serving.received front.received;
-    answers = λ fair. more-in_front serving.read state.marks serving.written state.out front.count
+    answers = λ fair. more-in_front serving.read state.marks serving.written state.out front.count front.within
         (written-in_front w route serving.read serving.written state (serving.stands fair));
     caused = omega (arith, serving.writes, rose);
   }

@@ -82,6 +82,7 @@ module _ {K L : Type 0} (k : linked.Ghosts K) (l : linked.Ghosts L) where
       → LooksSteadily k old new a b answer → LooksSteadily l before after (unsteady a) (unsteady b) answer
   looks_unsteady old new before after a b answer m n s = record {
     fails = λ e f. absurd cc;
+    arrives = λ e f. absurd cc;
     happened = same_unsteady a b s.happened;
     number = n ∙ s.number ∙ sym m;
     delays = λ e. absurd cc;
@@ -115,6 +116,7 @@ module _ {L : Type 0} (l : linked.Ghosts L) where
       → LooksSteadily l before after (unsteady h) (unsteady h) answer
   looks_untold before after h answer n = record {
     fails = λ e f. absurd cc;
+    arrives = λ e f. absurd cc;
     happened = same_self (unsteady h);
     number = n;
     delays = λ e. absurd cc;

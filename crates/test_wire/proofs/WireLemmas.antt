@@ -15,7 +15,7 @@ use Rattle.z_types.specs.Counts.{Rose, one_more}
 use Rattle.gw_outside.specs.declared.happenings.Happening.{Happening}
 use Rattle.gw_outside.specs.declared.links.Linked as linked
 use Rattle.gw_outside.specs.Counts.{Counts, Counted, WireCounts, after}
-use Rattle.gw_outside.specs.Happened.{Happened, AreSame, AreLess, AreCut, AreQuiet, IsMade, happening_after, nothing_happens, sets_found, at_address, to_peer}
+use Rattle.gw_outside.specs.Happened.{Happened, AreSame, AreLess, AreCut, AreQuiet, IsMade, happening_after, nothing_happens, sets_found, at_address, is_cut, to_peer}
 use Rattle.gw_outside.specs.Peers.{NamedSet, AreLeft, IsPeerStep, TakesRequest, held}
 use Rattle.gw_outside.specs.Wires.{IsRequestUnit, IsReplyUnit, HandsOver, IsSentTo, SendFits, SendsSteadily, SendCounts, LookFits, LooksSteadily, send_counted}
 use Rattle.gw_outside.specs.Peers as peers
@@ -353,17 +353,20 @@ module _ {L : Type 0} (l : linked.Ghosts L) (link_old link_new : L) (before afte
   -- the look at which it arrives is a steady one
   pub looks : (old mid new : List OwedReply) (found : OwedReply) (octets from to : List ℕ) (result : Looked) → IsNextOwed old mid (Some found)
       → HasArrived octets from to result → new ≡ mid → l.delays link_old ≡ delays_of old → l.delays link_new ≡ delays_of new → AreSame before after
-      → l.number link_new ≡ l.number link_old → LooksSteadily l link_old link_new before after result
-  looks old mid new found octets from to looked.Arrived h a e was is same number = record {
+      → l.number link_new ≡ l.number link_old → is_cut (to_peer before (l.peer link_old)) (l.number link_old) ≡ false
+      → LooksSteadily l link_old link_new before after result
+  looks old mid new found octets from to looked.Arrived h a e was is same number uncut = record {
     fails = λ f. cc;
+    arrives = λ e steady. uncut;
     happened = same;
     number = number;
     delays = λ steady. was ∙ delays_next old mid found h ∙ ap (λ owed. 0 ∷ delays_of owed) (sym e) ∙ ap (λ delays. 0 ∷ delays) (sym is);
   }
-  looks old mid new found octets from to looked.NotYet h a e was is same number = absurd a
-  looks old mid new found octets from to looked.Failed h a e was is same number = absurd a
-  looks old mid new found octets from to looked.Memory h a e was is same number = record {
+  looks old mid new found octets from to looked.NotYet h a e was is same number uncut = absurd a
+  looks old mid new found octets from to looked.Failed h a e was is same number uncut = absurd a
+  looks old mid new found octets from to looked.Memory h a e was is same number uncut = record {
     fails = λ f. cc;
+    arrives = λ f. absurd cc;
     happened = same;
     number = number;
     delays = λ steady. tt;

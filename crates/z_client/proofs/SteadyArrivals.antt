@@ -1,5 +1,5 @@
 -- A unit is awaited over a steady link (this project's own)
-use Rattle.std.proofs.Common.{◌≡◌, ◌∙◌, ◌⊎◌, inl, inr, ℕ, true, false, List, [], ◌∷◌, ◌++◌, take, Option, None, Some, IsSome, refl, sym, ap, subst}
+use Rattle.std.proofs.Common.{◌≡◌, ◌∙◌, ◌⊎◌, inl, inr, ℕ, Bool, true, false, List, [], ◌++◌, take, Option, None, Some, IsSome, refl, sym, ap, subst}
 use Rattle.z_ber.specs.Frames.{IsFrame}
 use Rattle.z_ber.specs.Header.{IsOpenFor, IsBadFor}
 use Rattle.z_types.specs.declared.address.Address.{Address}
@@ -25,8 +25,8 @@ peer_again : (a b : Happened) (peer : Option Peer) → AreSame a b → to_peer b
 peer_again a b None s = refl
 peer_again a b (Some peer) s = address_again a b peer.address s
 
-pub cut_again : (a b : Happening) (m n : ℕ) → a ≡ b → m ≡ n → is_cut a m ≡ true → is_cut b n ≡ true
-cut_again a b m n e f cut = sym (ap (λ h. is_cut h m) e ∙ ap (λ k. is_cut b k) f) ∙ cut
+pub cut_again : (a b : Happening) (m n : ℕ) (is : Bool) → a ≡ b → m ≡ n → is_cut a m ≡ is → is_cut b n ≡ is
+cut_again a b m n is e f cut = sym (ap (λ h. is_cut h m) e ∙ ap (λ k. is_cut b k) f) ∙ cut
 
 -- ---- what arrives
 
@@ -37,40 +37,49 @@ arrives_frame (Some old) (Some new) octets some a = a.unit.frame
 
 module _ {L : Type 0} (l : linked.Ghosts L) (before : Happened) (old : L) where
   -- nothing has come at first
-  pub awaited_first : l.arrived old ≡ [] → IsAwaited l old old
+  pub awaited_first : l.arrived old ≡ [] → IsAwaited l before old old
   awaited_first e = record { number = refl; came = inl (record { none = e; peer = refl; delays = refl }) }
 
   module _ (mid : L) where
     abbrev Came : Type 0
-    Came = NoneCame l old mid ⊎ OneCame l old mid
+    Came = NoneCame l before old mid ⊎ OneCame l before old mid
 
-    whole_due : (size : ℕ) → IsFrame (take size (l.arrived mid)) → Came → l.delays old ≡ 0 ∷ l.delays mid
-    whole_due size f (inl c) = no_frame (take size (l.arrived mid)) f (take_none size (l.arrived mid) c.none)
-    whole_due size f (inr c) = c.due
+    whole_one : (size : ℕ) → IsFrame (take size (l.arrived mid)) → Came → OneCame l before old mid
+    whole_one size f (inl c) = no_frame (take size (l.arrived mid)) f (take_none size (l.arrived mid) c.none)
+    whole_one size f (inr c) = c
 
-    bad_due : IsBadFor IsFrame (l.arrived mid) → Came → l.delays old ≡ 0 ∷ l.delays mid
-    bad_due bad (inl c) = nothing_opens (subst (λ octets. IsBadFor IsFrame octets) c.none bad)
-    bad_due bad (inr c) = frame_opens (l.arrived mid) c.frame bad
+    bad_one : IsBadFor IsFrame (l.arrived mid) → Came → OneCame l before old mid
+    bad_one bad (inl c) = nothing_opens (subst (λ octets. IsBadFor IsFrame octets) c.none bad)
+    bad_one bad (inr c) = frame_opens (l.arrived mid) c.frame bad
 
-    open_none : IsOpenFor IsFrame (l.arrived mid) → Came → NoneCame l old mid
+    open_none : IsOpenFor IsFrame (l.arrived mid) → Came → NoneCame l before old mid
     open_none o (inl c) = c
     open_none o (inr c) = not_open (l.arrived mid) c.frame o
 
     -- a unit or a breach in front ends the wait
-    pub front_awaits : (answer : Arrival) → IsAwaited l old mid → IsInFront (l.arrived mid) (Some answer) → AwaitsSteadily l before old mid answer
-    front_awaits (Whole size) a f = record { number = a.number; delays = whole_due size f.1 a.came; fails = λ e. absurd cc }
-    front_awaits Breach a f = record { number = a.number; delays = bad_due f a.came; fails = λ e. absurd cc }
+    pub front_awaits : (answer : Arrival) → IsAwaited l before old mid → IsInFront (l.arrived mid) (Some answer) → AwaitsSteadily l before old mid answer
+    front_awaits (Whole size) a f =
+        let one = whole_one size f.1 a.came in
+        record { number = a.number; delays = one.due; fails = λ e. absurd cc; uncut = λ e. one.uncut }
+    front_awaits Breach a f =
+        let one = bad_one f a.came in
+        record { number = a.number; delays = one.due; fails = λ e. absurd cc; uncut = λ e. one.uncut }
     front_awaits NotYet a f = absurd f
     front_awaits Failed a f = absurd f
     front_awaits Memory a f = absurd f
 
     -- no look ended it
-    pub loop_awaits : IsAwaited l old mid → AwaitsSteadily l before old mid Memory
-    loop_awaits a = record { number = a.number; delays = tt; fails = λ e. absurd cc }
+    pub loop_awaits : IsAwaited l before old mid → AwaitsSteadily l before old mid Memory
+    loop_awaits a = record { number = a.number; delays = tt; fails = λ e. absurd cc; uncut = λ e. absurd cc }
 
-    module _ (new : L) (now after : Happened) (same : AreSame before now) (steady : before.steady ≡ true) (a : IsAwaited l old mid) (o : IsOpenFor IsFrame (l.arrived mid)) where
-      abbrev none_came : NoneCame l old mid
+    module _ (new : L) (now after : Happened) (same : AreSame before now) (steady : before.steady ≡ true) (a : IsAwaited l before old mid) (o : IsOpenFor IsFrame (l.arrived mid)) where
+      abbrev none_came : NoneCame l before old mid
       none_came = open_none o a.came
+
+      -- what is cut then was
+      was_cut : (is : Bool) → is_cut (to_peer now (l.peer mid)) (l.number mid) ≡ is → is_cut (to_peer before (l.peer old)) (l.number old) ≡ is
+      was_cut is = cut_again (to_peer now (l.peer mid)) (to_peer before (l.peer old)) (l.number mid) (l.number old) is
+          (ap (λ peer. to_peer now peer) none_came.peer ∙ peer_again before now (l.peer old) same) a.number
 
       -- a look ends it
       pub look_awaits : (answer : Arrival) → IsLooked (l.peer mid) (l.peer new) (l.arrived mid) (l.arrived new) (Some answer)
@@ -79,25 +88,27 @@ module _ {L : Type 0} (l : linked.Ghosts L) (before : Happened) (old : L) where
         number = s.number ∙ a.number;
         delays = subst (λ delays. DelaysLooked delays (l.delays new) looked.NotYet) none_came.delays (s.delays (same.steady ∙ steady));
         fails = λ e. absurd cc;
+        uncut = λ e. absurd cc;
       }
       look_awaits Failed k s = record {
         number = s.number ∙ a.number;
         delays = s.delays (same.steady ∙ steady) ∙ none_came.delays;
-        fails = λ e. cut_again (to_peer now (l.peer mid)) (to_peer before (l.peer old)) (l.number mid) (l.number old)
-            (ap (λ peer. to_peer now peer) none_came.peer ∙ peer_again before now (l.peer old) same) a.number (s.fails refl (same.steady ∙ steady));
+        fails = λ e. was_cut true (s.fails refl (same.steady ∙ steady));
+        uncut = λ e. absurd cc;
       }
-      look_awaits Memory k s = record { number = s.number ∙ a.number; delays = tt; fails = λ e. absurd cc }
+      look_awaits Memory k s = record { number = s.number ∙ a.number; delays = tt; fails = λ e. absurd cc; uncut = λ e. absurd cc }
       look_awaits Breach k s = absurd k
       look_awaits (Whole size) k s = absurd k
 
       -- a reply arrives at a look
       pub look_awaited : IsSome (l.peer old) → IsLooked (l.peer mid) (l.peer new) (l.arrived mid) (l.arrived new) None
-          → LooksSteadily l mid new now after looked.Arrived → IsAwaited l old new
+          → LooksSteadily l mid new now after looked.Arrived → IsAwaited l before old new
       look_awaited some k s = record {
         number = s.number ∙ a.number;
         came = inr (record {
           frame = subst (λ octets. IsFrame octets) (sym (k.1 ∙ ap (λ front. front ++ k.0) none_came.none))
               (arrives_frame (l.peer mid) (l.peer new) k.0 (subst (λ peer. IsSome peer) (sym none_came.peer) some) k.2);
           due = sym none_came.delays ∙ s.delays (same.steady ∙ steady);
+          uncut = was_cut false (s.arrives refl (same.steady ∙ steady));
         });
       }

@@ -72,7 +72,7 @@ module _ {L : Type 0} (l : linked.Ghosts L) (address : Address) (h : Happened) (
 
   -- where memory did not suffice
   pub memory_steadily : l.number new ≡ l.number old → Looks Memory
-  memory_steadily number = record { number = number; delays = tt; holds = tt; gone = λ e. absurd cc; still_gone = λ e. absurd cc; fails = λ e. absurd cc }
+  memory_steadily number = record { number = number; delays = tt; holds = tt; gone = λ e. absurd cc; still_gone = λ e. absurd cc; fails = λ e. absurd cc; arrives = λ e. absurd cc }
 
   -- where no reply was due
   pub not_yet_steadily : AwaitsSteadily l h old new NotCome → l.peer new ≡ l.peer old → Looks NotYet
@@ -83,6 +83,7 @@ module _ {L : Type 0} (l : linked.Ghosts L) (address : Address) (h : Happened) (
     gone = λ e. absurd cc;
     still_gone = λ e. ap owes_gone same;
     fails = λ e. absurd cc;
+    arrives = λ e. absurd cc;
   }
 
   -- where the link is cut
@@ -94,10 +95,11 @@ module _ {L : Type 0} (l : linked.Ghosts L) (address : Address) (h : Happened) (
     gone = λ e. absurd cc;
     still_gone = λ e. absurd cc;
     fails = λ e. sym (ap (λ here. is_cut here (l.number old)) at) ∙ a.fails refl;
+    arrives = λ e. absurd cc;
   }
 
   module _ (mid : L) (size : ℕ) (a : AwaitsSteadily l h old mid (Whole size)) (same : IsSameLink l mid new)
-      (stays : (name : List ℕ) → holds (l.peer mid) name ≡ holds (l.peer old) name) where
+      (stays : (name : List ℕ) → holds (l.peer mid) name ≡ holds (l.peer old) name) (at : to_peer h (l.peer old) ≡ at_address h address) where
     -- where a reply came
     came_steadily : (answer : Heard) → looked_by answer ≡ looked.Arrived → IsOwed (l.peer old) p answer → Looks answer
     came_steadily answer is owed = record {
@@ -107,6 +109,7 @@ module _ {L : Type 0} (l : linked.Ghosts L) (address : Address) (h : Happened) (
       gone = λ e. owed_gone p (l.peer old) (subst (λ said. IsOwed (l.peer old) p said) e owed);
       still_gone = λ e. let no_way : looked.Arrived ≡ looked.NotYet = sym is ∙ ap looked_by e in absurd cc;
       fails = λ e. let no_way : looked.Arrived ≡ looked.Failed = sym is ∙ ap looked_by e in absurd cc;
+      arrives = λ e. sym (ap (λ here. is_cut here (l.number old)) at) ∙ a.uncut refl;
     }
 
     -- what was found of it

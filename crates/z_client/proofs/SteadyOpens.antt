@@ -39,7 +39,7 @@ module _ {W L : Type 0} (w : world.Ghosts W) (l : linked.Ghosts L) (exact : Bool
 
     pub ungreeted_cut : SendsSteadily l unit old new h then_ sent.Failed → SendCounts exact unit sent.Failed before now → exact ≡ true
         → is_cut (at_address h address) now.dials ≡ true
-    ungreeted_cut s c x = cut_again (to_peer h (l.peer old)) (at_address h address) (l.number old) now.dials there
+    ungreeted_cut s c x = cut_again (to_peer h (l.peer old)) (at_address h address) (l.number old) now.dials true there
         (fresh.number x ∙ sym (ap (λ (count : Counts). count.dials) (c.exactly init_request is x))) (s.fails refl steady)
 
 -- ---- by what a backend counts
@@ -59,7 +59,7 @@ module _ {W S : Type 0} (t : sitting.Ghosts S W) (exact : Bool) (address : Addre
   opened_steadily (opened.Failed linked) o = (
     o.0,
     λ x.
-        cut_again (at_address then_ address) (at_address h address) wire.dials (counts_over exact wire own).dials (address_again h then_ address same)
+        cut_again (at_address then_ address) (at_address h address) wire.dials (counts_over exact wire own).dials true (address_again h then_ address same)
         (sym (over_dials exact wire own x)) (o.1 x),
   )
   opened_steadily opened.Memory o = tt

@@ -1,5 +1,5 @@
 -- How the next unit arrives over a link (X.690:2021, 8.1; what links tell is this project's own)
-use Rattle.std.specs.Prelude.{◌≡◌, ◌⊎◌, ℕ, ◌≤◌, true, Bool, List, [], ◌∷◌, ◌++◌, length, take, drop, Option, None, Some}
+use Rattle.std.specs.Prelude.{◌≡◌, ◌⊎◌, ℕ, ◌≤◌, true, false, Bool, List, [], ◌∷◌, ◌++◌, length, take, drop, Option, None, Some}
 use Rattle.z_ber.specs.Frames.{IsFrame}
 use Rattle.z_ber.specs.Header.{IsOpenFor, IsBadFor}
 use Rattle.gw_outside.specs.Counts.{Counts, Counted, nothing, after}
@@ -106,23 +106,26 @@ last_looked NotYet = looked.NotYet
 last_looked Failed = looked.Failed
 last_looked Memory = looked.Memory
 
--- a unit was awaited over a steady link that tells its peer: with one look, and in vain where it is not due, or where the link is cut
+-- a unit was awaited over a steady link that tells its peer: with one look, over a link that is not cut where it came, and in vain where it
+-- is not due, or where the link is cut
 pub record AwaitsSteadily {L : Type 0} (l : linked.Ghosts L) (h : Happened) (old new : L) (answer : Arrival) : Type 0 where
   pub number : l.number new ≡ l.number old
   pub delays : DelaysLooked (l.delays old) (l.delays new) (last_looked answer)
   pub fails : answer ≡ Failed → is_cut (to_peer h (l.peer old)) (l.number old) ≡ true
+  pub uncut : last_looked answer ≡ looked.Arrived → is_cut (to_peer h (l.peer old)) (l.number old) ≡ false
 
-module _ {L : Type 0} (l : linked.Ghosts L) where
+module _ {L : Type 0} (l : linked.Ghosts L) (h : Happened) where
   -- nothing has come
   pub record NoneCame (old new : L) : Type 0 where
     pub none : l.arrived new ≡ []
     pub peer : l.peer new ≡ l.peer old
     pub delays : l.delays new ≡ l.delays old
 
-  -- one reply has, when it was due
+  -- one reply has, when it was due, over a link that is not cut
   pub record OneCame (old new : L) : Type 0 where
     pub frame : IsFrame (l.arrived new)
     pub due : l.delays old ≡ 0 ∷ l.delays new
+    pub uncut : is_cut (to_peer h (l.peer old)) (l.number old) ≡ false
 
   -- a link while a unit is awaited
   pub record IsAwaited (old new : L) : Type 0 where

@@ -1,6 +1,6 @@
 -- For contracts alone: what a leg bears that it is not marked for (this project's own): sets that are found deleted as often as the pool
 -- repeats at most, replies that come within its patience, and links that are cut of sessions that the pool gave
-use Rattle.std.specs.Prelude.{◌≡◌, ℕ, ◌+◌, ◌<◌, ◌≤◌, Bool, true, false, List, [], ◌∷◌, Option, IfSome}
+use Rattle.std.specs.Prelude.{◌≡◌, ℕ, ◌+◌, ◌-◌, ◌^◌, ◌<◌, ◌≤◌, Bool, true, false, List, [], ◌∷◌, Option}
 use Rattle.std.specs.List.{AllByRecursion}
 use Rattle.z_types.specs.Links.{LinkView}
 use Rattle.z_types.specs.Pending.{Pending, resting, opening, asked, broken}
@@ -9,20 +9,17 @@ use Rattle.z_types.specs.declared.ask.Ask.{Ask}
 use Rattle.z_types.specs.declared.ask.Ask.TheVariants.{Search}
 use Rattle.z_types.specs.declared.sitting.Sitting as sitting
 use Rattle.z_types.specs.declared.world.World as world
+use Rattle.gw_outside.specs.Counts.{Counts}
 use Rattle.gw_outside.specs.Happened.{Happened, at_address, is_cut}
 use Rattle.gw_outside.specs.Sessions.{Made}
 use Rattle.gw_outside.specs.Steady.{is_good}
-use Rattle.gw_outside.specs.declared.backends.Heard.{Heard}
-use Rattle.gw_outside.specs.declared.backends.Heard.TheVariants as look
-use Rattle.gw_outside.specs.declared.backends.Opening.TheVariants as gave
 use Rattle.gw_outside.specs.declared.happenings.Happening.{Happening}
 use Rattle.pool_sets.specs.Kept.{slot_name}
 use Rattle.pool_sets.specs.Plain.{Pool}
 use Rattle.route_config.specs.declared.route.PoolNumbers.{PoolNumbers}
 use Rattle.route_config.specs.declared.route.Route.{Route}
-use Rattle.leg.specs.Deeds.{BackendView, Deed, opened, heard}
+use Rattle.leg.specs.Deeds.{BackendView}
 use Rattle.leg.specs.LegView.{LegView}
-use Rattle.leg.specs.Phases.{session_of}
 use Rattle.leg.specs.Terms.{Terms, opened_at, terms_of}
 use Rattle.leg.specs.declared.accounts.Account.{Account}
 use Rattle.leg.specs.declared.phases.Held.{Held}
@@ -42,6 +39,14 @@ module _ (pool : PoolNumbers) where
   pub record AreBearable (h : Happened) : Type 0 where
     pub steady : h.steady ≡ true
     pub each : (target : ℕ) → IsBearable (h.of_target target)
+
+-- links are cut once they were made: none has a number above the count of those that were
+abbrev pub AreCutOnceMade : BackendView → Type 0
+AreCutOnceMade backend = (target : ℕ) → (backend.happened.of_target target).cut ≤ backend.counts.dials
+
+-- links that are made go on to be counted: their count is below its last value, at which it would stand still
+abbrev pub DialsGoOn : Counts → Type 0
+DialsGoOn counts = counts.dials < 2 ^ 64 - 1
 
 -- no worse becomes of links: the same are cut, and no more Presents find their sets deleted
 pub record AreNoWorse (old new : Happened) : Type 0 where
@@ -85,9 +90,11 @@ module _ {W S : Type 0} (w : world.Ghosts W) (t : sitting.Ghosts S W) (pool : Po
     pub fares : FaresAs w pool (t.address session) pending looks (t.made session) (t.link session)
     pub waits : t.pending session ≡ pending
 
-  -- nothing is made to happen that a leg does not bear, and the sessions of the pool that are idle fare so at rest
+  -- nothing is made to happen that a leg does not bear, links are cut once they were made, and the sessions of the pool that are idle
+  -- fare so at rest
   pub record IsBorneBy (sessions : Option (Pool S)) (backend : BackendView) : Type 0 where
     pub bearable : AreBearable pool backend.happened
+    pub cut : AreCutOnceMade backend
     pub idle : AreIdle (FaresAt resting 0) sessions
 
 -- ---- a leg
@@ -158,28 +165,6 @@ module _ {W S : Type 0} (w : world.Ghosts W) (t : sitting.Ghosts S W) where
   -- all legs do
   abbrev pub AllBear : Route → Happened → List (LegView S) → Type 0
   AllBear route h legs = AllByRecursion (LegBears route h) legs
-
--- ---- links that are cut
-
--- a reply is heard
-abbrev pub IsReply : Heard → Type 0
-IsReply look.NotYet = ⊥
-IsReply look.Failed = ⊥
-IsReply look.Memory = ⊥
-IsReply reply = Unit {0}
-
--- no link is cut that a turn makes, or fails to open, nor one that a reply comes over
-abbrev pub IsUncutBy : {W S : Type 0} → sitting.Ghosts S W → Terms → (backend moved : BackendView) → Phase S → Deed S → Type 0
-IsUncutBy t terms backend moved phase (opened gave.Memory) = Unit {0}
-IsUncutBy t terms backend moved (Dialling seat member) (opened made) =
-    is_cut (at_address backend.happened (opened_at terms member)) moved.counts.dials ≡ false
-IsUncutBy t terms backend moved phase (heard reply after) =
-    IfSome (session_of phase) (λ session. IsReply reply → is_cut_at t backend.happened session ≡ false)
-IsUncutBy t terms backend moved phase deed = Unit {0}
-
--- no link was cut
-abbrev pub AreUncut : Happened → Type 0
-AreUncut h = (target : ℕ) → (h.of_target target).cut ≡ 0
 
 -- ---- what a turn leaves
 

@@ -1,6 +1,6 @@
 -- For contracts alone: nothing goes wrong over a quiet backend that counts exactly, at addresses that are told; and no leg is marked
 -- where no more befalls links than it bears, but for a full door (this project's own)
-use Rattle.std.specs.Prelude.{◌≡◌, ◌≢◌, ℕ, Bool, true, List, ◌++◌}
+use Rattle.std.specs.Prelude.{◌≡◌, ◌≢◌, ℕ, ◌≤◌, Bool, true, List, ◌++◌}
 use Rattle.z_types.specs.declared.sitting.Sitting as sitting
 use Rattle.z_types.specs.declared.work.Work.{Work}
 use Rattle.z_types.specs.declared.world.World as world
@@ -17,7 +17,7 @@ use Rattle.leg.specs.declared.phases.Phase.{Phase}
 use Rattle.leg.specs.declared.tasks.Task.{Task}
 use Rattle.package.specs.steps.Packages.{PackageView, new_package}
 use Rattle.package.specs.steps.Turns.{IsPackageTurn}
-use Rattle.conn_quiet.specs.steps.Bearing.{AllBear, AreBearable, AreNoWorse, AreUncut, BearsAt, BearsOn, IsBorneBy, IsUncutBy}
+use Rattle.conn_quiet.specs.steps.Bearing.{AllBear, AreBearable, AreNoWorse, BearsAt, BearsOn, DialsGoOn, IsBorneBy}
 use Rattle.conn_quiet.specs.steps.Quiet.{AreTold, AreWell, IsCalm, IsToldRoute, IsWellAt, WentWell}
 
 module _ {W S : Type 0} (w : world.Ghosts W) (t : sitting.Ghosts S W) where
@@ -46,15 +46,14 @@ module _ {W S : Type 0} (w : world.Ghosts W) (t : sitting.Ghosts S W) where
       → IsCalm w t door.pool backend → AreWell w t route (old.first ++ old.later)
       → AreWell w t route (new.first ++ new.later) × WentWell w t (answer ≢ turned.Memory) after.pool backend moved
 
-  -- a leg that bears what was made to happen to links bears it behind a turn that meets no link that is cut but the one of a session that
-  -- the pool gave: it is dialled again
+  -- a leg that bears what was made to happen to links bears it behind a turn, where the links that are made go on to be counted: the one
+  -- that it makes is not cut, and where the link of a session that the pool gave is, it dials again
   abbrev pub TurnsBear : Type 0
   TurnsBear =
       (exact : Bool) (terms : Terms) (task : Task) (now : ℕ) (old new : Phase S) (a b : Account) (answer : Turned) (door after : DoorView S)
       (backend moved : BackendView)
-      → exact ≡ true → AreTold w terms.at → (turn : IsTurn w t exact terms task now old new a b answer door after backend moved)
-      → IsUncutBy t terms backend moved old turn.deed
-      → IsBorneBy w t terms.pool door.pool backend → BearsAt w t terms backend.happened old a
+      → exact ≡ true → AreTold w terms.at → IsTurn w t exact terms task now old new a b answer door after backend moved
+      → DialsGoOn moved.counts → IsBorneBy w t terms.pool door.pool backend → BearsAt w t terms backend.happened old a
       → BearsAt w t terms moved.happened new b × BearsOn w t terms.pool after.pool backend moved
 
   -- the legs of a package that is begun do
@@ -63,15 +62,23 @@ module _ {W S : Type 0} (w : world.Ghosts W) (t : sitting.Ghosts S W) where
       (route : Route) (work : Work) (h : Happened) → AreBearable route.pool h
       → AllBear w t route h ((new_package {S = S} route work).first ++ (new_package {S = S} route work).later)
 
-  -- so do those of a package behind each turn, where no link was cut
+  -- so do those of a package behind each turn
   abbrev pub PackagesBear : Type 0
   PackagesBear =
       (exact : Bool) (route : Route) (now : ℕ) (old new : PackageView S) (answer : Turned) (door after : DoorView S)
       (backend moved : BackendView)
       → exact ≡ true → IsToldRoute w route → IsPackageTurn w t exact route now old new answer door after backend moved
-      → AreUncut backend.happened → IsBorneBy w t route.pool door.pool backend
+      → DialsGoOn moved.counts → IsBorneBy w t route.pool door.pool backend
       → AllBear w t route backend.happened (old.first ++ old.later)
       → AllBear w t route moved.happened (new.first ++ new.later) × BearsOn w t route.pool after.pool backend moved
+
+  -- which lowers no count of the links that were made
+  abbrev pub PackagesDialOn : Type 0
+  PackagesDialOn =
+      (exact : Bool) (route : Route) (now : ℕ) (old new : PackageView S) (answer : Turned) (door after : DoorView S)
+      (backend moved : BackendView)
+      → IsPackageTurn w t exact route now old new answer door after backend moved
+      → DialsGoOn moved.counts → backend.counts.dials ≤ moved.counts.dials
 
   -- and those of any other, as no worse becomes of links
   abbrev pub BearingStays : Type 0

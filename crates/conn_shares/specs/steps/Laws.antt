@@ -24,7 +24,8 @@ module _ {W S : Type 0} (w : world.Ghosts W) (t : sitting.Ghosts S W) where
   abbrev pub BegunShares : Type 0
   BegunShares =
       (route : Route) (now : ℕ) (before : List Use) (work : Work) (pool : Pool S)
-      → AreAllKept w route now before pool → PackageShares w t route now before (new_package {S = S} route work).planned (new_package route work) pool
+      → AreAllKept w route now before pool
+      → PackageShares w t route now before (new_package {S = S} route work).planned (new_package route work) pool
 
   -- legs of which all are done had what their uses need, and leave each class kept with them
   abbrev pub DoneLegsLeaveUses : Type 0
@@ -36,8 +37,8 @@ module _ {W S : Type 0} (w : world.Ghosts W) (t : sitting.Ghosts S W) where
   -- legs that had their turns one after another, had memory and met nothing that goes wrong, share behind them
   abbrev pub RoundsShare : Type 0
   RoundsShare =
-      (exact : Bool) (route : Route) (now : ℕ) (before : List Use) (olds news : List (LegView S)) (round last : Round) (door after : DoorView S)
-      (backend moved : BackendView) (pool : Pool S)
+      (exact : Bool) (route : Route) (now : ℕ) (before : List Use) (olds news : List (LegView S)) (round last : Round)
+      (door after : DoorView S) (backend moved : BackendView) (pool : Pool S)
       → MayShare w route now before olds → HaveTurned w t exact route now olds news round last door after backend moved
       → HadMemory last news → AreUndisturbed news → door.pool ≡ Some pool → AreSharing w t route now before olds pool
       → AreSharingOver w t route now before news after.pool

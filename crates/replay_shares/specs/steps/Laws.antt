@@ -1,22 +1,26 @@
 -- For contracts alone: what the runs of an orderly script leave of the pool, and what they cost (this project's own)
-use Rattle.std.specs.Prelude.{◌≡◌, ℕ, ◌+◌, Bool, true, List, [], length, map, drop}
+use Rattle.std.specs.Prelude.{◌≡◌, ◌≢◌, ℕ, ◌+◌, Bool, true, List, [], length, map, drop}
 use Rattle.z_types.specs.Bounds.{within64}
 use Rattle.z_types.specs.declared.sitting.Sitting as sitting
 use Rattle.z_types.specs.declared.work.Work.{Work}
 use Rattle.z_types.specs.declared.world.World as world
 use Rattle.route_config.specs.Sound.{IsSound}
 use Rattle.route_config.specs.declared.route.Route.{Route}
+use Rattle.gateway_rules.specs.Answers.{kind_of, letter}
 use Rattle.gateway_rules.specs.Fair.{IsFair}
+use Rattle.package.specs.steps.Laws.{OutcomeIsTrue}
+use Rattle.sru_request.specs.Laws.{HeadStays}
+use Rattle.sru_rules.specs.Laws.{HasOneCourse}
 use Rattle.front_conn.specs.steps.Answering.{Outside}
-use Rattle.front_conn.specs.steps.Feeding.{StandsAtStart, StandsWhenEnded, StandsWhenFed, StaysOfRoute}
+use Rattle.front_conn.specs.steps.Feeding.{StandsAtStart, StandsWhenEnded, StandsWhenFed, StandsWhenWritten, StaysOfRoute}
 use Rattle.script.specs.declared.event.Event.{Event}
 use Rattle.script.specs.Events.{AreEvents}
 use Rattle.sharing_rules.specs.Needed.{count_after}
 use Rattle.sharing_rules.specs.Uses.{DatedWork, Use, uses_of}
 use Rattle.sharing_rules.specs.steps.Shared.{AreInOrder}
 use Rattle.conn_costs.specs.steps.Numbers.{Number}
-use Rattle.conn_shares.specs.steps.Requests.{behind}
-use Rattle.conn_works.specs.steps.Laws.{BeginsNone, StaysSoBegun}
+use Rattle.conn_shares.specs.steps.Requests.{RequestsShare, behind}
+use Rattle.conn_works.specs.steps.Laws.{BeginsNone, EndedIsWhole, MarksDecide, StaysSoBegun, StepsBegin}
 use Rattle.replay.specs.Clients.{ClientState}
 use Rattle.replay.specs.Trace.{HasRun, IsRunOf}
 use Rattle.replay.specs.declared.reports.Report.{Report}
@@ -35,6 +39,26 @@ pub record ClientLaws {W S : Type 0} (w : world.Ghosts W) (t : sitting.Ghosts S 
   pub of : StaysOfRoute w t
   pub none : BeginsNone w S
   pub begun : StaysSoBegun w S
+
+-- where a connection stands whose output was written; which works a step of it begins; and what the request of a work leaves of
+-- the pool, and costs
+pub record StepLaws {W S : Type 0} (w : world.Ghosts W) (t : sitting.Ghosts S W) : Type 0 where
+  pub written : StandsWhenWritten w t
+  pub of : StaysOfRoute w t
+  pub begun : StaysSoBegun w S
+  pub begins : StepsBegin w t
+  pub ended : EndedIsWhole w S
+  pub decide : MarksDecide w
+  pub shares : RequestsShare w t
+
+-- that the octets of HTTP have one course, and that their head stays whatever comes behind it; what comes of a work on a fair route;
+-- where a connection stands whose output was written; and what the request of a work leaves of the pool, and costs
+pub record GetLaws {W S : Type 0} (w : world.Ghosts W) (t : sitting.Ghosts S W) : Type 0 where
+  pub one : HasOneCourse
+  pub stays : (octets : List ℕ) → HeadStays octets
+  pub outcome : OutcomeIsTrue w t
+  pub written : StandsWhenWritten w t
+  pub shares : RequestsShare w t
 
 -- the works that are asked now and were not before
 abbrev pub works_now : (now : ℕ) → (asked all : List Work) → List DatedWork
@@ -65,6 +89,37 @@ module _ {W S : Type 0} (w : world.Ghosts W) (t : sitting.Ghosts S W) where
       → Ask w route octets all → AreInOrder now before → MayDo route before (works_now now asked all)
       → HasRun w t exact route now old new outside after
       → HasRunSo route now octets ended asked all before old new outside after
+
+  -- the same of clients whose octets are of one sort
+  abbrev pub RunsShareOf : (List ℕ → Type 0) → Type 0
+  RunsShareOf Sort =
+      (exact : Bool) (route : Route) (now : ℕ) (octets : List ℕ) (ended : Bool) (asked all : List Work) (before : List Use)
+      (old new : ClientState S) (outside after : Outside S)
+      → Sort octets → exact ≡ true → IsFair w route → IsSound route
+      → IsResting w t route outside.door.counts.most octets ended asked old → IsKeptOver w t route now before outside
+      → Ask w route octets all → AreInOrder now before → MayDo route before (works_now now asked all)
+      → HasRun w t exact route now old new outside after
+      → HasRunSo route now octets ended asked all before old new outside after
+
+  -- clients of units, or of which nothing has come
+  abbrev pub RunsOfUnitsShare : Type 0
+  RunsOfUnitsShare = RunsShareOf (λ octets. kind_of octets ≢ letter)
+
+  -- clients of HTTP
+  abbrev pub RunsOfGetsShare : Type 0
+  RunsOfGetsShare = RunsShareOf (λ octets. kind_of octets ≡ letter)
+
+  -- runs of clients of units share, by what is known of steps
+  abbrev pub UnitsShareIfStepsDo : Type 0
+  UnitsShareIfStepsDo = StepLaws w t → RunsOfUnitsShare
+
+  -- and those of clients of HTTP, by what is known of heads and works
+  abbrev pub GetsShareIfHeadsStay : Type 0
+  GetsShareIfHeadsStay = GetLaws w t → RunsOfGetsShare
+
+  -- where runs of clients of either kind share, all do
+  abbrev pub RunsShareByKind : Type 0
+  RunsShareByKind = RunsOfUnitsShare → RunsOfGetsShare → RunsShare
 
   -- ---- a whole replay
 

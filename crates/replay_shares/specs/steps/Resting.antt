@@ -1,5 +1,5 @@
 -- For contracts alone: where the clients of an orderly script and the pool stand between its runs (this project's own)
-use Rattle.std.specs.Prelude.{◌≡◌, ℕ, ◌+◌, ◌≤◌, ◌<◌, Bool, false, List, [], ◌++◌, length, Option, None, Some}
+use Rattle.std.specs.Prelude.{◌≡◌, ℕ, ◌≤◌, ◌<◌, Bool, false, List, [], ◌++◌, length, Option, None, Some}
 use Prim.Native.Nat.{suc}
 use Rattle.std.specs.List.{AllByRecursion}
 use Rattle.z_types.specs.Bounds.{within64}

@@ -12,7 +12,7 @@ invariant-loop g l = record {
       → CameFrom g.N.Watched.exact (g.N.Link.Linked.peer l.fn.link) (g.N.Link.Linked.peer l.link) (g.N.Link.Linked.arrived l.link)
       (g.N.Watched.counts l.fn.wire) (g.N.Watched.counts l.wire);
   steady : g.N.Link.Linked.arrived l.fn.link ≡ [] → IsSome (g.N.Link.Linked.peer l.fn.link) → (g.N.Watched.happened l.fn.wire).steady ≡ true
-      → IsAwaited g.N.Link.Linked l.fn.link l.link;
+      → IsAwaited g.N.Link.Linked (g.N.Watched.happened l.fn.wire) l.fn.link l.link;
   happened : AreSame (g.N.Watched.happened l.fn.wire) (g.N.Watched.happened l.wire);
   counts : WireCounts false nothing (g.N.Watched.counts l.fn.wire) (g.N.Watched.counts l.wire);
 }

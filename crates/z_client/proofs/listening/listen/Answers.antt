@@ -147,6 +147,7 @@ returns-in-Unit-clause-steady g c = λ told steady.
     (unit_holds g.W.World c.args.parts.now.address (made_in c.args.parts.now.made.items) (pending_of c.args.parts.now.waiting) g.N.Watched.exact (g.N.Link.Linked.arrived c.await_unit.new.link) (g.N.Watched.counts c.args.wire.now) (g.N.Watched.counts c.await_unit.new.wire)
     (g.N.Link.Linked.peer c.args.parts.now.link) (g.N.Link.Linked.peer c.await_unit.new.link) c.in-Unit.size
     (c.requires.kept.peer told) (c.in-Unit.ensures.peer (c.requires.kept.nothing told)))
+    (told_at g.W.World c.args.parts.now.address (made_in c.args.parts.now.made.items) (pending_of c.args.parts.now.waiting) (g.N.Watched.happened c.args.wire.now) (g.N.Link.Linked.peer c.args.parts.now.link) (c.requires.kept.peer told))
     (g.W.World.told c.args.parts.now.address) (take c.in-Unit.size (g.N.Link.Linked.arrived c.await_unit.new.link)) (g.N.Link.Linked.arrived c.hear.new.parts.link)
     c.hear.result told
     (subst (λ waiting. FoundIn (g.W.World.told c.args.parts.now.address) (pending_of waiting) (take c.in-Unit.size (g.N.Link.Linked.arrived c.await_unit.new.link))

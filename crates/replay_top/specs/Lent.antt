@@ -1,4 +1,4 @@
--- For contracts alone: a wire that is lent (this project's own)
+-- A wire that is lent (this project's own)
 use Rattle.std.specs.Prelude.{ℕ}
 use Rattle.gw_outside.specs.Happened.{Happened}
 

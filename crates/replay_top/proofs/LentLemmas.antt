@@ -12,8 +12,8 @@ use Rattle.gw_outside.specs.declared.wires.Sent.{Sent}
 use Rattle.gw_outside.specs.declared.wires.Sent.TheVariants as sent
 use Rattle.gw_outside.specs.Happened.{AreCut, AreLess, AreSame, Happened, IsAsked, IsMade, at_address, is_cut, sets_found, to_peer}
 use Rattle.gw_outside.specs.Peers.{Peer, TakesRequest}
-use Rattle.gw_outside.specs.Wires.{FailsCut, IsSentTo, LooksSteadily, PeerTakes, SendFits, SendHappens, SendsSteadily}
-use Rattle.replay.specs.steps.Lent.{lent_by}
+use Rattle.gw_outside.specs.Wires.{ArrivesUncut, FailsCut, IsSentTo, LooksSteadily, PeerTakes, SendFits, SendHappens, SendsSteadily}
+use Rattle.replay_top.specs.Lent.{lent_by}
 
 -- ---- how what was made to happen changes, under one reference
 
@@ -73,6 +73,9 @@ module _ (m : ℕ) (h : Happened) where
   lent_fails : {L : Type 0} (l : linked.Ghosts L) (link : L) → FailsCut l h link → FailsCut l (lent_by m h) link
   lent_fails l link fails = λ steady. ap (λ (x : Happening). is_cut x (l.number link)) (lent_to (l.peer link)) ∙ fails steady
 
+  lent_arrives : {L : Type 0} (l : linked.Ghosts L) (link : L) → ArrivesUncut l h link → ArrivesUncut l (lent_by m h) link
+  lent_arrives l link arrives = λ steady. ap (λ (x : Happening). is_cut x (l.number link)) (lent_to (l.peer link)) ∙ arrives steady
+
   lent_takes : {W : Type 0} (w : world.Ghosts W) (unit : List ℕ) (old new : Option Peer) → PeerTakes w unit h old new → PeerTakes w unit (lent_by m h) old new
   lent_takes w unit None new takes = takes
   lent_takes w unit (Some old) None takes = takes
@@ -101,6 +104,7 @@ pub lent_looks : (m n : ℕ) (e : n ≡ m) {L : Type 0} (l : linked.Ghosts L) (o
     → LooksSteadily l old new before after answer → LooksSteadily l old new (lent_by m before) (lent_by n after) answer
 lent_looks m n e l old new before after answer h = record {
   fails = λ failed. lent_fails m before l old (h.fails failed);
+  arrives = λ is. lent_arrives m before l old (h.arrives is);
   happened = lent_same m n e before after h.happened;
   number = h.number;
   delays = h.delays;

@@ -1,6 +1,6 @@
 use Rattle.std.proofs.Common.{refl}
-use Rattle.replay.proofs.LentLemmas.{lent_steadily}
-use Rattle.replay.proofs.lent.LentWireWire.send.Goals as goal
+use Rattle.replay_top.proofs.LentLemmas.{lent_steadily}
+use Rattle.replay_top.proofs.lent.LentWireWire.send.Goals as goal
 
 pub returns-clause-steady : goal.returns-clause-steady
 returns-clause-steady g c =

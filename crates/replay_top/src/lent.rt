@@ -24,7 +24,7 @@ impl<'a, N> LentWire<'a, N> {
 }
 
 impl<N: Watched> Watched for LentWire<'_, N> {
-    ghost use Rattle.replay.specs.steps.Lent.{lent_by};
+    ghost use Rattle.replay_top.specs.Lent.{lent_by};
 
     ghost counts = { λ lent. N.counts lent.wire.now };
 

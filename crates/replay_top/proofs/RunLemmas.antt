@@ -1,0 +1,48 @@
+-- A replay over a wire that is lent is one over the wire
+use Rattle.std.proofs.Common.{◌≡◌, ℕ, Bool, List, [], Some, Result, Ok, Err, ap}
+use Rattle.std.specs.Prelude.{IfOk}
+use Rattle.z_types.specs.declared.world.World as world
+use Rattle.gw_outside.specs.Counts.{Counts}
+use Rattle.gw_outside.specs.Happened.{AreQuiet, Happened}
+use Rattle.pool_core.specs.PoolView.{PoolView, new_pool}
+use Rattle.route_config.specs.declared.route.Route.{Route}
+use Rattle.sharing_rules.specs.steps.Shared.{pool_of}
+use Rattle.script.specs.declared.event.Event.{Event}
+use Rattle.replay.specs.Undisturbed.{IsUntroubledIf}
+use Rattle.replay.specs.declared.reports.Report.{Report}
+use Rattle.replay_laws.specs.Borne.{IsBorneIf}
+use Rattle.replay_laws.proofs.WireLemmas.{borne_as_quiet}
+use Rattle.replay_shares.specs.Shares.{SharesIfOrderlyOver}
+use Rattle.replay_top.specs.Lent.{lent_by}
+
+lent-quiet : (reference : ℕ) (happened : Happened) → AreQuiet happened → AreQuiet (lent_by reference happened)
+lent-quiet reference happened quiet = record { steady = quiet.steady; nothing = quiet.nothing }
+
+pub lent_untroubled : {E W : Type 0} (w : world.Ghosts W) (exact : Bool) (route : Route) (events : List Event) (counts : Counts) (reference : ℕ)
+    (happened : Happened) (result : Result Report E) → IfOk result (IsUntroubledIf w exact route events counts (lent_by reference happened))
+    → IfOk result (IsUntroubledIf w exact route events counts happened)
+lent_untroubled w exact route events counts reference happened (Ok report) so = λ is und.
+    so is (record {
+      nothing = und.nothing;
+      quiet = lent-quiet reference happened und.quiet;
+      uncounted = und.uncounted;
+      told = und.told;
+    })
+lent_untroubled w exact route events counts reference happened (Err err) so = tt
+
+pub lent_borne : {E W : Type 0} (w : world.Ghosts W) (exact : Bool) (route : Route) (events : List Event) (reference : ℕ) (happened : Happened)
+    (behind : Counts) (result : Result Report E) → IfOk result (IsBorneIf w exact route events (lent_by reference happened) behind)
+    → IfOk result (IsBorneIf w exact route events happened behind)
+lent_borne w exact route events reference happened behind result so =
+    borne_as_quiet w exact route events happened (lent_by reference happened) behind result (lent-quiet reference happened) so
+
+pub lent_shares : {E W : Type 0} (w : world.Ghosts W) (exact : Bool) (route : Route) (events : List Event) (counts : Counts) (reference : ℕ)
+    (happened : Happened) (result : Result Report E) → IfOk result (SharesIfOrderlyOver w exact route events counts (lent_by reference happened))
+    → IfOk result (SharesIfOrderlyOver w exact route events counts happened)
+lent_shares w exact route events counts reference happened (Ok report) so = λ is fair quiet.
+    so is fair (record { no_links = quiet.no_links; quiet = lent-quiet reference happened quiet.quiet })
+lent_shares w exact route events counts reference happened (Err err) so = tt
+
+-- a pool that was just made has the route's numbers, and no session
+pub new_told : {S : Type 0} (route : Route) (pool : PoolView S) → pool ≡ new_pool route.pool → Some pool.pool ≡ Some (pool_of route 0 [])
+new_told {S = S} route pool e = ap (λ (p : PoolView S). Some p.pool) e

@@ -1,0 +1,86 @@
+//! A whole replay over a wire.
+
+ghost use Rattle.std.specs.Prelude.{◌≡◌, ℕ, IfOk, OnOk};
+ghost use Rattle.script.specs.Events.{AreEvents};
+ghost use Rattle.replay.specs.Report.{IsReportOf};
+ghost use Rattle.replay.specs.Undisturbed.{IsUntroubledIf};
+ghost use Rattle.replay.specs.Wires.{IsCountedBy};
+ghost use Rattle.replay_laws.specs.Borne.{IsBorneIf};
+ghost use Rattle.replay_shares.specs.Shares.{SharesIfOrderlyOver};
+
+use crate::lent::LentWire;
+use gw_outside::{Events, Wire};
+use pool_index::IndexedPool;
+use replay::{Report, run_over};
+use replay_laws::{borne_is_plain, borne_is_plain_or_full, quiet_disturbs_nobody};
+use replay_shares::scripts_share;
+use route_config::Route;
+use script::Event;
+use std::alloc::Global;
+use z_client::{ZBackend, ZSession};
+use z_types::{List, Memory, World};
+
+/// Plays the events of a script over the links of a wire, with a new pool.
+#[tactic(auto, using(crate::proofs::RunLemmas::lent_untroubled, crate::proofs::RunLemmas::lent_borne, crate::proofs::RunLemmas::lent_shares))]
+pub fn run<W: World, N: Wire<W> + Events>(
+    alloc: Global,
+    route: &Route,
+    events: &List<Event>,
+    wire: &mut N,
+) -> Result<Report, Memory>
+    requires { (targets : ℕ) × AreEvents targets events.now }
+    // Each client was answered to the octets that it was fed.
+    ensures report { IfOk result (IsReportOf W.World route.now events.now) }
+
+    // The sums are what the wire counted, and the marks have their counted cause.
+    ensures counted { IfOk result (IsCountedBy W.World N.exact route.now
+        (N.counts wire.old) (N.counts wire.new)) }
+
+    // Where nothing befalls links, each request is answered as it asks, or finds the pool full.
+    ensures untroubled { IfOk result (IsUntroubledIf W.World N.exact route.now events.now
+        (N.counts wire.old) (N.happened wire.old)) }
+
+    // So it is where links are cut and sets are deleted between requests, no more than is borne.
+    ensures borne { IfOk result (IsBorneIf W.World N.exact route.now events.now
+        (N.happened wire.old) (N.counts wire.new)) }
+
+    // Where no two requests are in work at once, each class costs just what sharing needs.
+    ensures shared { IfOk result (SharesIfOrderlyOver W.World N.exact route.now events.now
+        (N.counts wire.old) (N.happened wire.old)) }
+{
+    let mut backend = ZBackend::new(alloc, LentWire::new(wire));
+    let report = run_with(alloc, route, events, &mut backend);
+    let LentWire { wire: lent } = backend.into_wire();
+    let _ = lent;
+    report
+}
+
+/// Plays the events of a script over the sessions of a backend, with a new pool.
+fn run_with<W: World, N: Wire<W> + Events>(
+    alloc: Global,
+    route: &Route,
+    events: &List<Event>,
+    backend: &mut ZBackend<N>,
+) -> Result<Report, Memory>
+    requires events { (targets : ℕ) × AreEvents targets events.now }
+    requires no_breach { backend.old.own.breaches ≡ 0 }
+    ensures report { IfOk result (IsReportOf W.World route.now events.now) }
+    ensures counted { IfOk result (IsCountedBy W.World N.exact route.now
+        (N.counts backend.old.wire) (N.counts backend.new.wire)) }
+    ensures untroubled { IfOk result (IsUntroubledIf W.World N.exact route.now events.now
+        (N.counts backend.old.wire) (N.happened backend.old.wire)) }
+    ensures borne { IfOk result (IsBorneIf W.World N.exact route.now events.now
+        (N.happened backend.old.wire) (N.counts backend.new.wire)) }
+    ensures shared { IfOk result (SharesIfOrderlyOver W.World N.exact route.now events.now
+        (N.counts backend.old.wire) (N.happened backend.old.wire)) }
+    ensures lent { OnOk result
+        ((N.happened backend.new.wire).lent ≡ (N.happened backend.old.wire).lent) }
+{
+    quiet_disturbs_nobody::<W, ZSession<W, N::Link>>();
+    borne_is_plain_or_full::<W, ZSession<W, N::Link>>();
+    borne_is_plain::<W, ZSession<W, N::Link>>();
+    scripts_share::<W, ZSession<W, N::Link>>();
+    let _ = route.parts();
+    let mut door: IndexedPool<W, _> = IndexedPool::new(alloc, route)?;
+    run_over::<W, _, _>(alloc, route, events, backend, &mut door)
+}
