@@ -4,11 +4,11 @@
 #
 # - one connection of 5,000 Searches and Presents in turns, over a built-in target: at least as many a second as the best of
 #   yaz-ztest; over a target that is the floor: at least 0.45 of what the floor answers itself;
-# - 16 connections at once, each Init, Search, Present and Close: at least as many a second as yaz-ztest's threads;
+# - 16 connections at once, each Init, Search, Present and Close, with 16 workers: at least as many a second as yaz-ztest's threads;
 # - GETs of SRU, a connection each, 16 at once: at least half of the floor's;
 # - 64 connections open at once: at most 64 kB of memory each, and how many sessions their one query takes at a target.
 #
-# Each rate is the best of four. Prints each with the gateway's processor time, and ends with 1 where a demand is missed.
+# All but the 16 connections are served with 64 workers. Each rate is the best of four. Prints each with the gateway's processor time, and ends with 1 where a demand is missed.
 #
 #     bench/serve.sh [COMMAND [PORT]]
 #
@@ -16,7 +16,7 @@
 here=$(cd "$(dirname "$0")/.." && pwd) || exit 1
 gateway=${1:-$here/crates/gateway_program/out/gateway_program}
 port=${2:-21100}
-floor=$((port + 1)) static=$((port + 2)) threads=$((port + 3)) forks=$((port + 4))
+floor=$((port + 1)) static=$((port + 2)) threads=$((port + 3)) forks=$((port + 4)) sixteen=$((port + 5))
 units=$here/bench/serve/session.units
 room=$(mktemp -d) || exit 1
 missed=0
@@ -64,12 +64,14 @@ yaz-ztest -v none -S "@:$static" 2>/dev/null &
 yaz-ztest -v none -T "@:$threads" 2>/dev/null &
 yaz-ztest -v none "@:$forks" 2>/dev/null &
 "$gateway" serve "$room/route" "$port" 64 --quiet >"$room/out" 2>"$room/log" &
-served=$!
-for at in "$floor" "$static" "$threads" "$forks" "$port"; do waits "$at"; done
+of_64=$! served=$!
+"$gateway" serve "$room/route" "$sixteen" 16 --quiet >"$room/out16" 2>"$room/log16" &
+of_16=$!
+for at in "$floor" "$static" "$threads" "$forks" "$port" "$sixteen"; do waits "$at"; done
 [ "${#replies[3]}" -gt 0 ] && [ -n "$page" ] || { echo 'the gateway answered no whole session' >&2; exit 1; }
 
 # ---- rates
-# The processor time of the gateway so far, in microseconds.
+# The processor time so far of the gateway that is timed, in microseconds.
 spent() { awk -v tick="$(getconf CLK_TCK)" '{ print ($14 + $15) * 1000000 / tick }' "/proc/$served/stat"; }
 # The best of four of one kind of number, `connections` or `requests` a second, of a server at a port.
 rate() {
@@ -107,8 +109,10 @@ row 'the same over a target' "$least" 'the floor alone' 0.45
 
 each_one=(-n 4000 -c 16 "@$units")
 ztest=$(rate connections "$threads" "${each_one[@]}") || exit 1
-ours connections "$port" "${each_one[@]}" || exit 1
-row '16 connections at once, each a whole session' "$ztest" "yaz-ztest's threads" 1
+served=$of_16
+ours connections "$sixteen" "${each_one[@]}" || exit 1
+served=$of_64
+row '16 connections at once, each a whole session, with 16 workers' "$ztest" "yaz-ztest's threads" 1
 
 each_one=(-n 4000 -c 16 "$get")
 least=$(rate requests "$floor" "${each_one[@]}") || exit 1

@@ -27,7 +27,8 @@ def applies(crate, text):
     for word, rest in (line.split(": ", 1) for line in text.splitlines()):
         if word == "file":
             path = rest
-            texts.setdefault(path, (TOP / "crates" / crate / path).read_text())
+            file = TOP / "crates" / crate / path
+            texts.setdefault(path, file.read_text() if file.is_file() else "")
         elif word == "old":
             old = rest
         elif texts[path].count(old) != 1:

@@ -1,4 +1,4 @@
-//! The command over sockets on loopback.
+//! The command over sockets on loopback, with a client of Z39.50 and one of HTTP at one port.
 
 use crate::serving::serve_over;
 use crate::workers::{Edge, worker};
@@ -29,10 +29,23 @@ const SENT: &[u8] = b"\
     \x9f\x78\x01\x01\x9f\x79\x01\x04\x9f\x2d\x01a";
 
 /// What they are answered: there are three hits.
-const ANSWERED: &[u8; 57] = b"\
+const ANSWERED: &[u8] = b"\
     \xb5\x29\x83\x02\x05\xe0\x84\x03\x01\xc1\x02\x85\x03\x10\x00\x00\x86\x03\x10\x00\x00\x8c\x01\xff\
     \x9f\x6e\x02mp\x9f\x6f\x07gateway\x9f\x70\x011\
     \xb7\x0c\x97\x01\x03\x98\x01\x00\x99\x01\x01\x96\x01\xff";
+
+/// A GET of the first record of the letter `a` as title (SRU 1.2, searchRetrieve).
+const GET: &[u8] = b"GET /Default?version=1.2&operation=searchRetrieve&query=dc.title%3Da\
+    &maximumRecords=1 HTTP/1.1\r\nHost: localhost\r\n\r\n";
+
+/// What it is answered.
+const PAGE: &[u8] = b"\
+HTTP/1.1 200 OK\r\nContent-Type: text/xml; charset=utf-8\r\nContent-Length: 488\r\nConnection: close\r\n\r\n\
+<?xml version=\"1.0\" encoding=\"UTF-8\"?><zs:searchRetrieveResponse xmlns:zs=\"http://www.loc.gov/zing/srw/\">\
+<zs:version>1.2</zs:version><zs:numberOfRecords>3</zs:numberOfRecords><zs:records>\
+<zs:record><zs:recordSchema>info:srw/schema/1/dc-v1.1</zs:recordSchema><zs:recordPacking>xml</zs:recordPacking>\
+<zs:recordData><r>0.Default.4</r></zs:recordData><zs:recordPosition>1</zs:recordPosition></zs:record>\
+</zs:records><zs:nextRecordPosition>2</zs:nextRecordPosition></zs:searchRetrieveResponse>";
 
 /// The first connections of a listener, so many of them.
 #[derive(Drop)]
@@ -116,7 +129,7 @@ fn files(alloc: Global) -> std::result::Result<MemoryFiles, Memory> {
     Ok(MemoryFiles::new(files, List::new(alloc)))
 }
 
-/// Serves one client of a listener, and tells whether it says so.
+/// Serves two clients of a listener, one after another, and tells whether it says so.
 fn serves<T: Threads + Wait + Sync>(
     threads: &T,
     runtime: &HostRuntime,
@@ -126,7 +139,7 @@ fn serves<T: Threads + Wait + Sync>(
     let accepted = AtomicU64::new(0);
     let mut workers = Vec::new(alloc);
     let edge = worker(runtime, alloc, &Discard, Some(listener), &accepted);
-    workers.push(ending(edge, 1))?;
+    workers.push(ending(edge, 2))?;
     let words = texts(alloc, &["serve", "c", "2100", "1"])?;
     let mut files = files(alloc)?;
     let mut out = MemorySink::new(alloc, List::new(alloc));
@@ -138,25 +151,44 @@ fn serves<T: Threads + Wait + Sync>(
         &mut out,
         &mut workers,
     );
-    Ok(status == Status::Ok && out.received() == b"served 1\n".as_slice())
+    Ok(status == Status::Ok && out.received() == b"served 2\n".as_slice())
 }
 
-/// Sends an Init and a Search, and tells whether they are answered.
-fn asks<R: Net<Stream = TcpStream>>(runtime: &R, address: SocketAddr) -> Result<bool> {
+/// Whether octets that are sent over a connection of their own are answered so.
+fn is_answered<R: Net<Stream = TcpStream>>(
+    runtime: &R,
+    alloc: Global,
+    address: SocketAddr,
+    sent: &[u8],
+    answered: &[u8],
+) -> Result<bool> {
     let mut stream = TcpStream::connect(runtime, address)?;
-    stream.write_all(SENT)?;
-    let mut answer = [0u8; 57];
-    stream.read_exact(&mut answer)?;
-    Ok(answer == *ANSWERED)
+    stream.write_all(sent)?;
+    let mut answer = vec![in alloc; 0u8; answered.len()]?;
+    stream.read_exact(answer.as_mut_slice())?;
+    Ok(answer.as_slice() == answered)
+}
+
+/// Whether a client of Z39.50 is answered, and then one of HTTP.
+fn are_answered<R: Net<Stream = TcpStream>>(
+    runtime: &R,
+    alloc: Global,
+    address: SocketAddr,
+) -> Result<bool> {
+    let by_units = is_answered(runtime, alloc, address, SENT, ANSWERED)?;
+    let by_head = is_answered(runtime, alloc, address, GET, PAGE)?;
+    Ok(by_units && by_head)
 }
 
 #[test]
-fn a_client_of_a_socket_is_answered(rt: HostRuntime) -> std::result::Result<(), Fail> {
+fn clients_of_both_kinds_are_answered_at_one_port(
+    rt: HostRuntime,
+) -> std::result::Result<(), Fail> {
     let listener = TcpListener::bind(&rt, "127.0.0.1:0")?;
     let address = listener.local_addr()?;
     let (answered, served) = thread::join(
         &rt,
-        || asks(&rt, address),
+        || are_answered(&rt, rt.alloc(), address),
         || serves(&rt, &rt, rt.alloc(), listener),
     );
     assert!(rt; served? && answered?);

@@ -59,8 +59,21 @@ pub(crate) fn one_number(alloc: Global, number: u64) -> Result<List<u64>, Memory
 
 /// The route of the smallest configuration, with so many units of a connection at most.
 pub(crate) fn route_of(alloc: Global, most_units: u32) -> Result<Route, Memory> {
+    route_within(alloc, most_units, MOST_SESSIONS)
+}
+
+/// How many sessions of a class there are at most, where that is no matter.
+const MOST_SESSIONS: u32 = 64;
+
+/// The same, with so many sessions of a class at most.
+pub(crate) fn route_within(
+    alloc: Global,
+    most_units: u32,
+    max_sessions: u32,
+) -> Result<Route, Memory> {
     let mut parts = RouteParts::smallest(alloc)?;
     parts.limits.units = most_units;
+    parts.pool.max_sessions = max_sessions;
     if !parts.are_sound() {
         return Err(Memory);
     }
@@ -124,7 +137,7 @@ fn is_served<R: Wait>(
 }
 
 /// Connections, to sinks that take each reply whole.
-const CASES: [Case; 19] = [
+const CASES: [Case; 15] = [
     WHOLE,
     Case {
         sent: &[],
@@ -221,7 +234,19 @@ const CASES: [Case; 19] = [
         failing_read: 3,
         ..WHOLE
     },
-    // each reply is written as soon as it is there
+];
+
+#[test]
+fn a_connection_is_answered_up_to_its_end(rt: HostRuntime) -> Result<(), Fail> {
+    for case in &CASES {
+        assert!(rt; is_so(&rt, rt.alloc(), case, usize::MAX)?, "{:?}", case.end);
+    }
+    Ok(())
+}
+
+/// Connections, to sinks that take each reply whole or nothing of it: the request whose reply was lost is
+/// answered, and nothing follows it.
+const LOST: [Case; 5] = [
     Case {
         failing_write: 1,
         written: &[],
@@ -250,12 +275,24 @@ const CASES: [Case; 19] = [
         end: End::WriteFault,
         ..WHOLE
     },
+    Case {
+        sent: &[GET],
+        failing_write: 1,
+        written: &[],
+        marks: 1,
+        end: End::WriteFault,
+        ..WHOLE
+    },
 ];
 
 #[test]
-fn a_connection_is_answered_up_to_its_end(rt: HostRuntime) -> Result<(), Fail> {
-    for case in &CASES {
-        assert!(rt; is_so(&rt, rt.alloc(), case, usize::MAX)?, "{:?}", case.end);
+fn a_reply_of_which_nothing_was_received_lists_its_mark(rt: HostRuntime) -> Result<(), Fail> {
+    for case in &LOST {
+        assert!(rt;
+            is_so(&rt, rt.alloc(), case, usize::MAX)?,
+            "{}",
+            case.failing_write
+        );
     }
     Ok(())
 }

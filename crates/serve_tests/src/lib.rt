@@ -7,6 +7,8 @@ mod connections;
 #[cfg(test)]
 mod flights;
 #[cfg(test)]
+mod memory;
+#[cfg(test)]
 mod octets;
 #[cfg(test)]
 mod workers;

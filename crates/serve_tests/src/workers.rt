@@ -19,12 +19,12 @@ use z_types::{End, List, Memory};
 /// A connection: what its client sends, the number of the write that fails, what is written, how many
 /// requests are answered, and how it ends.
 #[derive(Clone, Copy)]
-struct Client<'a> {
-    sent: &'a [&'a [u8]],
-    failing_write: u64,
-    written: &'a [&'a [u8]],
-    marks: usize,
-    end: End,
+pub(crate) struct Client<'a> {
+    pub(crate) sent: &'a [&'a [u8]],
+    pub(crate) failing_write: u64,
+    pub(crate) written: &'a [&'a [u8]],
+    pub(crate) marks: usize,
+    pub(crate) end: End,
 }
 
 /// The clients of a worker, by Z39.50 and by HTTP.
@@ -68,7 +68,8 @@ const CLIENTS: [Client; 5] = [
 
 type Connections = List<(MemorySource, MemorySink)>;
 
-type Memories = Worker<FakeBackend<TestWorld>, MemoryAccept<MemorySource, MemorySink>, MemoryClock>;
+/// A worker over memory, with these sessions with targets.
+type Memories<B> = Worker<B, MemoryAccept<MemorySource, MemorySink>, MemoryClock>;
 
 /// A connection of a client, of which nothing was read or written.
 fn connection(alloc: Global, client: &Client) -> Result<(MemorySource, MemorySink), Memory>
@@ -80,15 +81,20 @@ fn connection(alloc: Global, client: &Client) -> Result<(MemorySource, MemorySin
     Ok((source, MemorySink::new(alloc, failing)))
 }
 
-/// A worker for the clients, whose accept of this number fails.
-fn worker(alloc: Global, failing_accept: u64) -> Result<Memories, Memory> {
+/// A worker for clients, whose accept of this number fails, 0 for none.
+pub(crate) fn worker<B: Drop>(
+    alloc: Global,
+    backend: B,
+    clients: &[Client],
+    failing_accept: u64,
+) -> Result<Memories<B>, Memory> {
     let mut connections: Connections = List::new(alloc);
-    for client in &CLIENTS {
+    for client in clients {
         connections.push(connection(alloc, client)?)?;
     }
     let failing = one_number(alloc, failing_accept)?;
     Ok(Worker {
-        backend: FakeBackend::new(TestWorld, List::new(alloc)),
+        backend,
         accept: MemoryAccept::new(alloc, connections, failing)?,
         clock: MemoryClock::new(List::new(alloc)),
         served: List::new(alloc),
@@ -110,11 +116,16 @@ fn is_so(
     )
 }
 
-/// Whether the first clients, so many of them, were served as is wanted, and no other.
-fn are_so(alloc: Global, worker: &Memories, count: usize) -> Result<bool, Memory> {
+/// Whether the first of these clients, so many of them, were served as is wanted, and no other.
+pub(crate) fn are_so<B>(
+    alloc: Global,
+    worker: &Memories<B>,
+    clients: &[Client],
+    count: usize,
+) -> Result<bool, Memory> {
     let (closed, served) = (worker.accept.closed(), worker.served.as_slice());
     let mut all = closed.len() == count && served.len() == count;
-    for ((client, connection), came) in CLIENTS.iter().zip(closed).zip(served) {
+    for ((client, connection), came) in clients.iter().zip(closed).zip(served) {
         all = all && is_so(alloc, client, &connection.1, came)?;
     }
     Ok(all)
@@ -131,11 +142,12 @@ fn works_so<R: Wait>(
     count: usize,
 ) -> Result<bool, Memory> {
     let mut pool: Pool<TestWorld, FakeSession> = Pool::new(alloc, route)?;
-    let mut worker = worker(alloc, failing_accept)?;
+    let backend = FakeBackend::new(TestWorld, List::new(alloc));
+    let mut worker = worker(alloc, backend, &CLIENTS, failing_accept)?;
     let first = work(rt, alloc, route, &mut pool, &mut worker) == worked
-        && are_so(alloc, &worker, count)?;
+        && are_so(alloc, &worker, &CLIENTS, count)?;
     let second = work(rt, alloc, route, &mut pool, &mut worker) == Worked::Ended;
-    Ok(first && second && are_so(alloc, &worker, CLIENTS.len())?)
+    Ok(first && second && are_so(alloc, &worker, &CLIENTS, CLIENTS.len())?)
 }
 
 #[test]

@@ -10,14 +10,17 @@ use std::alloc::Global;
 use test_target::TestWorld;
 use z_types::{End, List, Memory, Text};
 
-/// An Init, and a Search for the letter `a` as title.
-pub(crate) const SENT: &[u8] = b"\
-    \xb4\x13\x83\x02\x05\xe0\x84\x03\x01\xff\xfe\x85\x03\x10\x00\x00\x86\x03\x10\x00\x00\
+/// An Init.
+pub(crate) const INIT: &[u8] = b"\
+    \xb4\x13\x83\x02\x05\xe0\x84\x03\x01\xff\xfe\x85\x03\x10\x00\x00\x86\x03\x10\x00\x00";
+
+/// A Search for the letter `a` as title.
+pub(crate) const SEARCH: &[u8] = b"\
     \xb6\x3e\x8d\x01\x00\x8e\x01\x01\x8f\x01\x00\x90\x01\xff\x91\x01\x31\xb2\x0a\x9f\x69\x07Default\
     \xb5\x21\xa1\x1f\x06\x07\x2a\x86\x48\xce\x13\x03\x01\xa0\x14\xbf\x66\x11\xbf\x2c\x0a\x30\x08\
     \x9f\x78\x01\x01\x9f\x79\x01\x04\x9f\x2d\x01a";
 
-/// What they are answered: there are three hits.
+/// What an Init and a Search are answered: there are three hits.
 pub(crate) const ANSWERED: &[u8] = b"\
     \xb5\x29\x83\x02\x05\xe0\x84\x03\x01\xc1\x02\x85\x03\x10\x00\x00\x86\x03\x10\x00\x00\x8c\x01\xff\
     \x9f\x6e\x02mp\x9f\x6f\x07gateway\x9f\x70\x011\
@@ -37,24 +40,45 @@ pub(crate) fn one_number(alloc: Global, number: u64) -> Result<List<u64>, Memory
     Ok(list)
 }
 
+/// So many numbers behind one.
+fn numbers_behind(alloc: Global, number: u64, count: u64) -> Result<List<u64>, Memory> {
+    let mut list = List::new(alloc);
+    for place in 0..count {
+        list.push(number.saturating_add(place).saturating_add(1))?;
+    }
+    Ok(list)
+}
+
 /// A client's connection, of which nothing was read or written.
 fn client(alloc: Global) -> Result<(MemorySource, MemorySink), Memory>
     ensures untouched { IfOk result (λ new. IsUntouched
         ⟦<MemorySource as Source>⟧ ⟦<MemorySink as Sink>⟧ new.0 new.1) }
 {
-    let source = MemorySource::new(Text::copy_of(alloc, SENT)?, List::new(alloc));
+    let mut sent = Text::copy_of(alloc, INIT)?;
+    sent.append(SEARCH)?;
+    let source = MemorySource::new(sent, List::new(alloc));
     Ok((source, MemorySink::new(alloc, List::new(alloc))))
 }
 
-/// A worker for so many clients, whose accept of this number fails, 0 for none.
-pub(crate) fn worker(alloc: Global, clients: u32, failing: u64) -> Result<Memories, Memory> {
+/// How many calls fail at least behind those to targets that are answered.
+const FAILING_CALLS: u64 = 16;
+
+/// A worker for so many clients, whose accept of this number fails, 0 for none. So many of its calls to
+/// targets are answered, and the next ones fail.
+pub(crate) fn worker(
+    alloc: Global,
+    clients: u32,
+    failing: u64,
+    calls: u64,
+) -> Result<Memories, Memory> {
     let mut connections: List<(MemorySource, MemorySink)> = List::new(alloc);
     for _ in 0..clients {
         connections.push(client(alloc)?)?;
     }
     let failing = one_number(alloc, failing)?;
+    let failing_calls = numbers_behind(alloc, calls, FAILING_CALLS)?;
     Ok(Worker {
-        backend: FakeBackend::new(TestWorld, List::new(alloc)),
+        backend: FakeBackend::new(TestWorld, failing_calls),
         accept: MemoryAccept::new(alloc, connections, failing)?,
         clock: MemoryClock::new(List::new(alloc)),
         served: List::new(alloc),
@@ -62,16 +86,18 @@ pub(crate) fn worker(alloc: Global, clients: u32, failing: u64) -> Result<Memori
 }
 
 /// So many workers for so many clients each; an accept of the last one fails, where its number is not 0.
+/// So many calls of each to targets are answered, and the next ones fail.
 pub(crate) fn workers(
     alloc: Global,
     count: u32,
     clients: u32,
     failing: u64,
+    calls: u64,
 ) -> Result<Vec<Memories>, Memory> {
     let mut workers = Vec::new(alloc);
     for place in 0..count {
         let failing = if place + 1 == count { failing } else { 0 };
-        workers.push(worker(alloc, clients, failing)?)?;
+        workers.push(worker(alloc, clients, failing, calls)?)?;
     }
     Ok(workers)
 }

@@ -13,8 +13,9 @@ use test_target::TestWorld;
 use z_types::{List, Memory, Text};
 
 /// The command: its words, the file `c`, how many workers it is handed and how many clients each has,
-/// the numbers of the accept, the read and the write that fail, 0 for none, how it ends, what it prints,
-/// and how many clients each worker served.
+/// the numbers of the accept, the read and the write that fail, 0 for none, how many calls of each worker to
+/// targets are answered, behind which the next ones fail, how it ends, what it prints, and how many clients
+/// each worker served.
 #[derive(Clone, Copy)]
 struct Case<'a> {
     words: &'a [&'a str],
@@ -22,6 +23,7 @@ struct Case<'a> {
     workers: u32,
     clients: u32,
     failing: [u64; 3],
+    calls: u64,
     status: Status,
     printed: &'a [u8],
     served: usize,
@@ -34,9 +36,19 @@ const SOUND: Case = Case {
     workers: 2,
     clients: 2,
     failing: [0, 0, 0],
+    calls: 1_000_000,
     status: Status::Ok,
     printed: b"served 4\n",
     served: 2,
+};
+
+/// One worker with all four clients.
+const ONE_WORKER: Case = Case {
+    words: &["serve", "c", "65535", "1"],
+    workers: 1,
+    clients: 4,
+    served: 4,
+    ..SOUND
 };
 
 /// Words that are refused.
@@ -49,13 +61,7 @@ const REFUSED: Case = Case {
 
 const CASES: [Case; 17] = [
     SOUND,
-    Case {
-        words: &["serve", "c", "65535", "1"],
-        workers: 1,
-        clients: 4,
-        served: 4,
-        ..SOUND
-    },
+    ONE_WORKER,
     Case {
         words: &["serve", "c", "1", "64"],
         workers: 64,
@@ -140,7 +146,7 @@ const CASES: [Case; 17] = [
 ];
 
 /// The words of a line.
-fn texts(alloc: Global, line: &[&str]) -> Result<Vec<Text>, Memory> {
+pub(crate) fn texts(alloc: Global, line: &[&str]) -> Result<Vec<Text>, Memory> {
     let mut words = Vec::new(alloc);
     for word in line {
         words.push(Text::copy_of(alloc, word.as_bytes())?)?;
@@ -148,22 +154,25 @@ fn texts(alloc: Global, line: &[&str]) -> Result<Vec<Text>, Memory> {
     Ok(words)
 }
 
-/// The file `c` of a case.
-fn files(alloc: Global, case: &Case) -> Result<MemoryFiles, Memory> {
+/// The file `c` of these octets, whose read of this number fails, 0 for none.
+pub(crate) fn files_of(alloc: Global, octets: &[u8], failing: u64) -> Result<MemoryFiles, Memory> {
     let mut files = List::new(alloc);
-    files.push((
-        Text::copy_of(alloc, b"c")?,
-        Text::copy_of(alloc, case.config)?,
-    ))?;
-    Ok(MemoryFiles::new(files, one_number(alloc, case.failing[1])?))
+    files.push((Text::copy_of(alloc, b"c")?, Text::copy_of(alloc, octets)?))?;
+    Ok(MemoryFiles::new(files, one_number(alloc, failing)?))
 }
 
 /// Whether the command ends, prints and serves as its case has it.
 fn is_so<R: Threads + Wait + Sync>(rt: &R, alloc: Global, case: &Case) -> Result<bool, Memory> {
     let words = texts(alloc, case.words)?;
-    let mut files = files(alloc, case)?;
+    let mut files = files_of(alloc, case.config, case.failing[1])?;
     let mut out = MemorySink::taking(alloc, 1, one_number(alloc, case.failing[2])?);
-    let mut workers = workers(alloc, case.workers, case.clients, case.failing[0])?;
+    let mut workers = workers(
+        alloc,
+        case.workers,
+        case.clients,
+        case.failing[0],
+        case.calls,
+    )?;
     let status = top_serve::<_, TestWorld, _, _, _, _, _>(
         rt,
         alloc,
@@ -192,6 +201,21 @@ fn a_command_ends_prints_and_serves_as_its_case_has_it(rt: HostRuntime) -> Resul
             case.words,
             case.failing
         );
+    }
+    Ok(())
+}
+
+#[test]
+fn one_search_reaches_the_target_for_all_clients_of_one_worker(
+    rt: HostRuntime,
+) -> Result<(), Fail> {
+    // a dial, the look that hears that it is open, the search, and the look that hears its hits
+    for (calls, is_enough) in [(4, true), (3, false)] {
+        let case = Case {
+            calls,
+            ..ONE_WORKER
+        };
+        assert!(rt; is_so(&rt, rt.alloc(), &case)? == is_enough, "{calls}");
     }
     Ok(())
 }

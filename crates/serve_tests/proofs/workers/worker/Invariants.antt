@@ -4,4 +4,4 @@ use Rattle.gw_memory.specs.contracts.sinks.MemorySinkSink.TheImpl as sink
 use Rattle.serve_tests.proofs.workers.worker.Given as goal
 
 abbrev pub invariant-loop-client : goal.invariant-loop-client
-invariant-loop-client l = AreUntouched source.ghosts sink.ghosts l.connections
+invariant-loop-client g l = AreUntouched source.ghosts sink.ghosts l.connections
