@@ -246,10 +246,10 @@ empty-of : {S : Type 0} (pool : Option (Pool S)) (counts : DoorCounts) → HasNo
 empty-of None counts none told = absurd none
 empty-of (Some pool) counts none told = (none, told.most)
 
-new-door : {S : Type 0} (door : DoorView S) → HasNoSession door.pool → IsToldFull door.pool door.counts → door.counts.fulls ≡ 0 → IsNewDoor door
+pub new-door : {S : Type 0} (door : DoorView S) → HasNoSession door.pool → IsToldFull door.pool door.counts → door.counts.fulls ≡ 0 → IsNewDoor door
 new-door door none told unfull = record { empty = empty-of door.pool door.counts none told; unfull = unfull }
 
-most-as : {S : Type 0} (route : Route) (before : Outside S) → IsNewPool route before → {n : ℕ} → n ≤ route.pool.max_sessions
+pub most-as : {S : Type 0} (route : Route) (before : Outside S) → IsNewPool route before → {n : ℕ} → n ≤ route.pool.max_sessions
     → n ≤ before.door.counts.most
 most-as route before new enough = let same = new.most in omega (arith, same, enough)
 

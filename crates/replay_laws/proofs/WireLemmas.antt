@@ -1,5 +1,5 @@
 -- what befalls the links of a quiet wire, with a new pool, is borne
-use Rattle.std.proofs.Common.{◌≡◌, ◌∙◌, ◌*◌, ◌≤◌, ℕ, Bool, true, false, List, Option, None, Some, Result, Ok, Err, length, sym, ap, subst, arith}
+use Rattle.std.proofs.Common.{◌≡◌, ◌∙◌, ◌*◌, ◌≤◌, Bool, true, false, List, Option, None, Some, Result, Ok, Err, length, sym, ap, subst, arith}
 use Rattle.std.specs.List.{AllByRecursion}
 use Rattle.std.specs.Prelude.{IfOk}
 use Rattle.z_types.specs.Bounds.{most_legs}
@@ -9,7 +9,6 @@ use Rattle.z_types.specs.declared.world.World as world
 use Rattle.gw_outside.specs.Counts.{Counts}
 use Rattle.gw_outside.specs.Happened.{AreQuiet, Happened}
 use Rattle.gw_outside.specs.declared.happenings.Happening.{Happening}
-use Rattle.pool_sets.specs.Counts.{DoorCounts}
 use Rattle.pool_sets.specs.Plain.{Pool}
 use Rattle.pool_sets.specs.Sessions.{Session}
 use Rattle.route_config.specs.Sound.{ArePoolNumbers}
@@ -25,9 +24,9 @@ use Rattle.conn_quiet.specs.steps.Whole.{AreIdle, IsIdleSession}
 use Rattle.replay.specs.Counts.{HaveCauses}
 use Rattle.replay.specs.Trace.{IsRunOf}
 use Rattle.replay.specs.declared.reports.Report.{Report}
-use Rattle.replay.specs.steps.Room.{FindsRoom, IsEmptyPool}
-use Rattle.replay.proofs.FullLemmas.{IsToldFull}
+use Rattle.replay.specs.steps.Room.{FindsRoom}
 use Rattle.replay.proofs.MovesLemmas.{HasNoSession, IsNewPool}
+use Rattle.replay.proofs.UndisturbedLemmas.{most-as, new-door}
 use Rattle.replay_laws.specs.Borne.{BorneIsPlain, BorneIsPlainOrFull, IsBorne, IsBorneIf, IsBorneRun, WasNeverFull}
 use Rattle.replay_laws.specs.Quiet.{QuietDisturbsNobody}
 
@@ -61,17 +60,11 @@ new-borne w t route before new numbers quiet = record {
 
 -- ---- a door that is never full
 
-empty-of : {S : Type 0} (pool : Option (Pool S)) (counts : DoorCounts) → HasNoSession pool → IsToldFull pool counts
-    → IsEmptyPool counts.most pool
-empty-of None counts none told = absurd none
-empty-of (Some pool) counts none told = (none, told.most)
-
 never-full : {S : Type 0} (route : Route) (report : Report) (before behind : Outside S) → IsNewPool route before
     → FindsRoom report before behind → length report.clients * most_legs ≤ route.pool.max_sessions → WasNeverFull before behind
 never-full route report before behind new room enough = record {
   below = (let none = new.fulls in omega (arith, none));
-  still = room (record { empty = empty-of before.door.pool before.door.counts new.none new.told; unfull = new.fulls })
-      (subst (λ (n : ℕ). length report.clients * most_legs ≤ n) (sym new.most) enough) ∙ sym new.fulls;
+  still = room (new-door before.door new.none new.told new.fulls) (most-as route before new enough) ∙ sym new.fulls;
 }
 
 -- ---- a replay over a wire

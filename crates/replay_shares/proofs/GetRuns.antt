@@ -23,7 +23,7 @@ use Rattle.replay.specs.Clients.{ClientState, is_idle}
 use Rattle.replay.specs.Trace.{AreSteps, HasRun, IsClientStep, Point}
 use Rattle.replay_shares.specs.Orderly.{dated}
 use Rattle.replay_shares.specs.Works.{Ask, AskAs, AskByHead}
-use Rattle.replay_shares.specs.steps.Laws.{GetLaws, GetsShareIfHeadsStay, HasRunSo, works_now}
+use Rattle.replay_shares.specs.steps.Laws.{GetLaws, HasRunSo, RunsOfGetsShare, works_now}
 use Rattle.replay_shares.specs.steps.Resting.{HasAskedAs, HasAskedGet, IsKeptOver, IsResting, MayDo}
 use Rattle.replay_shares.proofs.GetSteps.{GetGoes, GetStands, HasAll, step-goes}
 use Rattle.replay_shares.proofs.HeadWorks.{ask-one, ask-stays}
@@ -183,6 +183,6 @@ module _ {W S : Type 0} (w : world.Ghosts W) (t : sitting.Ghosts S W) (laws : Ge
   pub get-shares : HasRunSo w t route now octets ended asked all before old new outside after
   get-shares = by-end old.conn.end refl
 
-pub gets-share : {W S : Type 0} (w : world.Ghosts W) (t : sitting.Ghosts S W) → GetsShareIfHeadsStay w t
+pub gets-share : {W S : Type 0} (w : world.Ghosts W) (t : sitting.Ghosts S W) → GetLaws w t → RunsOfGetsShare w t
 gets-share w t laws exact route now octets ended asked all before old new outside after is_letter is fair sound rest kept asks falls may run =
     get-shares w t laws exact route now octets ended asked all before old new outside after is_letter is fair sound rest kept asks falls may run

@@ -39,7 +39,7 @@ use Rattle.replay.proofs.CostLemmas.{names-costs_upto, same_length}
 use Rattle.replay.proofs.EventLemmas.{ended-more, ended-other, fed-more, fed-other, not_own}
 use Rattle.replay_shares.specs.Orderly.{AreTurns, IsOrderly, IsTurn, Turn, asked_before, closed, dated, dated_after, dated_works, works_added}
 use Rattle.replay_shares.specs.steps.Costs.{cost_at, cost_of_all, cost_on, is_needed}
-use Rattle.replay_shares.specs.steps.Laws.{ClientLaws, RunsShare, ScriptsShareIfRunsDo, works_now}
+use Rattle.replay_shares.specs.steps.Laws.{ClientLaws, RunsOfScriptsShare, RunsShare, works_now}
 use Rattle.replay_shares.specs.steps.Resting.{IsKeptOver, IsResting, MayDo, StandBehind}
 use Rattle.replay_shares.proofs.CountLemmas.{count-both, keys-turned, later-order, may-first, may-rest, order-behind, uses-both, works-at}
 use Rattle.replay_shares.proofs.EventLemmas.{AllCanCome, CanCome, all-come, closings-come, come-both, played-both}
@@ -471,7 +471,7 @@ module _ {W S : Type 0} (w : world.Ghosts W) (t : sitting.Ghosts S W) (exact : B
       ∙ ap (λ (n : ℕ). map (λ (class : ℕ). within64 (needs class)) (range_with_len 0 n)) all
 
 -- where each run shares, a whole script does
-pub scripts-share : {W S : Type 0} (w : world.Ghosts W) (t : sitting.Ghosts S W) → ScriptsShareIfRunsDo w t
+pub scripts-share : {W S : Type 0} (w : world.Ghosts W) (t : sitting.Ghosts S W) → ClientLaws w t → RunsShare w t → RunsOfScriptsShare w t
 scripts-share w t laws law exact route targets events before after report is fair sound are kept run turns orderly =
     let ended = script-ends w t exact route laws law is fair sound events targets turns before after report are kept run orderly in record {
       plain = plain-reported (length run.finish) run.finish report.clients

@@ -40,7 +40,7 @@ use Rattle.replay.specs.Trace.{AreSteps, HasRun, IsClientStep, Point}
 use Rattle.replay_shares.specs.Works.{Ask, AskByUnits}
 use Rattle.replay_shares.specs.steps.Costs.{cost_on, is_needed}
 use Rattle.replay_shares.specs.steps.Going.{RestsBehind}
-use Rattle.replay_shares.specs.steps.Laws.{HasRunSo, RunsOfGetsShare, RunsOfUnitsShare, RunsShare, StepLaws, UnitsShareIfStepsDo, works_now}
+use Rattle.replay_shares.specs.steps.Laws.{HasRunSo, RunsOfGetsShare, RunsOfUnitsShare, RunsShare, StepLaws, works_now}
 use Rattle.replay_shares.specs.steps.Resting.{HasAskedAs, IsKeptOver, IsResting, MayDo}
 use Rattle.replay_shares.proofs.FrontLemmas.{asks-units, begun-all, none-all, none-at-start, units-all}
 use Rattle.replay_shares.proofs.UnitSteps.{GoesSo, client-steps, rests-of, step-written}
@@ -238,7 +238,7 @@ module _ {W S : Type 0} (w : world.Ghosts W) (t : sitting.Ghosts S W) (exact : B
       }
 
 -- Runs of clients of units share.
-pub units-share : {W S : Type 0} (w : world.Ghosts W) (t : sitting.Ghosts S W) → UnitsShareIfStepsDo w t
+pub units-share : {W S : Type 0} (w : world.Ghosts W) (t : sitting.Ghosts S W) → StepLaws w t → RunsOfUnitsShare w t
 units-share {S = S} w t laws exact route now octets ended asked all before old new outside after other is fair sound rests kept ask falls may run =
     let start = old.conn.totals in
     let most = outside.door.counts.most in

@@ -109,18 +109,6 @@ module _ {W S : Type 0} (w : world.Ghosts W) (t : sitting.Ghosts S W) where
   abbrev pub RunsOfGetsShare : Type 0
   RunsOfGetsShare = RunsShareOf (λ octets. kind_of octets ≡ letter)
 
-  -- runs of clients of units share, by what is known of steps
-  abbrev pub UnitsShareIfStepsDo : Type 0
-  UnitsShareIfStepsDo = StepLaws w t → RunsOfUnitsShare
-
-  -- and those of clients of HTTP, by what is known of heads and works
-  abbrev pub GetsShareIfHeadsStay : Type 0
-  GetsShareIfHeadsStay = GetLaws w t → RunsOfGetsShare
-
-  -- where runs of clients of either kind share, all do
-  abbrev pub RunsShareByKind : Type 0
-  RunsShareByKind = RunsOfUnitsShare → RunsOfGetsShare → RunsShare
-
   -- ---- a whole replay
 
   -- events were played that can be, on a fair route, over a backend that is exact and quiet, with a pool that is kept behind no use:
@@ -130,7 +118,3 @@ module _ {W S : Type 0} (w : world.Ghosts W) (t : sitting.Ghosts S W) where
       (exact : Bool) (route : Route) (targets : ℕ) (events : List Event) (before after : Outside S) (report : Report)
       → exact ≡ true → IsFair w route → IsSound route → AreEvents targets events → IsKeptOver w t route 0 [] before
       → IsRunOf w t exact route events before after report → SharesIfOrderly w route events report
-
-  -- where each run shares, a whole script does
-  abbrev pub ScriptsShareIfRunsDo : Type 0
-  ScriptsShareIfRunsDo = ClientLaws w t → RunsShare → RunsOfScriptsShare
