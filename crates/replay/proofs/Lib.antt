@@ -20,6 +20,9 @@ pub mod FullLemmas
 pub mod TwiceLemmas
 pub mod UncausedLemmas
 pub mod RoomLemmas
+pub mod LegCounts
+pub mod AskedLemmas
+pub mod FewLegs
 pub mod PlacesLemmas
 pub mod TraceRoom
 pub mod UndisturbedLemmas

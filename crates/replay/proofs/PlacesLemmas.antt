@@ -30,19 +30,18 @@ use Rattle.package.specs.declared.turning.Round.{Round}
 use Rattle.package.specs.steps.Packages.{AreDone, AsksSo, HasFitting, IsPackageOf, IsPlanned, PackageView, answers_of, asked_of}
 use Rattle.package.specs.steps.Turns.{HadTurn, HasTurned, HaveTurned, IsPackageTurn, TakesTurn, no_round}
 use Rattle.package_rules.specs.Asked.{Asked, first_asked}
-use Rattle.package_rules.specs.Planned.{then_asked_by}
-use Rattle.z_types.specs.Bounds.{most_legs}
+use Rattle.package_rules.specs.Planned.{legs_named, then_asked_by}
 use Rattle.std.proofs.lemmas.List.{length-map}
 use Rattle.front_conn.specs.declared.stepped.Stepped.{Stepped}
 use Rattle.front_conn.specs.steps.Answering.{Outside, legs_in}
 use Rattle.front_conn.specs.steps.States.{ConnectionState, IsConnOf}
 use Rattle.front_conn.specs.steps.Steps.{IsStepped, StepsFrom}
 use Rattle.z_types.specs.declared.marks.End.{End}
-use Rattle.conn_costs.proofs.FewLemmas.{few-first, few-then-by}
 use Rattle.conn_seats.specs.steps.Seats.{AreHeldOn}
 use Rattle.std.specs.Prelude.{IfSome}
 use Rattle.conn_seats.specs.steps.Laws.{TurnsKeepSeats}
 use Rattle.conn_seats.specs.steps.Seats.{AreHeld, AreOutOf, DoesItsTask, IsHeld, held_at, held_in}
+use Rattle.replay.proofs.AskedLemmas.{first-named, then-named}
 use Rattle.replay.proofs.FullLemmas.{IsToldFull, turn_full}
 use Rattle.replay.proofs.RoomLemmas.{AtMost, held-outs, legs-most, most-both, most-less, most-upto, outs, own-most, take-out}
 
@@ -277,32 +276,44 @@ module _ {S : Type 0} where
         (λ seat. let e = both-seats front legs seat in let z = none seat in omega (arith, e, z)) h.out;
   }
 
-  -- they are as many as a request has legs at most
-  few-legs : (legs : List (LegView S)) (asked : List Asked) → map asked_of legs ≡ asked → length asked ≤ most_legs → length legs ≤ most_legs
-  few-legs legs asked e few =
+  -- they are as many as the work of a request names at most
+  abbrev pub legs_asked : PackageView S → ℕ
+  legs_asked view = length (legs_named view.work)
+
+  -- a request in work has so many at most
+  abbrev pub IsUpTo : (limit : ℕ) → ConnectionState S → Type 0
+  IsUpTo limit conn = (view : PackageView S) → conn.end ≡ None → conn.in_work ≡ Some view → legs_asked view ≤ limit
+
+  few-legs : (legs : List (LegView S)) (asked : List Asked) (n : ℕ) → map asked_of legs ≡ asked → length asked ≤ n → length legs ≤ n
+  few-legs legs asked n e few =
       let all : length legs ≡ length asked = sym (length-map legs asked_of) ∙ ap (λ (a : List Asked). length a) e in omega (arith, all, few)
 
-  first-few : (route : Route) (view : PackageView S) → AsksSo route view → length view.first ≤ most_legs
-  first-few route view asks = few-legs view.first (first_asked route view.work) asks.at_first (few-first route view.work asks.can_begin)
+  first-few : (route : Route) (view : PackageView S) → AsksSo route view → length view.first ≤ legs_asked view
+  first-few route view asks =
+      few-legs view.first (first_asked route view.work) (legs_asked view) asks.at_first (first-named route view.work)
 
-  -- the legs of a request hold no more seats than a request has legs
+  later-few : (route : Route) (view : PackageView S) → map asked_of view.later ≡ then_asked_by route view.work (answers_of view.first)
+      → length view.later ≤ legs_asked view
+  later-few route view then =
+      few-legs view.later (then_asked_by route view.work (answers_of view.first)) (legs_asked view) then
+      (then-named route view.work (answers_of view.first))
+
+  -- the legs of a request hold no more seats than its work names legs
   holds-by : (planned : Bool) (route : Route) (view : PackageView S) → AsksSo route view → IsPlanned planned route view
-      → AtMost (held_in (view.first ++ view.later)) most_legs
+      → AtMost (held_in (view.first ++ view.later)) (legs_asked view)
   holds-by false route view asks later =
-      most-upto (held_in (view.first ++ view.later)) (length view.first) most_legs (first-few route view asks)
+      most-upto (held_in (view.first ++ view.later)) (length view.first) (legs_asked view) (first-few route view asks)
       (most-less (held_in (view.first ++ view.later)) (held_in view.first) (length view.first)
       (λ seat. (let e = both-seats view.first view.later seat in
       let none : held_in view.later seat ≡ 0 = ap (λ (ls : List (LegView S)). held_in ls seat) later in omega (arith, e, none)))
       (legs-most view.first))
   holds-by true route view asks then =
-      most-upto (held_in (view.first ++ view.later)) (length view.later) most_legs
-      (few-legs view.later (then_asked_by route view.work (answers_of view.first)) then.1
-      (few-then-by route view.work (answers_of view.first) asks.can_begin))
+      most-upto (held_in (view.first ++ view.later)) (length view.later) (legs_asked view) (later-few route view then.1)
       (most-less (held_in (view.first ++ view.later)) (held_in view.later) (length view.later)
       (λ seat. (let e = both-seats view.first view.later seat in let none = done-hold view.first then.0 seat in omega (arith, e, none)))
       (legs-most view.later))
 
-  pub holds-few : (route : Route) (view : PackageView S) → AsksSo route view → AtMost (held_in (view.first ++ view.later)) most_legs
+  pub holds-few : (route : Route) (view : PackageView S) → AsksSo route view → AtMost (held_in (view.first ++ view.later)) (legs_asked view)
   holds-few route view asks = holds-by view.planned route view asks asks.then
 
 module _ {W S : Type 0} (w : world.Ghosts W) (t : sitting.Ghosts S W) (exact : Bool) (route : Route) (now : ℕ) (law : TurnsKeepSeats w t) where
@@ -310,45 +321,46 @@ module _ {W S : Type 0} (w : world.Ghosts W) (t : sitting.Ghosts S W) (exact : B
       (others : Seat → ℕ) (n : ℕ) → AsksSo route view → IsPlanned planned route view
       → TakesTurn w t exact route now planned view next answer round door after backend moved
       → AreHeld (view.first ++ view.later) others door.pool → IsToldFull door.pool door.counts → AtMost others n
-      → n + most_legs ≤ door.counts.most → FoundRoom door after
+      → n + legs_asked view ≤ door.counts.most → FoundRoom door after
   package-by false view next answer round door after backend moved others n asks later h held told most less =
       let few = first-few route view asks in
       legs-room w t exact route now law view.first next.first no_round round door after backend moved others n h.0
       (front-alone view.first view.later others door.pool (λ seat. ap (λ (ls : List (LegView S)). held_in ls seat) later) held)
       told most (omega (arith, few, less))
   package-by true view next answer round door after backend moved others n asks then h held told most less =
-      let few = few-legs view.later (then_asked_by route view.work (answers_of view.first)) then.1
-      (few-then-by route view.work (answers_of view.first) asks.can_begin) in
+      let few = later-few route view then.1 in
       legs-room w t exact route now law view.later next.later no_round round door after backend moved others n h.2
       (back-alone view.first view.later others door.pool (done-hold view.first then.0) held) told most (omega (arith, few, less))
 
   package-room : (view next : PackageView S) (answer : Turned) (door after : DoorView S) (backend moved : BackendView)
       (others : Seat → ℕ) (n : ℕ) → AsksSo route view → IsPackageTurn w t exact route now view next answer door after backend moved
       → AreHeld (view.first ++ view.later) others door.pool → IsToldFull door.pool door.counts → AtMost others n
-      → n + most_legs ≤ door.counts.most → FoundRoom door after
+      → n + legs_asked view ≤ door.counts.most → FoundRoom door after
   package-room view next answer door after backend moved others n asks h held told most less =
       package-by view.planned view next answer h.round door after backend moved others n asks asks.then h.turns held told most less
 
   -- ---- a step of a connection
 
   from-room : (end : Option End) (in_work : Option (PackageView S)) (old new : ConnectionState S) (answer : Stepped) (before behind : Outside S)
-      (others : Seat → ℕ) (n : ℕ) → old.end ≡ end → old.in_work ≡ in_work → IsConnOf w t route before.door.counts.most old
+      (others : Seat → ℕ) (n limit : ℕ) → old.end ≡ end → old.in_work ≡ in_work → IsConnOf w t route before.door.counts.most old
       → StepsFrom w t exact route now end in_work old new answer before behind → AreHeld (legs_in in_work) others before.door.pool
-      → IsToldFull before.door.pool before.door.counts → AtMost others n → n + most_legs ≤ before.door.counts.most
+      → IsToldFull before.door.pool before.door.counts → AtMost others n → IsUpTo limit old → n + limit ≤ before.door.counts.most
       → FoundRoom before.door behind.door
-  from-room (Some end) in_work old new answer before behind others n e f of h held told most less =
+  from-room (Some end) in_work old new answer before behind others n limit e f of h held told most few less =
       subst (λ (o : Outside S). FoundRoom before.door o.door) (sym h.2) (no-room-lost before.door told)
-  from-room None None old new answer before behind others n e f of h held told most less =
+  from-room None None old new answer before behind others n limit e f of h held told most few less =
       subst (λ (o : Outside S). FoundRoom before.door o.door) (sym h.1) (no-room-lost before.door told)
-  from-room None (Some view) old new answer before behind others n e f of h held told most less =
+  from-room None (Some view) old new answer before behind others n limit e f of h held told most few less =
       let goes = h.turns in
+      let own = few view e f in
       let package_of : IsPackageOf w t route before.door.counts.most view =
       subst (λ (i : Option (PackageView S)). IfSome i (IsPackageOf w t route before.door.counts.most)) f ((of e).in_work) in
-      package-room view goes.next goes.turned before.door behind.door before.backend behind.backend others n package_of.asks goes.law held told most less
+      package-room view goes.next goes.turned before.door behind.door before.backend behind.backend others n package_of.asks goes.law held told most
+      (omega (arith, own, less))
 
-  pub step-room : (old new : ConnectionState S) (answer : Stepped) (before behind : Outside S) (others : Seat → ℕ) (n : ℕ)
+  pub step-room : (old new : ConnectionState S) (answer : Stepped) (before behind : Outside S) (others : Seat → ℕ) (n limit : ℕ)
       → IsConnOf w t route before.door.counts.most old → IsStepped w t exact route now old new answer before behind
       → AreHeldOn old others before.door.pool → IsToldFull before.door.pool before.door.counts → AtMost others n
-      → n + most_legs ≤ before.door.counts.most → FoundRoom before.door behind.door
-  step-room old new answer before behind others n of h held told most less =
-      from-room old.end old.in_work old new answer before behind others n refl refl of h held told most less
+      → IsUpTo limit old → n + limit ≤ before.door.counts.most → FoundRoom before.door behind.door
+  step-room old new answer before behind others n limit of h held told most few less =
+      from-room old.end old.in_work old new answer before behind others n limit refl refl of h held told most few less

@@ -3,11 +3,11 @@ use Rattle.std.proofs.Common.{◌≡◌, ◌∙◌, ℕ, zero, suc, ◌+◌, ◌
 use Rattle.std.specs.Prelude.{IfSome, IsSome, count_by}
 use Rattle.std.specs.List.{AllByRecursion, sum_by}
 use Rattle.std.proofs.Math.ListN.{length-set}
+use Rattle.std.proofs.Math.Nat.{mul-le-mul_right, suc-mul}
 use Rattle.std.proofs.lemmas.Bool.{cases_eq, cases_lt}
 use Rattle.std.proofs.lemmas.List.{length-append, take_all}
 use Rattle.std.proofs.lemmas.List.Sums.{sum_by-cons, sum_by-set}
 use Rattle.std.proofs.lemmas.Option.{unwrap_or-slice_get}
-use Rattle.z_types.specs.Bounds.{most_legs}
 use Rattle.z_types.specs.declared.marks.End.{End as Ending}
 use Rattle.z_types.specs.declared.sitting.Sitting as sitting
 use Rattle.z_types.specs.declared.world.World as world
@@ -36,17 +36,22 @@ use Rattle.replay.specs.Clients.{AreNone, ClientState, client_at, client_or_new}
 use Rattle.replay.specs.Trace.{ArePlayed, AreReported, AreSteps, HasRun, IsClientStep, IsReportedBehind, IsRunOf, PlaysFor, PlaysOf, Playing, Point, closings, moment_behind}
 use Rattle.replay.specs.declared.reports.ClientReport.{ClientReport}
 use Rattle.replay.specs.declared.reports.Report.{Report}
+use Rattle.replay.specs.Places.{most_at_once}
 use Rattle.replay.specs.steps.Laws.{RunLaws}
 use Rattle.replay.specs.steps.Room.{FindsRoom, IsEmptyPool}
 use Rattle.replay.proofs.ClientLemmas.{client_at-behind, client_at-other, client_at-set, client_within}
 use Rattle.replay.proofs.ClosingLemmas.{closings-all, closings-none, closings-with, closings-without, closings_upto}
+use Rattle.replay.proofs.FewLegs.{IsFewConn, step-few, view-few}
 use Rattle.replay.proofs.FullLemmas.{IsToldFull}
 use Rattle.replay.proofs.MovesLemmas.{HasNoSession}
 use Rattle.replay.proofs.SumReports.{sum-next}
 use Rattle.replay.proofs.RunKeeps.{most_of}
 use Rattle.replay.proofs.StepLemmas.{known}
 use Rattle.replay.proofs.RoomLemmas.{AtMost, legs-most, most-both, most-less, most-upto, none-most}
-use Rattle.replay.proofs.PlacesLemmas.{holds-few, out-as, step-room}
+use Rattle.replay.proofs.PlacesLemmas.{holds-few, legs_asked, out-as, step-room}
+
+one-more : (limit n m : ℕ) → m ≡ suc n → limit + n * limit ≡ m * limit
+one-more limit n m e = let all = suc-mul n limit in let same = ap (λ (k : ℕ). k * limit) e in omega (arith, all, same)
 
 -- ---- what clients hold
 
@@ -86,7 +91,7 @@ module _ {S : Type 0} where
   present clients = count_by is_some clients
 
   present-apart : (clients : List (Option (ClientState S))) (place : ℕ) (client : ClientState S) → place < length clients
-      → present (slice_set clients place (Some client)) ≡ 1 + present (others_at clients place)
+      → present (slice_set clients place (Some client)) ≡ suc (present (others_at clients place))
   present-apart clients place client within =
       let f : Option (ClientState S) → ℕ = λ c. cond (is_some c) 1 0 in
       let one = sum_by-set f clients place (Some client) None within in
@@ -105,25 +110,32 @@ module _ {S : Type 0} where
       one-most true = omega arith
       one-most false = omega arith
 
-  -- no client holds more than a request has legs
-  abbrev HoldsFew : Option (ClientState S) → Type 0
-  HoldsFew here = IfSome here (λ client. AtMost (held_in (legs_in client.conn.in_work)) most_legs)
+  present-none : (clients : List (Option (ClientState S))) → present (None ∷ clients) ≡ present clients
+  present-none clients =
+      let all = sum_by-cons (λ (c : Option (ClientState S)). cond (is_some c) 1 0) None clients in omega (arith, all)
 
-  all-few : (clients : List (Option (ClientState S))) → AllByRecursion HoldsFew clients → AtMost (held_by clients) (present clients * most_legs)
-  all-few [] h = none-most
-  all-few (None ∷ clients) h =
-      most-less (held_by (None ∷ clients)) (held_by clients) (present (None ∷ clients) * most_legs)
+  present-some : (client : ClientState S) (clients : List (Option (ClientState S))) → present (Some client ∷ clients) ≡ suc (present clients)
+  present-some client clients =
+      let all = sum_by-cons (λ (c : Option (ClientState S)). cond (is_some c) 1 0) (Some client) clients in omega (arith, all)
+
+  -- a client holds no more than so many
+  abbrev HoldsFew : ℕ → ClientState S → Type 0
+  HoldsFew limit client = AtMost (held_in (legs_in client.conn.in_work)) limit
+
+  all-few : (limit : ℕ) (clients : List (Option (ClientState S))) → AllByRecursion (λ here. IfSome here (HoldsFew limit)) clients
+      → AtMost (held_by clients) (present clients * limit)
+  all-few limit [] h = most-upto (held_by []) 0 (present [] * limit) (omega arith) none-most
+  all-few limit (None ∷ clients) h =
+      most-less (held_by (None ∷ clients)) (held_by clients) (present (None ∷ clients) * limit)
       (λ seat. (let all = sum_by-cons (held_for seat) None clients in omega (arith, all)))
-      (most-upto (held_by clients) (present clients * most_legs) (present (None ∷ clients) * most_legs)
-      (let all = sum_by-cons (λ (c : Option (ClientState S)). cond (is_some c) 1 0) None clients in omega (arith, all)) (all-few clients h.1))
-  all-few (Some client ∷ clients) h =
+      (subst (λ (n : ℕ). AtMost (held_by clients) (n * limit)) (sym (present-none clients)) (all-few limit clients h.1))
+  all-few limit (Some client ∷ clients) h =
       most-less (held_by (Some client ∷ clients)) (λ seat. held_in (legs_in client.conn.in_work) seat + held_by clients seat)
-      (present (Some client ∷ clients) * most_legs)
+      (present (Some client ∷ clients) * limit)
       (λ seat. (let all = sum_by-cons (held_for seat) (Some client) clients in omega (arith, all)))
-      (most-upto (λ seat. held_in (legs_in client.conn.in_work) seat + held_by clients seat) (most_legs + present clients * most_legs)
-      (present (Some client ∷ clients) * most_legs)
-      (let all = sum_by-cons (λ (c : Option (ClientState S)). cond (is_some c) 1 0) (Some client) clients in omega (arith, all))
-      (most-both (held_in (legs_in client.conn.in_work)) (held_by clients) most_legs (present clients * most_legs) h.0 (all-few clients h.1)))
+      (subst (λ (n : ℕ). AtMost (λ seat. held_in (legs_in client.conn.in_work) seat + held_by clients seat) n)
+      (one-more limit (present clients) (present (Some client ∷ clients)) (present-some client clients))
+      (most-both (held_in (legs_in client.conn.in_work)) (held_by clients) limit (present clients * limit) h.0 (all-few limit clients h.1)))
 
 -- ---- one client
 
@@ -131,6 +143,7 @@ module _ {W S : Type 0} (w : world.Ghosts W) (t : sitting.Ghosts S W) (exact : B
   -- a connection among others, and what is outside
   record Stands (conn : ConnectionState S) (others : Seat → ℕ) (here : Outside S) : Type 0 where
     of : IsConnOf w t route most conn
+    few : IsFewConn route conn
     rests : RestsIfEnded conn
     held : AreHeldOn conn others here.door.pool
     told : IsToldFull here.door.pool here.door.counts
@@ -150,24 +163,25 @@ module _ {W S : Type 0} (w : world.Ghosts W) (t : sitting.Ghosts S W) (exact : B
 
   piece-of : (end : Option Ending) (state : ConnectionState S) (piece : List ℕ) (others : Seat → ℕ) (here : Outside S) → Stands state others here
       → Stands (fed_piece end state piece) others here
-  piece-of None state piece others here s = record { of = s.of; rests = s.rests; held = s.held; told = s.told; most_is = s.most_is }
+  piece-of None state piece others here s = record { of = s.of; few = s.few; rests = s.rests; held = s.held; told = s.told; most_is = s.most_is }
   piece-of (Some end) state piece others here s = s
 
   module _ (now : ℕ) (turns : TurnsKeepSeats w t) (steps : StepsKeepSeats w t) (costs : StepsCost w t) (sound : IsSound route)
-      (others : Seat → ℕ) (n : ℕ) (few : AtMost others n) (less : n + most_legs ≤ most) where
+      (others : Seat → ℕ) (n : ℕ) (few : AtMost others n) (less : n + most_at_once route ≤ most) where
     client-goes : (idle : Bool) (old new : ClientState S) (before behind : Outside S) → Stands old.conn others before
         → IsClientStep w t exact route now idle old new before behind → Goes new.conn others before behind
     client-goes idle old new before behind s h =
         let is = s.most_is in
         let of_ = subst (λ (m : ℕ). IsConnOf w t route m old.conn) (sym s.most_is) s.of in
-        let room = step-room w t exact route now turns old.conn h.stepped_to h.answer before behind others n of_ h.steps s.held s.told few
-        (omega (arith, less, is)) in
+        let room = step-room w t exact route now turns old.conn h.stepped_to h.answer before behind others n (most_at_once route) of_ h.steps s.held
+        s.told few (λ view. view-few route w t most old.conn view s.of s.few) (omega (arith, less, is)) in
         let held_ = steps exact route now old.conn h.stepped_to h.answer before behind others of_ h.steps s.held in
         let costed = known h.answer h.remembers (costs exact route now old.conn h.stepped_to h.answer before behind sound of_ h.steps) in
         let most_then : most_of behind ≡ most = room.most ∙ s.most_is in
         let of_then = subst (λ (m : ℕ). IsConnOf w t route m h.stepped_to) most_then h.of in
+        let few_then = step-few w t exact route now old.conn h.stepped_to h.answer before behind h.steps s.few in
         subst (λ (c : ConnectionState S). Goes c others before behind) (sym h.conn) (record {
-          stands = record { of = of_then; rests = costed.rests s.rests; held = held_; told = room.told; most_is = most_then };
+          stands = record { of = of_then; few = few_then; rests = costed.rests s.rests; held = held_; told = room.told; most_is = most_then };
           fulls = room.fulls;
         })
 
@@ -198,7 +212,7 @@ module _ {W S : Type 0} (w : world.Ghosts W) (t : sitting.Ghosts S W) (exact : B
     plays-go (Feed client octets) old new before behind s h =
         as-it-was new _ before behind h.0 h.1 (piece-of old.conn.end old.conn octets others before s)
     plays-go (End client) old new before behind s h =
-        as-it-was new _ before behind h.0 h.1 (record { of = s.of; rests = s.rests; held = s.held; told = s.told; most_is = s.most_is })
+        as-it-was new _ before behind h.0 h.1 (record { of = s.of; few = s.few; rests = s.rests; held = s.held; told = s.told; most_is = s.most_is })
     plays-go (Step client) old new before behind s h = client-goes h.0 old new before behind s h.1
     plays-go (Run client) old new before behind s h = run-goes-on old new before behind s h
     plays-go (Tick seconds) old new before behind s h = absurd h
@@ -234,6 +248,7 @@ module _ {W S : Type 0} (w : world.Ghosts W) (t : sitting.Ghosts S W) (exact : B
   -- what each client keeps
   pub record IsKeptSo (conn : ConnectionState S) : Type 0 where
     pub of : IsConnOf w t route most conn
+    pub few : IsFewConn route conn
     pub rests : RestsIfEnded conn
     pub tasks : AllByRecursion (λ (leg : LegView S). DoesItsTask leg.phase leg.task) (legs_in conn.in_work)
 
@@ -244,26 +259,32 @@ module _ {W S : Type 0} (w : world.Ghosts W) (t : sitting.Ghosts S W) (exact : B
     pub told : IsToldFull door.pool door.counts
     pub most_is : door.counts.most ≡ most
 
-  works-few : (in_work : Option (PackageView S)) → IfSome in_work (IsPackageOf w t route most) → AtMost (held_in (legs_in in_work)) most_legs
-  works-few None h = most-upto (held_in {S = S} []) 0 most_legs (omega arith) (legs-most {S = S} [])
-  works-few (Some view) h = holds-few route view h.asks
+  none-holds : AtMost (held_in {S = S} []) (most_at_once route)
+  none-holds = most-upto (held_in {S = S} []) 0 (most_at_once route) (omega arith) (legs-most {S = S} [])
 
-  few-by : (end : Option Ending) (conn : ConnectionState S) → conn.end ≡ end → IsKeptSo conn → AtMost (held_in (legs_in conn.in_work)) most_legs
-  few-by None conn e k = works-few conn.in_work ((k.of e).in_work)
+  works-few : (conn : ConnectionState S) (in_work : Option (PackageView S)) → conn.end ≡ None → conn.in_work ≡ in_work → IsKeptSo conn
+      → AtMost (held_in (legs_in in_work)) (most_at_once route)
+  works-few conn None e f k = none-holds
+  works-few conn (Some view) e f k =
+      let it : IsPackageOf w t route most view = subst (λ (i : Option (PackageView S)). IfSome i (IsPackageOf w t route most)) f ((k.of e).in_work) in
+      most-upto (held_in (legs_in (Some view))) (legs_asked view) (most_at_once route) (view-few route w t most conn view k.of k.few e f)
+      (holds-few route view it.asks)
+
+  few-by : (end : Option Ending) (conn : ConnectionState S) → conn.end ≡ end → IsKeptSo conn
+      → AtMost (held_in (legs_in conn.in_work)) (most_at_once route)
+  few-by None conn e k = works-few conn conn.in_work e refl k
   few-by (Some end) conn e k =
       let idle : conn.in_work ≡ None = k.rests (subst (λ (o : Option Ending). IsSome o) (sym e) refl) in
-      subst (λ (v : Option (PackageView S)). AtMost (held_in (legs_in v)) most_legs) (sym idle) (works-few None tt)
+      subst (λ (v : Option (PackageView S)). AtMost (held_in (legs_in v)) (most_at_once route)) (sym idle) none-holds
 
   others-few : (clients : List (Option (ClientState S))) (place : ℕ) (door : DoorView S) → AreRoomy clients door
-      → AtMost (held_by (others_at clients place)) (present (others_at clients place) * most_legs)
+      → AtMost (held_by (others_at clients place)) (present (others_at clients place) * most_at_once route)
   others-few clients place door h =
-      all-few (others_at clients place)
-      (all-of (λ client. AtMost (held_in (legs_in client.conn.in_work)) most_legs) (others_at clients place)
-      (at-others (λ client. AtMost (held_in (legs_in client.conn.in_work)) most_legs) clients place None
-      (λ other. each-few (client_at clients other) (h.each other)) tt))
+      all-few (most_at_once route) (others_at clients place)
+      (all-of (HoldsFew (most_at_once route)) (others_at clients place)
+      (at-others (HoldsFew (most_at_once route)) clients place None (λ other. each-few (client_at clients other) (h.each other)) tt))
     where
-      each-few : (here : Option (ClientState S)) → IfSome here (λ client. IsKeptSo client.conn)
-          → IfSome here (λ client. AtMost (held_in (legs_in client.conn.in_work)) most_legs)
+      each-few : (here : Option (ClientState S)) → IfSome here (λ client. IsKeptSo client.conn) → IfSome here (HoldsFew (most_at_once route))
       each-few None k = tt
       each-few (Some client) k = few-by client.conn.end client.conn refl k
 
@@ -272,6 +293,7 @@ module _ {W S : Type 0} (w : world.Ghosts W) (t : sitting.Ghosts S W) (exact : B
       → Stands w t exact route most (client_or_new found).conn (held_by (others_at clients place)) here
   stands-by clients place here None within e k h = record {
     of = λ go. record { sets = tt; in_work = tt; one_work = tt };
+    few = λ go. record { session = record { sets = tt; waits = tt }; stage = tt };
     rests = λ is. refl;
     held = record {
       tasks = tt;
@@ -284,6 +306,7 @@ module _ {W S : Type 0} (w : world.Ghosts W) (t : sitting.Ghosts S W) (exact : B
   }
   stands-by clients place here (Some client) within e k h = record {
     of = k.of;
+    few = k.few;
     rests = k.rests;
     held = record {
       tasks = k.tasks;
@@ -302,19 +325,20 @@ module _ {W S : Type 0} (w : world.Ghosts W) (t : sitting.Ghosts S W) (exact : B
 
   module _ (turns : TurnsKeepSeats w t) (steps : StepsKeepSeats w t) (costs : StepsCost w t) (sound : IsSound route) where
     at-goes : (event : Event) (place now : ℕ) (old : Playing S) (client : ClientState S) (behind : Outside S) → place < length old.clients
-        → present (slice_set old.clients place (Some client)) * most_legs ≤ most → AreRoomy old.clients old.outside.door
+        → present (slice_set old.clients place (Some client)) * most_at_once route ≤ most → AreRoomy old.clients old.outside.door
         → PlaysFor w t exact route event now (client_or_new (client_at old.clients place)) client old.outside behind
         → RoomLeft old (record { clients = slice_set old.clients place (Some client); outside = behind })
     at-goes event place now old client behind within less h plays =
-        let apart = present-apart old.clients place client within in
+        let apart = one-more (most_at_once route) (present (others_at old.clients place)) (present (slice_set old.clients place (Some client)))
+        (present-apart old.clients place client within) in
         let goes = plays-go w t exact route most now turns steps costs sound (held_by (others_at old.clients place))
-        (present (others_at old.clients place) * most_legs) (others-few old.clients place old.outside.door h) (omega (arith, apart, less)) event
+        (present (others_at old.clients place) * most_at_once route) (others-few old.clients place old.outside.door h) (omega (arith, apart, less)) event
         (client_or_new (client_at old.clients place)) client old.outside behind
         (stands-by old.clients place old.outside (client_at old.clients place) within refl (h.each place) h) plays in
         let stands = goes.stands in record {
           roomy = record {
             each = at-others (λ c. IsKeptSo c.conn) old.clients place (Some client) h.each
-                (record { of = stands.of; rests = stands.rests; tasks = stands.held.tasks });
+                (record { of = stands.of; few = stands.few; rests = stands.rests; tasks = stands.held.tasks });
             out = out-as (held_in (legs_in client.conn.in_work)) (held_by (others_at old.clients place)) no_seat
                 (held_by (slice_set old.clients place (Some client))) behind.door.pool
                 (λ seat. let set_ = held-set old.clients place (Some client) seat within in omega (arith, set_)) stands.held.out;
@@ -330,7 +354,7 @@ module _ {W S : Type 0} (w : world.Ghosts W) (t : sitting.Ghosts S W) (exact : B
     Within (Some number) clients = (number - 1) < length clients
 
     of-goes : (event : Event) (client : Option ℕ) (now : ℕ) (old new : Playing S) → Within client old.clients
-        → present new.clients * most_legs ≤ most → AreRoomy old.clients old.outside.door → PlaysOf w t exact route client event now old new
+        → present new.clients * most_at_once route ≤ most → AreRoomy old.clients old.outside.door → PlaysOf w t exact route client event now old new
         → RoomLeft old new
     of-goes event None now old new within less h plays =
         subst (λ (cs : List (Option (ClientState S))). RoomLeft old (record { clients = cs; outside = new.outside })) (sym plays.clients)
@@ -343,7 +367,7 @@ module _ {W S : Type 0} (w : world.Ghosts W) (t : sitting.Ghosts S W) (exact : B
         plays.others ∙ ap (λ (c : Option (ClientState S)). slice_set old.clients (number - 1) c) plays.plays.is_there in
         subst (λ (cs : List (Option (ClientState S))). RoomLeft old (record { clients = cs; outside = new.outside })) (sym there)
         (at-goes event (number - 1) now old plays.plays.client new.outside within
-        (subst (λ (cs : List (Option (ClientState S))). present cs * most_legs ≤ most) there less) h plays.plays.plays)
+        (subst (λ (cs : List (Option (ClientState S))). present cs * most_at_once route ≤ most) there less) h plays.plays.plays)
 
     -- no client goes away
     record Grows (old new : Playing S) : Type 0 where
@@ -384,14 +408,15 @@ module _ {W S : Type 0} (w : world.Ghosts W) (t : sitting.Ghosts S W) (exact : B
         let second = rest.more in record { count = rest.count ∙ one.count; more = omega (arith, first, second) }
 
     pub events-go : (targets : ℕ) (events : List Event) (now : ℕ) (old new : Playing S) → AllByRecursion (IsEvent targets) events
-        → length old.clients ≡ most_clients → present new.clients * most_legs ≤ most → AreRoomy old.clients old.outside.door
+        → length old.clients ≡ most_clients → present new.clients * most_at_once route ≤ most → AreRoomy old.clients old.outside.door
         → ArePlayed w t exact route events now old new → RoomLeft old new
     events-go targets [] now old new are count less h played =
         subst (λ (p : Playing S). RoomLeft old p) (sym played) (record { roomy = h; fulls = refl })
     events-go targets (event ∷ events) now old new are count less h played =
         let within = event-within event targets old.clients are.0 count (client_of event) refl in
         let grown = of-grows event (client_of event) now old played.0 within played.1 in
-        let more = (events-grow targets events (now + seconds_of event) played.0 new are.1 (grown.count ∙ count) played.2).more in
+        let more = mul-le-mul_right (most_at_once route)
+        (events-grow targets events (now + seconds_of event) played.0 new are.1 (grown.count ∙ count) played.2).more in
         let one = of-goes event (client_of event) now old played.0 within (omega (arith, more, less)) h played.1 in
         let rest = events-go targets events (now + seconds_of event) played.0 new are.1 (grown.count ∙ count) less one.roomy played.2 in
         record { roomy = rest.roomy; fulls = rest.fulls ∙ one.fulls }
@@ -461,7 +486,7 @@ module _ {W S : Type 0} (w : world.Ghosts W) (t : sitting.Ghosts S W) (exact : B
     (turns : TurnsKeepSeats w t) (steps : StepsKeepSeats w t) (costs : StepsCost w t) (sound : IsSound route) where
   -- where there are places enough for the legs of all clients, the door was never full
   pub run-room : (targets : ℕ) (events : List Event) (before behind : Outside S) (report : Report) → AllByRecursion (IsEvent targets) events
-      → length report.clients * most_legs ≤ most → most_of before ≡ most → IsToldFull before.door.pool before.door.counts
+      → length report.clients * most_at_once route ≤ most → most_of before ≡ most → IsToldFull before.door.pool before.door.counts
       → HasNoSession before.door.pool → IsRunOf w t exact route events before behind report
       → behind.door.counts.fulls ≡ before.door.counts.fulls
   run-room targets events before behind report may less most_is told empty h =
@@ -478,8 +503,8 @@ module _ {W S : Type 0} (w : world.Ghosts W) (t : sitting.Ghosts S W) (exact : B
       let grown = events-grow w t exact route most turns steps costs sound targets events 0 first h.mid may h.places h.played in
       let later = events-grow w t exact route most turns steps costs sound targets (closings events) (moment_behind events) h.mid last closes
       (grown.count ∙ h.places) h.closed in
-      let more = later.more in
-      let all = all-reported h.finish report.clients h.reported.clients_of in
+      let more = mul-le-mul_right (most_at_once route) later.more in
+      let all = ap (λ (n : ℕ). n * most_at_once route) (all-reported h.finish report.clients h.reported.clients_of) in
       let one = events-go w t exact route most turns steps costs sound targets events 0 first h.mid may h.places (omega (arith, all, less, more)) roomy
       h.played in
       let rest = events-go w t exact route most turns steps costs sound targets (closings events) (moment_behind events) h.mid last closes
@@ -502,7 +527,7 @@ empty-told (Some pool) counts empty unfull = record {
 
 pub finds-room : {W S : Type 0} (w : world.Ghosts W) (t : sitting.Ghosts S W) (exact : Bool) (route : Route) → RunLaws w t → IsSound route
     → (targets : ℕ) (events : List Event) (before behind : Outside S) (report : Report) → AllByRecursion (IsEvent targets) events
-    → IsRunOf w t exact route events before behind report → FindsRoom report before behind
+    → IsRunOf w t exact route events before behind report → FindsRoom route report before behind
 finds-room w t exact route laws sound targets events before behind report may run new enough =
     run-room w t exact route before.door.counts.most laws.turns laws.seats laws.costs sound targets events before behind report may enough refl
     (empty-told before.door.pool before.door.counts new.empty new.unfull) (empty-none before.door.counts.most before.door.pool new.empty) run

@@ -4,7 +4,7 @@ use Rattle.std.specs.List.{AllByRecursion}
 use Rattle.std.specs.Prelude.{IfOk, OnOk}
 use Rattle.std.proofs.lemmas.Bool.{cases_lt}
 use Rattle.std.proofs.lemmas.List.Sums.{sum_by-cons}
-use Rattle.z_types.specs.Bounds.{most_legs, within64}
+use Rattle.z_types.specs.Bounds.{within64}
 use Rattle.z_types.specs.declared.marks.Mark.{Mark}
 use Rattle.z_types.specs.declared.marks.Mark.TheVariants as mark
 use Rattle.z_types.specs.declared.sitting.Sitting as sitting
@@ -36,6 +36,7 @@ use Rattle.pool_sets.specs.Sessions.{Session}
 use Rattle.script.specs.declared.event.Event.{Event}
 use Rattle.script.specs.declared.event.Event.TheVariants.{Feed, End, Step, Run, Tick, Gone, Cut, Slow}
 use Rattle.replay.specs.Counts.{AreDialled, AreSums, HaveCauses, in_classes, met_for}
+use Rattle.replay.specs.Places.{most_at_once}
 use Rattle.replay.specs.Trace.{IsBefallen, IsRunOf}
 use Rattle.replay.specs.Undisturbed.{BefallsNothing, IsPlainOrFull, IsUntroubled, IsUntroubledIf}
 use Rattle.replay.specs.Wires.{AreTold, IsCountedBy}
@@ -43,6 +44,7 @@ use Rattle.replay.specs.declared.reports.ClientReport.{ClientReport}
 use Rattle.replay.specs.declared.reports.Report.{Report}
 use Rattle.replay.specs.steps.Quiet.{GoesWell}
 use Rattle.replay.specs.steps.Room.{FindsRoom, IsEmptyPool, IsNewDoor}
+use Rattle.replay.proofs.AskedLemmas.{fewer-enough}
 use Rattle.replay.proofs.FullLemmas.{IsToldFull}
 use Rattle.replay.proofs.MovesLemmas.{HasNoSession, IsNewPool, counted_run, packages-whole}
 use Rattle.replay.proofs.TurnKeeps.{AreKept}
@@ -174,44 +176,46 @@ pub record AreNone (counts : Counts) : Type 0 where
   pub waits : counts.waits ≡ 0
   pub gones : counts.gones ≡ 0
 
-module _ {S : Type 0} (pool : PoolNumbers) (report : Report) (before behind : Outside S) (numbers : ArePoolNumbers pool)
+module _ {S : Type 0} (route : Route) (report : Report) (before behind : Outside S) (numbers : ArePoolNumbers route.pool)
     (first : AreNone before.backend.counts) (last : AreNone behind.backend.counts) (sums : AreSums true report before behind)
-    (causes : HaveCauses pool report before behind)
-    (fulls : in_classes dials report.classes < pool.max_sessions → 1 ≤ met_for pool full report.clients
-    → pool.max_sessions ≤ in_classes dials report.classes + in_classes faults report.classes)
-    (unfull : length report.clients * most_legs ≤ pool.max_sessions → met_for pool full report.clients ≡ 0) where
-  links-none : met_for pool link report.clients ≡ 0
+    (causes : HaveCauses route.pool report before behind)
+    (fulls : in_classes dials report.classes < route.pool.max_sessions → 1 ≤ met_for route.pool full report.clients
+    → route.pool.max_sessions ≤ in_classes dials report.classes + in_classes faults report.classes)
+    (unfull : length report.clients * most_at_once route ≤ route.pool.max_sessions → met_for route.pool full report.clients ≡ 0) where
+  links-none : met_for route.pool link report.clients ≡ 0
   links-none = none-met _ before.backend.counts.faults behind.backend.counts.faults (omega (arith, first.faults)) (last.faults ∙ sym first.faults) (causes link)
 
-  silents-none : met_for pool silent report.clients ≡ 0
+  silents-none : met_for route.pool silent report.clients ≡ 0
   silents-none = none-met _ before.backend.counts.waits behind.backend.counts.waits (omega (arith, first.waits)) (last.waits ∙ sym first.waits) (causes silent)
 
-  gones-none : met_for pool gone report.clients ≡ 0
+  gones-none : met_for route.pool gone report.clients ≡ 0
   gones-none = none-met _ before.backend.counts.gones behind.backend.counts.gones (omega (arith, first.gones)) (last.gones ∙ sym first.gones) (causes gone)
 
   no-faults : in_classes faults report.classes ≡ 0
   no-faults = zero-sum (in_classes faults report.classes) before.backend.counts.faults behind.backend.counts.faults first.faults last.faults (sums faults refl)
 
-  fulls-none : in_classes dials report.classes < pool.max_sessions → met_for pool full report.clients ≡ 0
+  fulls-none : in_classes dials report.classes < route.pool.max_sessions → met_for route.pool full report.clients ≡ 0
   fulls-none few =
-      elim (cases_lt 0 (met_for pool full report.clients)) [
+      elim (cases_lt 0 (met_for route.pool full report.clients)) [
         | inl some ↦ let most = fulls few some in absurd (omega (arith, few, most, no-faults))
         | inr none ↦ omega (arith, none)
       ]
 
-  kinds-none : met_for pool full report.clients ≡ 0 → (kind : Caused) → met_for pool kind report.clients ≡ 0
+  kinds-none : met_for route.pool full report.clients ≡ 0 → (kind : Caused) → met_for route.pool kind report.clients ≡ 0
   kinds-none none link = links-none
   kinds-none none silent = silents-none
   kinds-none none gone = gones-none
   kinds-none none full = none
 
-  pub are-untroubled : IsUntroubled pool report
+  pub are-untroubled : IsUntroubled route report
   are-untroubled = record {
     unfailing = no-faults;
     none_gone = zero-sum (in_classes gones report.classes) before.backend.counts.gones behind.backend.counts.gones first.gones last.gones (sums gones tt);
-    marks = all-well pool numbers report.clients links-none silents-none gones-none;
-    few_links = λ few. clients-plain pool report.clients numbers (kinds-none (fulls-none few));
-    places = λ enough. clients-plain pool report.clients numbers (kinds-none (unfull enough));
+    marks = all-well route.pool numbers report.clients links-none silents-none gones-none;
+    few_links = λ few. clients-plain route.pool report.clients numbers (kinds-none (fulls-none few));
+    places = λ enough.
+        clients-plain route.pool report.clients numbers (kinds-none (unfull (fewer-enough route (length report.clients) route.pool.max_sessions enough)));
+    few_legs = λ enough. clients-plain route.pool report.clients numbers (kinds-none (unfull enough));
   }
 
 -- ---- over a wire
@@ -266,7 +270,7 @@ module _ {W S : Type 0} (w : world.Ghosts W) (t : sitting.Ghosts S W) (route : R
     (w0 w1 : Counts) (own0 own1 : Own) (none : own0.breaches ≡ 0) where
   pub untroubled : (exact : Bool) → before.backend.counts ≡ counts_over exact w0 own0 → behind.backend.counts ≡ counts_over exact w1 own1
       → GoesWell w t exact route events before behind → AreSums exact report before behind → HaveCauses route.pool report before behind
-      → FindsRoom report before behind → IsCountedBy w exact route w0 w1 report
+      → FindsRoom route report before behind → IsCountedBy w exact route w0 w1 report
       → IsUntroubledIf w exact route events w0 before.backend.happened report
   untroubled false first last goes sums causes room counted is und = absurd cc
   untroubled true first last goes sums causes room counted is und =
@@ -278,7 +282,7 @@ module _ {W S : Type 0} (w : world.Ghosts W) (t : sitting.Ghosts S W) (route : R
         gones = went.counts.gones tt ∙ no_first.gones;
       } in
       let unfailing = wire-faults w1 own1 (sym (ap (λ (c : Counts). c.faults) last) ∙ no_last.faults) in
-      are-untroubled route.pool report before behind numbers no_first no_last sums causes
+      are-untroubled route report before behind numbers no_first no_last sums causes
       (few-full w route report w0 w1 new.few und.uncounted unfailing und.told counted)
       (λ enough. never-full route report before behind new causes (room (new-door before.door new.none new.told new.fulls) (most-as route before new enough)))
 
@@ -288,7 +292,7 @@ pub untroubled_ok : {E : Type 0} (W S : Type 0) (w : world.Ghosts W) (t : sittin
     → (w0 w1 : Counts) (own0 own1 : Own) → own0.breaches ≡ 0
     → before.backend.counts ≡ counts_over exact w0 own0 → behind.backend.counts ≡ counts_over exact w1 own1
     → IfOk result (λ report. AreSums exact report before behind) → IfOk result (λ report. HaveCauses route.pool report before behind)
-    → IfOk result (λ report. AreDialled before behind) → IfOk result (λ report. FindsRoom report before behind)
+    → IfOk result (λ report. AreDialled before behind) → IfOk result (λ report. FindsRoom route report before behind)
     → IfOk result (IsUntroubledIf w exact route events w0 before.backend.happened)
 untroubled_ok W S w t exact route events before behind (Ok report) run goes new numbers w0 w1 own0 own1 none e f sums causes dialled room =
     untroubled w t route events before behind report new numbers w0 w1 own0 own1 none exact e f goes sums causes room

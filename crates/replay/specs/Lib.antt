@@ -8,5 +8,6 @@ pub mod Marks
 pub mod Wires
 pub mod Twice
 pub mod Uncaused
+pub mod Places
 pub mod Undisturbed
 pub mod steps

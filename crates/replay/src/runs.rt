@@ -61,7 +61,7 @@ pub fn run_over<W: World, B: Backend<W> + Events, D: Door<W, B::Session>>(
         (outside_of D.Door B.Watched door.new backend.new)) }
 
     // A new pool that has places for the legs of all clients is never full.
-    ensures room { IfOk result (λ report. FindsRoom report
+    ensures room { IfOk result (λ report. FindsRoom route.now report
         (outside_of D.Door B.Watched door.old backend.old)
         (outside_of D.Door B.Watched door.new backend.new)) }
 

@@ -2,7 +2,6 @@
 use Rattle.std.proofs.Common.{◌≡◌, ◌∙◌, ◌*◌, ◌≤◌, Bool, true, false, List, Option, None, Some, Result, Ok, Err, length, sym, ap, subst, arith}
 use Rattle.std.specs.List.{AllByRecursion}
 use Rattle.std.specs.Prelude.{IfOk}
-use Rattle.z_types.specs.Bounds.{most_legs}
 use Rattle.z_types.specs.Pending.{resting}
 use Rattle.z_types.specs.declared.sitting.Sitting as sitting
 use Rattle.z_types.specs.declared.world.World as world
@@ -22,9 +21,12 @@ use Rattle.script.specs.declared.event.Event.{Event}
 use Rattle.conn_quiet.specs.steps.Bearing.{AreBearable, AreCutOnceMade, DialsGoOn, FaresAt, IsBearable, IsBorneBy}
 use Rattle.conn_quiet.specs.steps.Whole.{AreIdle, IsIdleSession}
 use Rattle.replay.specs.Counts.{HaveCauses}
+use Rattle.replay.specs.Places.{most_at_once}
 use Rattle.replay.specs.Trace.{IsRunOf}
+use Rattle.replay.specs.Uncaused.{AreAllPlain}
 use Rattle.replay.specs.declared.reports.Report.{Report}
 use Rattle.replay.specs.steps.Room.{FindsRoom}
+use Rattle.replay.proofs.AskedLemmas.{fewer-enough}
 use Rattle.replay.proofs.MovesLemmas.{HasNoSession, IsNewPool}
 use Rattle.replay.proofs.UndisturbedLemmas.{most-as, new-door}
 use Rattle.replay_laws.specs.Borne.{BorneIsPlain, BorneIsPlainOrFull, IsBorne, IsBorneIf, IsBorneRun, WasNeverFull}
@@ -61,7 +63,7 @@ new-borne w t route before new numbers quiet = record {
 -- ---- a door that is never full
 
 never-full : {S : Type 0} (route : Route) (report : Report) (before behind : Outside S) → IsNewPool route before
-    → FindsRoom report before behind → length report.clients * most_legs ≤ route.pool.max_sessions → WasNeverFull before behind
+    → FindsRoom route report before behind → length report.clients * most_at_once route ≤ route.pool.max_sessions → WasNeverFull before behind
 never-full route report before behind new room enough = record {
   below = (let none = new.fulls in omega (arith, none));
   still = room (new-door before.door new.none new.told new.fulls) (most-as route before new enough) ∙ sym new.fulls;
@@ -88,12 +90,14 @@ module _ {W S : Type 0} (w : world.Ghosts W) (t : sitting.Ghosts S W) (exact : B
 
   borne-wire : BorneIsPlainOrFull w t → BorneIsPlain w t → QuietDisturbsNobody w t → IsNewPool route before → ArePoolNumbers route.pool
       → (w1 : Counts) (own1 : Own) → behind.backend.counts ≡ counts_over exact w1 own1 → HaveCauses route.pool report before behind
-      → FindsRoom report before behind → IsBorneIf w exact route events before.backend.happened w1 report
+      → FindsRoom route report before behind → IsBorneIf w exact route events before.backend.happened w1 report
   borne-wire marks plain disturbs new numbers w1 own1 f causes room is borne go =
-      let one = borne-run disturbs new numbers borne (over-dials exact w1 behind.backend.counts own1 is f go) in record {
+      let one = borne-run disturbs new numbers borne (over-dials exact w1 behind.backend.counts own1 is f go) in
+      let all : length report.clients * most_at_once route ≤ route.pool.max_sessions → AreAllPlain report.clients = λ enough.
+      plain exact route events before behind report run is one causes (never-full route report before behind new room enough) in record {
         marks = marks exact route events before behind report run is one;
-        places = λ enough.
-            plain exact route events before behind report run is one causes (never-full route report before behind new room enough);
+        places = λ enough. all (fewer-enough route (length report.clients) route.pool.max_sessions enough);
+        few_legs = all;
       }
 
 -- so is one whose backend is over the wire, and counts by it behind the replay
@@ -101,7 +105,7 @@ pub borne_ok : {E : Type 0} (W S : Type 0) (w : world.Ghosts W) (t : sitting.Gho
     (before behind : Outside S) (result : Result Report E) → IfOk result (IsRunOf w t exact route events before behind)
     → BorneIsPlainOrFull w t → BorneIsPlain w t → QuietDisturbsNobody w t → IsNewPool route before → ArePoolNumbers route.pool
     → (w1 : Counts) (own1 : Own) → behind.backend.counts ≡ counts_over exact w1 own1
-    → IfOk result (λ report. HaveCauses route.pool report before behind) → IfOk result (λ report. FindsRoom report before behind)
+    → IfOk result (λ report. HaveCauses route.pool report before behind) → IfOk result (λ report. FindsRoom route report before behind)
     → IfOk result (IsBorneIf w exact route events before.backend.happened w1)
 borne_ok W S w t exact route events before behind (Ok report) run marks plain disturbs new numbers w1 own1 f causes room =
     borne-wire w t exact route events before behind report run marks plain disturbs new numbers w1 own1 f causes room

@@ -14,6 +14,7 @@ use Rattle.script.specs.declared.event.Event.TheVariants.{Gone, Slow}
 use Rattle.conn_costs.specs.steps.Growth.{last64}
 use Rattle.conn_quiet.specs.steps.Bearing.{DialsGoOn, IsBorneBy}
 use Rattle.replay.specs.Counts.{HaveCauses}
+use Rattle.replay.specs.Places.{most_at_once}
 use Rattle.replay.specs.Trace.{IsRunOf}
 use Rattle.replay.specs.Uncaused.{AreAllPlain}
 use Rattle.replay.specs.Undisturbed.{IsPlainOrFull}
@@ -75,13 +76,15 @@ pub record IsBorne {W : Type 0} (w : world.Ghosts W) (route : Route) (events : L
   pub quiet : AreQuiet happened
   pub told : AreTold w route
 
--- each mark is Plain or Full, and all are Plain where there may be as many sessions of a class as the clients have legs at most
-pub record AreBorneMarks (pool : PoolNumbers) (report : Report) : Type 0 where
+-- each mark is Plain or Full, and all are Plain where there may be as many sessions of a class as the clients have legs at most, by the
+-- bound of any request or by the route
+pub record AreBorneMarks (route : Route) (report : Report) : Type 0 where
   pub marks : AreAllPlainOrFull report.clients
-  pub places : length report.clients * most_legs ≤ pool.max_sessions → AreAllPlain report.clients
+  pub places : length report.clients * most_legs ≤ route.pool.max_sessions → AreAllPlain report.clients
+  pub few_legs : length report.clients * most_at_once route ≤ route.pool.max_sessions → AreAllPlain report.clients
 
 -- a wire whose counts are exact, and whose count of links is below its last value behind the replay, leaves such marks where it was borne
 abbrev pub IsBorneIf : {W : Type 0} → world.Ghosts W → (exact : Bool) → Route → List Event → Happened → (behind : Counts) → Report
     → Type 0
 IsBorneIf w exact route events happened behind report =
-    exact ≡ true → IsBorne w route events happened → DialsGoOn behind → AreBorneMarks route.pool report
+    exact ≡ true → IsBorne w route events happened → DialsGoOn behind → AreBorneMarks route report
