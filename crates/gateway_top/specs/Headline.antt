@@ -15,10 +15,11 @@
 -- Where the script cuts and slows no link and deletes no set, over a wire to which nothing was made to happen before and
 -- whose counts are exact and stood at 0, at targets that tell what they answer, no call failed and no set was gone, and
 -- every mark is Plain or Full; and Plain, where fewer links were made than there may be sessions of a class, or where
--- there may be 16 of them for each client that the script names. So are all marks where links are cut, replies are late
--- and sets are deleted, over such a wire whatever it counted, if no cut and no deletion falls while a request is in work
--- (at each, every client that took a step was run since), no more Presents find their sets deleted than the pool repeats,
--- and replies come within its patience.
+-- there may be, for each client that the script names, as many as the route's databases have legs together, or 16 where
+-- they have more. So are all marks where links are cut, replies are late and sets are deleted, over such a wire whatever
+-- it counted, if no cut and no deletion falls while a request is in work, no more Presents find their sets deleted than
+-- the pool repeats, and replies come within its patience. Which requests are in work at each event is seen in what the
+-- replay went through; where every client that took a step was run since, none is.
 -- And where a script is orderly over such a wire without links (no two requests are in work at once, nothing befalls a
 -- link, the legs of each request go to different classes, and the sets of a class find room in one session), every mark
 -- is Plain, and the searches and dials that are printed are those that sharing needs, class by class: they are counted
@@ -43,7 +44,7 @@ use Rattle.gateway_config.specs.declared.status.Status.TheVariants.{Ok}
 use Rattle.gateway_top.specs.Outside.{WireCalls}
 
 -- the configuration and the script were replayed, and the page is what was printed
-pub record IsReplay {W : Type 0} (w : world.Ghosts W) (calls : WireCalls) (config script : List ℕ)
+pub record IsReplay {W S : Type 0} (w : world.Ghosts W) (calls : WireCalls W S) (config script : List ℕ)
     (writes : SinkWrites) : Type 0 where
   pub route : Route
   pub configured : IsConfigurationOf route config
@@ -58,7 +59,7 @@ pub record IsCheck (config : List ℕ) (writes : SinkWrites) : Type 0 where
   pub printed : Received writes (check_line route)
 
 -- `replay` at Ok: the files that it names were replayed, where they are told
-abbrev pub IsReplayHeadline : {W : Type 0} → world.Ghosts W → WireCalls → List (List ℕ) → FileReads → SinkWrites
+abbrev pub IsReplayHeadline : {W S : Type 0} → world.Ghosts W → WireCalls W S → List (List ℕ) → FileReads → SinkWrites
     → Status → Type 0
 IsReplayHeadline w calls words reads writes ended =
     (config script config_text script_text : List ℕ)
@@ -68,7 +69,7 @@ IsReplayHeadline w calls words reads writes ended =
 
 -- `load` at Ok: so many clients were played, and one line of a report of them was printed, as that of a
 -- replay is one by its events
-abbrev pub IsLoadHeadline : {W : Type 0} → world.Ghosts W → WireCalls → List (List ℕ) → SinkWrites → Status
+abbrev pub IsLoadHeadline : {W S : Type 0} → world.Ghosts W → WireCalls W S → List (List ℕ) → SinkWrites → Status
     → Type 0
 IsLoadHeadline w calls words writes ended =
     (number : List ℕ) (clients : ℕ)

@@ -37,12 +37,12 @@ own_text (word ∷ []) = text_of_word word
 own_text words = None
 
 -- a text of the program's own was asked for, or else a command
-abbrev pub ToldOrDone : {W : Type 0} → world.Ghosts W → WireCalls → Option (List ℕ) → List (List ℕ) → FileReads
+abbrev pub ToldOrDone : {W S : Type 0} → world.Ghosts W → WireCalls W S → Option (List ℕ) → List (List ℕ) → FileReads
     → SinkWrites → Status → Type 0
 ToldOrDone w calls (Some text) words reads writes ended = IsTold text writes ended
 ToldOrDone w calls None words reads writes ended = IsDone w calls words reads writes ended
 
 -- what the program did at these words
-abbrev pub IsProgramDone : {W : Type 0} → world.Ghosts W → WireCalls → List (List ℕ) → FileReads → SinkWrites
+abbrev pub IsProgramDone : {W S : Type 0} → world.Ghosts W → WireCalls W S → List (List ℕ) → FileReads → SinkWrites
     → Status → Type 0
 IsProgramDone w calls words reads writes ended = ToldOrDone w calls (own_text words) words reads writes ended

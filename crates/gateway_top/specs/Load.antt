@@ -10,16 +10,12 @@ use Rattle.replay.specs.declared.reports.ClassReport.{ClassReport}
 use Rattle.replay.specs.declared.reports.ClientReport.{ClientReport}
 use Rattle.replay.specs.declared.reports.Report.{Report}
 use Rattle.replay.specs.Page.{requests}
-use Rattle.replay.specs.Report.{IsReportOf}
-use Rattle.replay.specs.Undisturbed.{IsUntroubledIf}
-use Rattle.replay.specs.Wires.{IsCountedBy}
-use Rattle.replay_laws.specs.Borne.{IsBorneIf}
-use Rattle.replay_shares.specs.Shares.{SharesIfOrderlyOver}
 use Rattle.gateway_config.specs.Lines.{Received, ReceivedNothing, FailedWithin, line_of}
 use Rattle.gateway_config.specs.Outside.{SinkWrites}
 use Rattle.gateway_config.specs.declared.status.Status.{Status}
 use Rattle.gateway_config.specs.declared.status.Status.TheVariants as status
 use Rattle.gateway_top.specs.Outside.{WireCalls}
+use Rattle.gateway_top.specs.Reported.{IsPlayedReport}
 
 -- the mark of an answer that no target and no pool failed
 abbrev pub is_plain : Mark → Bool
@@ -56,28 +52,20 @@ load_line clients report =
 
 -- the load of so many clients was played by the route of the smallest configuration, and the line of
 -- one report of it was printed, and nothing else
-pub record HasLoaded {W : Type 0} (w : world.Ghosts W) (calls : WireCalls) (clients : ℕ) (writes : SinkWrites) : Type 0 where
+pub record HasLoaded {W S : Type 0} (w : world.Ghosts W) (calls : WireCalls W S) (clients : ℕ) (writes : SinkWrites) : Type 0 where
   pub report : Report
-  pub right : IsReportOf w smallest_route (load_events clients) report
-  pub counted : IsCountedBy w calls.exact smallest_route calls.before calls.behind report
-  pub untroubled : IsUntroubledIf w calls.exact smallest_route (load_events clients) calls.before calls.happened report
-  pub borne : IsBorneIf w calls.exact smallest_route (load_events clients) calls.happened calls.behind report
-  pub shared : SharesIfOrderlyOver w calls.exact smallest_route (load_events clients) calls.before calls.happened report
+  pub played : IsPlayedReport w calls smallest_route (load_events clients) report
   pub printed : Received writes (load_line clients report)
 
 -- the same, of which a front of the line was printed, and nothing else, since a write failed
-pub record HasLoadedPart {W : Type 0} (w : world.Ghosts W) (calls : WireCalls) (clients : ℕ) (writes : SinkWrites) : Type 0 where
+pub record HasLoadedPart {W S : Type 0} (w : world.Ghosts W) (calls : WireCalls W S) (clients : ℕ) (writes : SinkWrites) : Type 0 where
   pub report : Report
-  pub right : IsReportOf w smallest_route (load_events clients) report
-  pub counted : IsCountedBy w calls.exact smallest_route calls.before calls.behind report
-  pub untroubled : IsUntroubledIf w calls.exact smallest_route (load_events clients) calls.before calls.happened report
-  pub borne : IsBorneIf w calls.exact smallest_route (load_events clients) calls.happened calls.behind report
-  pub shared : SharesIfOrderlyOver w calls.exact smallest_route (load_events clients) calls.before calls.happened report
+  pub played : IsPlayedReport w calls smallest_route (load_events clients) report
   pub printed : FailedWithin writes (load_line clients report)
 
 -- the load of so many clients was played: its line is printed, or a front of it where the sink failed,
 -- or nothing for want of memory
-abbrev pub LoadDone : {W : Type 0} → world.Ghosts W → WireCalls → (clients : ℕ) → SinkWrites → Status → Type 0
+abbrev pub LoadDone : {W S : Type 0} → world.Ghosts W → WireCalls W S → (clients : ℕ) → SinkWrites → Status → Type 0
 LoadDone w calls clients writes status.Ok = HasLoaded w calls clients writes
 LoadDone w calls clients writes status.WriteFault = HasLoadedPart w calls clients writes
 LoadDone w calls clients writes status.Memory = ReceivedNothing writes

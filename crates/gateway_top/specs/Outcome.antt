@@ -7,12 +7,7 @@ use Rattle.script.specs.declared.event.Event.{Event}
 use Rattle.script.specs.declared.faults.ScriptFault.TheVariants.{Line, TooMany}
 use Rattle.script.specs.Script.{script_of}
 use Rattle.replay.specs.declared.reports.Report.{Report}
-use Rattle.replay.specs.Report.{IsReportOf}
 use Rattle.replay.specs.Page.{page}
-use Rattle.replay.specs.Undisturbed.{IsUntroubledIf}
-use Rattle.replay.specs.Wires.{IsCountedBy}
-use Rattle.replay_laws.specs.Borne.{IsBorneIf}
-use Rattle.replay_shares.specs.Shares.{SharesIfOrderlyOver}
 use Rattle.gateway_config.specs.ConfigRead.{IsUnread}
 use Rattle.gateway_config.specs.Configs.{IsTaken, IsRefusedConfig}
 use Rattle.gateway_config.specs.Lines.{Received, ReceivedNothing, FailedWithin, Says, usage_line}
@@ -24,32 +19,25 @@ use Rattle.gateway_top.specs.Lines.{check_line, real_target_line, script_line}
 use Rattle.gateway_top.specs.Load.{LoadDone}
 use Rattle.gateway_top.specs.Targets.{first_real}
 use Rattle.gateway_top.specs.Outside.{WireCalls}
+use Rattle.gateway_top.specs.Reported.{IsPlayedReport}
 
 -- the page of one report of the events was printed, and nothing else
-pub record HasPrinted {W : Type 0} (w : world.Ghosts W) (calls : WireCalls) (route : Route) (events : List Event)
+pub record HasPrinted {W S : Type 0} (w : world.Ghosts W) (calls : WireCalls W S) (route : Route) (events : List Event)
     (writes : SinkWrites) : Type 0 where
   pub report : Report
-  pub right : IsReportOf w route events report
-  pub counted : IsCountedBy w calls.exact route calls.before calls.behind report
-  pub untroubled : IsUntroubledIf w calls.exact route events calls.before calls.happened report
-  pub borne : IsBorneIf w calls.exact route events calls.happened calls.behind report
-  pub shared : SharesIfOrderlyOver w calls.exact route events calls.before calls.happened report
+  pub played : IsPlayedReport w calls route events report
   pub printed : Received writes (page report)
 
 -- a front of the page of one report of the events was printed, and nothing else, since a write failed
-pub record HasPrintedPart {W : Type 0} (w : world.Ghosts W) (calls : WireCalls) (route : Route) (events : List Event)
+pub record HasPrintedPart {W S : Type 0} (w : world.Ghosts W) (calls : WireCalls W S) (route : Route) (events : List Event)
     (writes : SinkWrites) : Type 0 where
   pub report : Report
-  pub right : IsReportOf w route events report
-  pub counted : IsCountedBy w calls.exact route calls.before calls.behind report
-  pub untroubled : IsUntroubledIf w calls.exact route events calls.before calls.happened report
-  pub borne : IsBorneIf w calls.exact route events calls.happened calls.behind report
-  pub shared : SharesIfOrderlyOver w calls.exact route events calls.before calls.happened report
+  pub played : IsPlayedReport w calls route events report
   pub printed : FailedWithin writes (page report)
 
 -- the events were played: their page is printed, or a front of it where the sink failed, or nothing
 -- for want of memory
-abbrev pub Played : {W : Type 0} → world.Ghosts W → WireCalls → Route → List Event → SinkWrites → Status
+abbrev pub Played : {W S : Type 0} → world.Ghosts W → WireCalls W S → Route → List Event → SinkWrites → Status
     → Type 0
 Played w calls route events writes status.Ok = HasPrinted w calls route events writes
 Played w calls route events writes status.WriteFault = HasPrintedPart w calls route events writes
@@ -78,7 +66,7 @@ IsNoScript route number text =
     ⊎ ((length text ≤ script_limit) × IsRefusedAt route number text)
 
 -- a script of these octets, where they are told, was played
-abbrev pub EventsPlayed : {W : Type 0} → world.Ghosts W → WireCalls → Route → Option (List ℕ) → SinkWrites
+abbrev pub EventsPlayed : {W S : Type 0} → world.Ghosts W → WireCalls W S → Route → Option (List ℕ) → SinkWrites
     → Status → Type 0
 EventsPlayed w calls route contents writes status =
     (events : List Event) × IfSome contents (IsPlayable route events)
@@ -86,7 +74,7 @@ EventsPlayed w calls route contents writes status =
 
 -- a script of these octets, where they are told, was played; or it is refused, at the line that is
 -- printed
-abbrev pub ScriptPlayed : {W : Type 0} → world.Ghosts W → WireCalls → Route → Option (List ℕ) → SinkWrites
+abbrev pub ScriptPlayed : {W S : Type 0} → world.Ghosts W → WireCalls W S → Route → Option (List ℕ) → SinkWrites
     → Status → Type 0
 ScriptPlayed w calls route contents writes status.Ok = EventsPlayed w calls route contents writes status.Ok
 ScriptPlayed w calls route contents writes status.WriteFault =
@@ -97,7 +85,7 @@ ScriptPlayed w calls route contents writes status.Memory = ReceivedNothing write
 ScriptPlayed w calls route contents writes other = ⊥
 
 -- the script of a name was played, or could not be read
-abbrev pub ScriptDone : {W : Type 0} → world.Ghosts W → WireCalls → Route → List ℕ → FileReads → SinkWrites
+abbrev pub ScriptDone : {W S : Type 0} → world.Ghosts W → WireCalls W S → Route → List ℕ → FileReads → SinkWrites
     → Status → Type 0
 ScriptDone w calls route script reads writes status.ReadFault = IsUnread script reads writes
 ScriptDone w calls route script reads writes other =
@@ -105,21 +93,21 @@ ScriptDone w calls route script reads writes other =
 
 -- a route with test targets alone is played with the script; another is refused by its first other
 -- target
-abbrev pub RoutePlayed : {W : Type 0} → world.Ghosts W → WireCalls → Option (List ℕ) → Route → List ℕ
+abbrev pub RoutePlayed : {W S : Type 0} → world.Ghosts W → WireCalls W S → Option (List ℕ) → Route → List ℕ
     → FileReads → SinkWrites → Status → Type 0
 RoutePlayed w calls (Some name) route script reads writes ended =
     (ended ≡ status.RealTarget) × Says writes (real_target_line name)
 RoutePlayed w calls None route script reads writes ended = ScriptDone w calls route script reads writes ended
 
 -- a configuration was taken, and its route played
-abbrev pub TakenAndPlayed : {W : Type 0} → world.Ghosts W → WireCalls → List ℕ → List ℕ → FileReads → SinkWrites
+abbrev pub TakenAndPlayed : {W S : Type 0} → world.Ghosts W → WireCalls W S → List ℕ → List ℕ → FileReads → SinkWrites
     → Status → Type 0
 TakenAndPlayed w calls config script reads writes ended =
     (route : Route) × IsTaken config reads route
     × RoutePlayed w calls (first_real route) route script reads writes ended
 
 -- Config exactly where the configuration is refused; and else its route and the script decide
-abbrev pub ReplayDone : {W : Type 0} → world.Ghosts W → WireCalls → List ℕ → List ℕ → FileReads → SinkWrites
+abbrev pub ReplayDone : {W S : Type 0} → world.Ghosts W → WireCalls W S → List ℕ → List ℕ → FileReads → SinkWrites
     → Status → Type 0
 ReplayDone w calls config script reads writes status.Config = IsRefusedConfig config reads writes
 ReplayDone w calls config script reads writes status.Memory = ReceivedNothing writes
@@ -139,7 +127,7 @@ CheckDone config reads writes status.Memory = ReceivedNothing writes
 CheckDone config reads writes other = ⊥
 
 -- Words exactly where the words are no command
-abbrev pub CommandDone : {W : Type 0} → world.Ghosts W → WireCalls → Option (List ℕ) → Option (List ℕ × List ℕ)
+abbrev pub CommandDone : {W S : Type 0} → world.Ghosts W → WireCalls W S → Option (List ℕ) → Option (List ℕ × List ℕ)
     → Option ℕ → FileReads → SinkWrites → Status → Type 0
 CommandDone w calls (Some config) replayed loaded reads writes ended = CheckDone config reads writes ended
 CommandDone w calls None (Some (config, script)) loaded reads writes ended =
@@ -148,7 +136,7 @@ CommandDone w calls None None (Some clients) reads writes ended = LoadDone w cal
 CommandDone w calls None None None reads writes ended = (ended ≡ status.Words) × Says writes usage_line
 
 -- what these words did
-abbrev pub IsDone : {W : Type 0} → world.Ghosts W → WireCalls → List (List ℕ) → FileReads → SinkWrites → Status
+abbrev pub IsDone : {W S : Type 0} → world.Ghosts W → WireCalls W S → List (List ℕ) → FileReads → SinkWrites → Status
     → Type 0
 IsDone w calls words reads writes ended =
     CommandDone w calls (check_of words) (replay_of words) (load_of words) reads writes ended

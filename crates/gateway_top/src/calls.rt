@@ -16,7 +16,8 @@ use gateway_config::{ConfigRead, Status, USAGE, read_config, refuse_config, say,
 use gw_outside::{Events, Files, Sink, Wire, write_all};
 use route_config::Route;
 use std::alloc::Global;
-use z_types::{Text, World};
+use z_client::ZSession;
+use z_types::{Sitting, Text, World};
 
 /// Does what the words after the program's name say, and answers how it ended. It prints only when
 /// its work is done. The words are refused first, then the configuration, then a target that is no test
@@ -30,7 +31,8 @@ pub fn top<W: World, N: Wire<W> + Events, F: Files, K: Sink>(
 ) -> Status
     // At Ok the page of one report is printed, of the answers that a route with private sessions gives,
     // of sums that the wire counted, and of marks that have their counted cause.
-    ensures headline { IsReplayHeadline W.World (wire_calls N.Watched wire.old wire.new) words.now
+    ensures headline { IsReplayHeadline W.World
+        (wire_calls N.Watched ⟦<ZSession<W, N::Link> as Sitting<W>>⟧ wire.old wire.new) words.now
         (file_reads F.Files files.old files.new) (sink_writes K.Sink out.old out.new) result }
 
     // At Ok of `check` the sizes of the configuration's route are printed.
@@ -38,11 +40,13 @@ pub fn top<W: World, N: Wire<W> + Events, F: Files, K: Sink>(
         (file_reads F.Files files.old files.new) (sink_writes K.Sink out.old out.new) result }
 
     // At Ok of `load` the line of one report is printed, of the events of so many clients.
-    ensures loaded { IsLoadHeadline W.World (wire_calls N.Watched wire.old wire.new) words.now
+    ensures loaded { IsLoadHeadline W.World
+        (wire_calls N.Watched ⟦<ZSession<W, N::Link> as Sitting<W>>⟧ wire.old wire.new) words.now
         (sink_writes K.Sink out.old out.new) result }
 
     // Each status comes exactly as its definition says, with what is printed.
-    ensures done { IsDone W.World (wire_calls N.Watched wire.old wire.new) words.now
+    ensures done { IsDone W.World
+        (wire_calls N.Watched ⟦<ZSession<W, N::Link> as Sitting<W>>⟧ wire.old wire.new) words.now
         (file_reads F.Files files.old files.new) (sink_writes K.Sink out.old out.new) result }
 {
     if let Some(config) = check_of(words) {
@@ -98,7 +102,9 @@ fn replay<W: World, N: Wire<W> + Events, F: Files, K: Sink>(
     out: &mut K,
     wire: &mut N,
 ) -> Status
-    ensures { ReplayDone W.World (wire_calls N.Watched wire.old wire.new) config.now script.now
+    ensures { ReplayDone W.World
+        (wire_calls N.Watched ⟦<ZSession<W, N::Link> as Sitting<W>>⟧ wire.old wire.new)
+        config.now script.now
         (file_reads F.Files files.old files.new) (sink_writes K.Sink out.old out.new) result }
 {
     match read_config(alloc, files, config) {
@@ -119,7 +125,8 @@ fn play_route<W: World, N: Wire<W> + Events, F: Files, K: Sink>(
     wire: &mut N,
 ) -> Status
     ensures { IsMemoryOr result (sink_writes K.Sink out.old out.new)
-        (RoutePlayed W.World (wire_calls N.Watched wire.old wire.new)
+        (RoutePlayed W.World
+        (wire_calls N.Watched ⟦<ZSession<W, N::Link> as Sitting<W>>⟧ wire.old wire.new)
         (first_real route.now) route.now script.now
         (file_reads F.Files files.old files.new) (sink_writes K.Sink out.old out.new) result) }
 {

@@ -10,7 +10,8 @@ use crate::calls::top;
 use gateway_config::{Status, print_text};
 use gw_outside::{Events, Files, Sink, Wire};
 use std::alloc::Global;
-use z_types::{Text, World};
+use z_client::ZSession;
+use z_types::{Sitting, Text, World};
 
 /// What `--help` prints.
 const HELP: &[u8] = b"Zaklumen, a gateway for Z39.50 and SRU.\n\n\
@@ -33,7 +34,8 @@ pub fn command<W: World, N: Wire<W> + Events, F: Files, K: Sink>(
     out: &mut K,
     wire: &mut N,
 ) -> Status
-    ensures { IsProgramDone W.World (wire_calls N.Watched wire.old wire.new) words.now
+    ensures { IsProgramDone W.World
+        (wire_calls N.Watched ⟦<ZSession<W, N::Link> as Sitting<W>>⟧ wire.old wire.new) words.now
         (file_reads F.Files files.old files.new) (sink_writes K.Sink out.old out.new) result }
 {
     match own_text(words) {

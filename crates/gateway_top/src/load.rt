@@ -6,14 +6,10 @@ ghost use Rattle.script.specs.Events.{most_clients};
 ghost use Rattle.route_config.specs.Smallest.{smallest_route};
 ghost use Rattle.sample_maker.specs.Load.{load_events};
 ghost use Rattle.replay.specs.Page.{requests};
-ghost use Rattle.replay.specs.Report.{IsReportOf};
-ghost use Rattle.replay.specs.Undisturbed.{IsUntroubledIf};
-ghost use Rattle.replay.specs.Wires.{IsCountedBy};
-ghost use Rattle.replay_laws.specs.Borne.{IsBorneIf};
-ghost use Rattle.replay_shares.specs.Shares.{SharesIfOrderlyOver};
 ghost use Rattle.gateway_top.specs.Load.{LoadDone, is_plain, links_made, load_line, octets_written, plain_requests, searches_sent};
 ghost use Rattle.gateway_config.specs.Outside.{sink_writes};
 ghost use Rattle.gateway_top.specs.Outside.{wire_calls};
+ghost use Rattle.gateway_top.specs.Reported.{IsPlayedReport};
 
 use gateway_config::Status;
 use gw_outside::{Events, Sink, Wire, write_all};
@@ -22,7 +18,8 @@ use replay_top::run;
 use route_config::Route;
 use sample_maker::make;
 use std::alloc::Global;
-use z_types::{Mark, Memory, Text, World};
+use z_client::ZSession;
+use z_types::{Mark, Memory, Sitting, Text, World};
 
 /// Plays the load of so many clients by the route of the smallest configuration, and prints its line.
 pub(crate) fn load<W: World, N: Wire<W> + Events, K: Sink>(
@@ -32,7 +29,8 @@ pub(crate) fn load<W: World, N: Wire<W> + Events, K: Sink>(
     wire: &mut N,
 ) -> Status
     requires { clients ≤ most_clients }
-    ensures { LoadDone W.World (wire_calls N.Watched wire.old wire.new) clients
+    ensures { LoadDone W.World
+        (wire_calls N.Watched ⟦<ZSession<W, N::Link> as Sitting<W>>⟧ wire.old wire.new) clients
         (sink_writes K.Sink out.old out.new) result }
 {
     let Ok(report) = play_load::<W, N>(alloc, clients, wire) else {
@@ -55,15 +53,9 @@ fn play_load<W: World, N: Wire<W> + Events>(
     wire: &mut N,
 ) -> Result<Report, Memory>
     requires { clients ≤ most_clients }
-    ensures report { IfOk result (IsReportOf W.World smallest_route (load_events clients)) }
-    ensures counted { IfOk result (IsCountedBy W.World N.exact smallest_route
-        (N.counts wire.old) (N.counts wire.new)) }
-    ensures untroubled { IfOk result (IsUntroubledIf W.World N.exact smallest_route
-        (load_events clients) (N.counts wire.old) (N.happened wire.old)) }
-    ensures borne { IfOk result (IsBorneIf W.World N.exact smallest_route
-        (load_events clients) (N.happened wire.old) (N.counts wire.new)) }
-    ensures shared { IfOk result (SharesIfOrderlyOver W.World N.exact smallest_route
-        (load_events clients) (N.counts wire.old) (N.happened wire.old)) }
+    ensures { IfOk result (IsPlayedReport W.World
+        (wire_calls N.Watched ⟦<ZSession<W, N::Link> as Sitting<W>>⟧ wire.old wire.new)
+        smallest_route (load_events clients)) }
 {
     let route = Route::smallest(alloc)?;
     let events = make(alloc, clients)?;

@@ -14,7 +14,8 @@ use replay_top::run;
 use route_config::{Route, target_names};
 use script::{Event, ScriptFault, read_script};
 use std::alloc::Global;
-use z_types::{List, Text, World};
+use z_client::ZSession;
+use z_types::{List, Sitting, Text, World};
 
 /// The most octets of a script.
 const SCRIPT_LIMIT: usize = 16_777_216;
@@ -28,7 +29,9 @@ pub(crate) fn play_script<W: World, N: Wire<W> + Events, F: Files, K: Sink>(
     name: &Text,
     out: &mut K,
 ) -> Status
-    ensures { ScriptDone W.World (wire_calls N.Watched wire.old wire.new) route.now name.now
+    ensures { ScriptDone W.World
+        (wire_calls N.Watched ⟦<ZSession<W, N::Link> as Sitting<W>>⟧ wire.old wire.new)
+        route.now name.now
         (file_reads F.Files files.old files.new) (sink_writes K.Sink out.old out.new) result }
 {
     match files.read_all(alloc, name, SCRIPT_LIMIT) {
@@ -48,7 +51,8 @@ fn play_text<W: World, N: Wire<W> + Events, K: Sink>(
     out: &mut K,
 ) -> Status
     requires { length text.now ≤ 16777216 }
-    ensures { ScriptPlayed W.World (wire_calls N.Watched wire.old wire.new) route.now
+    ensures { ScriptPlayed W.World
+        (wire_calls N.Watched ⟦<ZSession<W, N::Link> as Sitting<W>>⟧ wire.old wire.new) route.now
         (Some text.now) (sink_writes K.Sink out.old out.new) result }
 {
     let Ok(names) = target_names(alloc, route) else {
@@ -84,8 +88,9 @@ fn play<W: World, N: Wire<W> + Events, K: Sink>(
     out: &mut K,
 ) -> Status
     requires { (targets : ℕ) × AreEvents targets events.now }
-    ensures { Played W.World (wire_calls N.Watched wire.old wire.new) route.now events.now
-        (sink_writes K.Sink out.old out.new) result }
+    ensures { Played W.World
+        (wire_calls N.Watched ⟦<ZSession<W, N::Link> as Sitting<W>>⟧ wire.old wire.new)
+        route.now events.now (sink_writes K.Sink out.old out.new) result }
 {
     let Ok(report) = run(alloc, route, events, wire) else {
         return Status::Memory;

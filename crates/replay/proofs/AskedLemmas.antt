@@ -1,8 +1,8 @@
 -- what is asked of legs, and which works are asked for: no more legs than a route has
-use Rattle.std.proofs.Common.{ℕ, ◌*◌, ◌≤◌, Bool, true, false, cond, List, [], ◌∷◌, length, map, find, Option, None, Some, Result, Ok, Err, arith}
+use Rattle.std.proofs.Common.{ℕ, ◌≤◌, Bool, true, false, cond, List, [], ◌∷◌, length, map, find, Option, None, Some, Result, Ok, Err, arith}
 use Rattle.std.specs.List.{AllByRecursion, range_with_len, slice_get}
 use Rattle.std.specs.Prelude.{IfSome, ◌==◌, if◌then◌else◌, nat_abs}
-use Rattle.std.proofs.Math.Nat.{le-min, min-le_right, mul-le-mul_left}
+use Rattle.std.proofs.Math.Nat.{le-min}
 use Rattle.std.proofs.lemmas.List.{length-map}
 use Rattle.std.proofs.lemmas.List.Concat.{length-flat_map}
 use Rattle.std.proofs.lemmas.List.FromFn.{length-range_with_len}
@@ -102,11 +102,6 @@ begins-few (work.Scan login leg ask) can = omega arith
 
 pub named-few : (route : Route) (job : Work) → CanBegin job → IsOfFew route job → length (legs_named job) ≤ most_at_once route
 named-few route job can few = le-min few (begins-few job can)
-
--- where there are places for as many as any request may have, there are for these
-pub fewer-enough : (route : Route) (clients places : ℕ) → clients * most_legs ≤ places → clients * most_at_once route ≤ places
-fewer-enough route clients places enough =
-    let fewer = mul-le-mul_left clients (min-le_right (leg_count route) most_legs) in omega (arith, fewer, enough)
 
 module _ (route : Route) where
   -- what is asked for is such a work, if any

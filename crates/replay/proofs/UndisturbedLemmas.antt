@@ -44,7 +44,6 @@ use Rattle.replay.specs.declared.reports.ClientReport.{ClientReport}
 use Rattle.replay.specs.declared.reports.Report.{Report}
 use Rattle.replay.specs.steps.Quiet.{GoesWell}
 use Rattle.replay.specs.steps.Room.{FindsRoom, IsEmptyPool, IsNewDoor}
-use Rattle.replay.proofs.AskedLemmas.{fewer-enough}
 use Rattle.replay.proofs.FullLemmas.{IsToldFull}
 use Rattle.replay.proofs.MovesLemmas.{HasNoSession, IsNewPool, counted_run, packages-whole}
 use Rattle.replay.proofs.TurnKeeps.{AreKept}
@@ -213,9 +212,7 @@ module _ {S : Type 0} (route : Route) (report : Report) (before behind : Outside
     none_gone = zero-sum (in_classes gones report.classes) before.backend.counts.gones behind.backend.counts.gones first.gones last.gones (sums gones tt);
     marks = all-well route.pool numbers report.clients links-none silents-none gones-none;
     few_links = λ few. clients-plain route.pool report.clients numbers (kinds-none (fulls-none few));
-    places = λ enough.
-        clients-plain route.pool report.clients numbers (kinds-none (unfull (fewer-enough route (length report.clients) route.pool.max_sessions enough)));
-    few_legs = λ enough. clients-plain route.pool report.clients numbers (kinds-none (unfull enough));
+    places = λ enough. clients-plain route.pool report.clients numbers (kinds-none (unfull enough));
   }
 
 -- ---- over a wire

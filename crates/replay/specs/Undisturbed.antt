@@ -2,7 +2,6 @@
 -- asks or finds the pool full
 use Rattle.std.specs.Prelude.{◌≡◌, ◌*◌, ◌<◌, ◌≤◌, Bool, true, List, length}
 use Rattle.std.specs.List.{AllByRecursion}
-use Rattle.z_types.specs.Bounds.{most_legs}
 use Rattle.z_types.specs.declared.marks.Mark.{Mark}
 use Rattle.z_types.specs.declared.marks.Mark.TheVariants.{Plain, Full}
 use Rattle.z_types.specs.declared.world.World as world
@@ -41,14 +40,13 @@ IsPlainOrFull (Full sessions) = Unit {0}
 IsPlainOrFull mark = ⊥
 
 -- no call failed, no set was gone, and each mark is Plain or Full. All are Plain where fewer links were made than there may be sessions of
--- a class; or where there may be as many as the clients have legs at most, by the bound of any request or by the route
+-- a class; or where there may be as many as the clients have legs at once, at most
 pub record IsUntroubled (route : Route) (report : Report) : Type 0 where
   pub unfailing : in_classes faults report.classes ≡ 0
   pub none_gone : in_classes gones report.classes ≡ 0
   pub marks : AllByRecursion (λ client. AllByRecursion IsPlainOrFull client.marks) report.clients
   pub few_links : in_classes dials report.classes < route.pool.max_sessions → AreAllPlain report.clients
-  pub places : length report.clients * most_legs ≤ route.pool.max_sessions → AreAllPlain report.clients
-  pub few_legs : length report.clients * most_at_once route ≤ route.pool.max_sessions → AreAllPlain report.clients
+  pub places : length report.clients * most_at_once route ≤ route.pool.max_sessions → AreAllPlain report.clients
 
 -- a wire whose counts are exact leaves a report untroubled where it was played undisturbed
 abbrev pub IsUntroubledIf : {W : Type 0} → world.Ghosts W → (exact : Bool) → Route → List Event → Counts → Happened → Report

@@ -1,5 +1,5 @@
 -- what befalls the links of a quiet wire, with a new pool, is borne
-use Rattle.std.proofs.Common.{◌≡◌, ◌∙◌, ◌*◌, ◌≤◌, Bool, true, false, List, Option, None, Some, Result, Ok, Err, length, sym, ap, subst, arith}
+use Rattle.std.proofs.Common.{◌≡◌, ◌∙◌, ◌*◌, ◌≤◌, ℕ, Bool, true, false, List, Option, None, Some, Result, Ok, Err, length, refl, sym, ap, subst, arith}
 use Rattle.std.specs.List.{AllByRecursion}
 use Rattle.std.specs.Prelude.{IfOk}
 use Rattle.z_types.specs.Pending.{resting}
@@ -23,13 +23,12 @@ use Rattle.conn_quiet.specs.steps.Whole.{AreIdle, IsIdleSession}
 use Rattle.replay.specs.Counts.{HaveCauses}
 use Rattle.replay.specs.Places.{most_at_once}
 use Rattle.replay.specs.Trace.{IsRunOf}
-use Rattle.replay.specs.Uncaused.{AreAllPlain}
 use Rattle.replay.specs.declared.reports.Report.{Report}
 use Rattle.replay.specs.steps.Room.{FindsRoom}
-use Rattle.replay.proofs.AskedLemmas.{fewer-enough}
 use Rattle.replay.proofs.MovesLemmas.{HasNoSession, IsNewPool}
 use Rattle.replay.proofs.UndisturbedLemmas.{most-as, new-door}
-use Rattle.replay_laws.specs.Borne.{BorneIsPlain, BorneIsPlainOrFull, IsBorne, IsBorneIf, IsBorneRun, WasNeverFull}
+use Rattle.replay_laws.specs.Between.{DisturbsNobody}
+use Rattle.replay_laws.specs.Borne.{AreBorneMarks, BorneIsPlain, BorneIsPlainOrFull, WentThrough, IsBorneIf, IsBorneRun, MayBeBorne, WasNeverFull}
 use Rattle.replay_laws.specs.Quiet.{QuietDisturbsNobody}
 
 -- ---- at the start
@@ -78,43 +77,66 @@ over-dials false wire counts own is e go = absurd cc
 
 module _ {W S : Type 0} (w : world.Ghosts W) (t : sitting.Ghosts S W) (exact : Bool) (route : Route) (events : List Event)
     (before behind : Outside S) (report : Report) (run : IsRunOf w t exact route events before behind report) where
-  borne-run : QuietDisturbsNobody w t → IsNewPool route before → ArePoolNumbers route.pool → IsBorne w route events before.backend.happened
-      → DialsGoOn behind.backend.counts → IsBorneRun w t exact route events before behind report run
-  borne-run disturbs new numbers borne go = record {
-    told = borne.told;
-    few = borne.few;
-    between = disturbs exact route events before behind report run borne.between;
-    start = new-borne w t route before new numbers borne.quiet;
+  borne-run : IsNewPool route before → ArePoolNumbers route.pool → MayBeBorne w route events before.backend.happened
+      → DisturbsNobody w t exact route events before behind report run → DialsGoOn behind.backend.counts
+      → IsBorneRun w t exact route events before behind report run
+  borne-run new numbers may between go = record {
+    told = may.told;
+    few = may.few;
+    between = between;
+    start = new-borne w t route before new numbers may.quiet;
     counted = go;
   }
 
-  borne-wire : BorneIsPlainOrFull w t → BorneIsPlain w t → QuietDisturbsNobody w t → IsNewPool route before → ArePoolNumbers route.pool
+  borne-marks : BorneIsPlainOrFull w t → BorneIsPlain w t → IsNewPool route before → ArePoolNumbers route.pool
       → (w1 : Counts) (own1 : Own) → behind.backend.counts ≡ counts_over exact w1 own1 → HaveCauses route.pool report before behind
-      → FindsRoom route report before behind → IsBorneIf w exact route events before.backend.happened w1 report
-  borne-wire marks plain disturbs new numbers w1 own1 f causes room is borne go =
-      let one = borne-run disturbs new numbers borne (over-dials exact w1 behind.backend.counts own1 is f go) in
-      let all : length report.clients * most_at_once route ≤ route.pool.max_sessions → AreAllPlain report.clients = λ enough.
-      plain exact route events before behind report run is one causes (never-full route report before behind new room enough) in record {
+      → FindsRoom route report before behind → exact ≡ true → MayBeBorne w route events before.backend.happened
+      → DisturbsNobody w t exact route events before behind report run → DialsGoOn w1 → AreBorneMarks route report
+  borne-marks marks plain new numbers w1 own1 f causes room is may between go =
+      let one = borne-run new numbers may between (over-dials exact w1 behind.backend.counts own1 is f go) in record {
         marks = marks exact route events before behind report run is one;
-        places = λ enough. all (fewer-enough route (length report.clients) route.pool.max_sessions enough);
-        few_legs = all;
+        places = λ enough.
+            plain exact route events before behind report run is one causes (never-full route report before behind new room enough);
       }
 
--- so is one whose backend is over the wire, and counts by it behind the replay
-pub borne_ok : {E : Type 0} (W S : Type 0) (w : world.Ghosts W) (t : sitting.Ghosts S W) (exact : Bool) (route : Route) (events : List Event)
+-- so a replay went through what its backend did, which is over the wire, and counts by it behind the replay
+pub through_ok : {E : Type 0} (W S : Type 0) (w : world.Ghosts W) (t : sitting.Ghosts S W) (exact : Bool) (route : Route) (events : List Event)
     (before behind : Outside S) (result : Result Report E) → IfOk result (IsRunOf w t exact route events before behind)
-    → BorneIsPlainOrFull w t → BorneIsPlain w t → QuietDisturbsNobody w t → IsNewPool route before → ArePoolNumbers route.pool
+    → BorneIsPlainOrFull w t → BorneIsPlain w t → IsNewPool route before → ArePoolNumbers route.pool
     → (w1 : Counts) (own1 : Own) → behind.backend.counts ≡ counts_over exact w1 own1
     → IfOk result (λ report. HaveCauses route.pool report before behind) → IfOk result (λ report. FindsRoom route report before behind)
-    → IfOk result (IsBorneIf w exact route events before.backend.happened w1)
-borne_ok W S w t exact route events before behind (Ok report) run marks plain disturbs new numbers w1 own1 f causes room =
-    borne-wire w t exact route events before behind report run marks plain disturbs new numbers w1 own1 f causes room
-borne_ok W S w t exact route events before behind (Err err) run marks plain disturbs new numbers w1 own1 f causes room = tt
+    → IfOk result (WentThrough w t exact route events before.backend.happened w1)
+through_ok W S w t exact route events before behind (Ok report) run marks plain new numbers w1 own1 f causes room = record {
+  before = before;
+  behind = behind;
+  run = run;
+  begins = λ target. refl;
+  own = own1;
+  ends = f;
+  borne = borne-marks w t exact route events before behind report run marks plain new numbers w1 own1 f causes room;
+}
+through_ok W S w t exact route events before behind (Err err) run marks plain new numbers w1 own1 f causes room = tt
 
--- a wire that is quiet where another is, as one that is lent, leaves what that leaves
-pub borne_as_quiet : {E W : Type 0} (w : world.Ghosts W) (exact : Bool) (route : Route) (events : List Event) (happened lent : Happened)
-    (behind : Counts) (result : Result Report E) → (AreQuiet happened → AreQuiet lent)
-    → IfOk result (IsBorneIf w exact route events lent behind) → IfOk result (IsBorneIf w exact route events happened behind)
-borne_as_quiet w exact route events happened lent behind (Ok report) quiet so = λ is borne.
-    so is (record { few = borne.few; between = borne.between; quiet = quiet borne.quiet; told = borne.told })
-borne_as_quiet w exact route events happened lent behind (Err err) quiet so = tt
+-- whatever it went through, a quiet script disturbs nobody
+pub borne_through : {E : Type 0} (W S : Type 0) (w : world.Ghosts W) (t : sitting.Ghosts S W) (exact : Bool) (route : Route)
+    (events : List Event) (happened : Happened) (counts : Counts) (result : Result Report E) → QuietDisturbsNobody w t
+    → IfOk result (WentThrough w t exact route events happened counts) → IfOk result (IsBorneIf w exact route events happened counts)
+borne_through W S w t exact route events happened counts (Ok report) disturbs went = λ is may quiet go.
+    went.borne is may (disturbs exact route events went.before went.behind report went.run quiet) go
+borne_through W S w t exact route events happened counts (Err err) disturbs went = tt
+
+-- a replay over a wire that is lent went through what one over the wire did
+pub through_as_lent : {E W S : Type 0} (w : world.Ghosts W) (t : sitting.Ghosts S W) (exact : Bool) (route : Route) (events : List Event)
+    (happened lent : Happened) (counts : Counts) (result : Result Report E) → (AreQuiet happened → AreQuiet lent)
+    → ((target : ℕ) → lent.of_target target ≡ happened.of_target target)
+    → IfOk result (WentThrough w t exact route events lent counts) → IfOk result (WentThrough w t exact route events happened counts)
+through_as_lent w t exact route events happened lent counts (Ok report) quiet same went = record {
+  before = went.before;
+  behind = went.behind;
+  run = went.run;
+  begins = λ target. went.begins target ∙ same target;
+  own = went.own;
+  ends = went.ends;
+  borne = λ is may. went.borne is (record { few = may.few; quiet = quiet may.quiet; told = may.told });
+}
+through_as_lent w t exact route events happened lent counts (Err err) quiet same went = tt

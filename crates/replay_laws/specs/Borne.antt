@@ -1,7 +1,6 @@
 -- What befalls the links of a replay and marks no request but where the pool was full (this project's own)
-use Rattle.std.specs.Prelude.{◌≡◌, ◌*◌, ◌<◌, ◌≤◌, Bool, true, List, length}
+use Rattle.std.specs.Prelude.{◌≡◌, ℕ, ◌*◌, ◌<◌, ◌≤◌, Bool, true, List, length}
 use Rattle.std.specs.List.{AllByRecursion}
-use Rattle.z_types.specs.Bounds.{most_legs}
 use Rattle.z_types.specs.declared.sitting.Sitting as sitting
 use Rattle.z_types.specs.declared.world.World as world
 use Rattle.gw_outside.specs.Counts.{Counts}
@@ -11,6 +10,8 @@ use Rattle.route_config.specs.declared.route.Route.{Route}
 use Rattle.front_conn.specs.steps.Answering.{Outside}
 use Rattle.script.specs.declared.event.Event.{Event}
 use Rattle.script.specs.declared.event.Event.TheVariants.{Gone, Slow}
+use Rattle.z_client.specs.Counts.{counts_over}
+use Rattle.z_client.specs.declared.own.Own.{Own}
 use Rattle.conn_costs.specs.steps.Growth.{last64}
 use Rattle.conn_quiet.specs.steps.Bearing.{DialsGoOn, IsBorneBy}
 use Rattle.replay.specs.Counts.{HaveCauses}
@@ -66,25 +67,36 @@ BorneIsPlain {W} {S} w t =
     → exact ≡ true → IsBorneRun w t exact route events before behind report run
     → HaveCauses route.pool report before behind → WasNeverFull before behind → AreAllPlain report.clients
 
--- ---- over a quiet wire
+-- ---- over a wire
 
--- each number of a deletion or a delay is borne, at each cut and each deletion every client that took a step was run since, nothing was
--- made to happen to any target before, and each target of the route tells what it answers
-pub record IsBorne {W : Type 0} (w : world.Ghosts W) (route : Route) (events : List Event) (happened : Happened) : Type 0 where
+-- each number of a deletion or a delay is borne, nothing was made to happen to any target before, and each target of the route tells what
+-- it answers
+pub record MayBeBorne {W : Type 0} (w : world.Ghosts W) (route : Route) (events : List Event) (happened : Happened) : Type 0 where
   pub few : AllByRecursion (HasBorneNumber route.pool) events
-  pub between : IsQuiet events
   pub quiet : AreQuiet happened
   pub told : AreTold w route
 
--- each mark is Plain or Full, and all are Plain where there may be as many sessions of a class as the clients have legs at most, by the
--- bound of any request or by the route
+-- each mark is Plain or Full, and all are Plain where there may be as many sessions of a class as the clients have legs at once, at most
 pub record AreBorneMarks (route : Route) (report : Report) : Type 0 where
   pub marks : AreAllPlainOrFull report.clients
-  pub places : length report.clients * most_legs ≤ route.pool.max_sessions → AreAllPlain report.clients
-  pub few_legs : length report.clients * most_at_once route ≤ route.pool.max_sessions → AreAllPlain report.clients
+  pub places : length report.clients * most_at_once route ≤ route.pool.max_sessions → AreAllPlain report.clients
 
--- a wire whose counts are exact, and whose count of links is below its last value behind the replay, leaves such marks where it was borne
+-- a wire whose counts are exact, and whose count of links is below its last value behind the replay, leaves such marks where at each cut and
+-- each deletion of the script every client that took a step was run since
 abbrev pub IsBorneIf : {W : Type 0} → world.Ghosts W → (exact : Bool) → Route → List Event → Happened → (behind : Counts) → Report
     → Type 0
 IsBorneIf w exact route events happened behind report =
-    exact ≡ true → IsBorne w route events happened → DialsGoOn behind → AreBorneMarks route report
+    exact ≡ true → MayBeBorne w route events happened → IsQuiet events → DialsGoOn behind → AreBorneMarks route report
+
+-- What the replay went through: it began with what was made to happen to the wire's targets, and ended with what the wire counted, beside
+-- the breaches. It leaves such marks where no cut and no deletion fell while a request was in work.
+pub record WentThrough {W S : Type 0} (w : world.Ghosts W) (t : sitting.Ghosts S W) (exact : Bool) (route : Route) (events : List Event)
+    (happened : Happened) (counts : Counts) (report : Report) : Type 0 where
+  pub before : Outside S
+  pub behind : Outside S
+  pub run : IsRunOf w t exact route events before behind report
+  pub begins : (target : ℕ) → before.backend.happened.of_target target ≡ happened.of_target target
+  pub own : Own
+  pub ends : behind.backend.counts ≡ counts_over exact counts own
+  pub borne : exact ≡ true → MayBeBorne w route events happened → DisturbsNobody w t exact route events before behind report run
+      → DialsGoOn counts → AreBorneMarks route report

@@ -1,6 +1,7 @@
 -- A replay over a wire that is lent is one over the wire
-use Rattle.std.proofs.Common.{◌≡◌, ℕ, Bool, List, [], Some, Result, Ok, Err, ap}
+use Rattle.std.proofs.Common.{◌≡◌, ℕ, Bool, List, [], Some, Result, Ok, Err, refl, ap}
 use Rattle.std.specs.Prelude.{IfOk}
+use Rattle.z_types.specs.declared.sitting.Sitting as sitting
 use Rattle.z_types.specs.declared.world.World as world
 use Rattle.gw_outside.specs.Counts.{Counts}
 use Rattle.gw_outside.specs.Happened.{AreQuiet, Happened}
@@ -10,8 +11,8 @@ use Rattle.sharing_rules.specs.steps.Shared.{pool_of}
 use Rattle.script.specs.declared.event.Event.{Event}
 use Rattle.replay.specs.Undisturbed.{IsUntroubledIf}
 use Rattle.replay.specs.declared.reports.Report.{Report}
-use Rattle.replay_laws.specs.Borne.{IsBorneIf}
-use Rattle.replay_laws.proofs.WireLemmas.{borne_as_quiet}
+use Rattle.replay_laws.specs.Borne.{WentThrough, IsBorneIf}
+use Rattle.replay_laws.proofs.WireLemmas.{through_as_lent}
 use Rattle.replay_shares.specs.Shares.{SharesIfOrderlyOver}
 use Rattle.replay_top.specs.Lent.{lent_by}
 
@@ -31,10 +32,18 @@ lent_untroubled w exact route events counts reference happened (Ok report) so = 
 lent_untroubled w exact route events counts reference happened (Err err) so = tt
 
 pub lent_borne : {E W : Type 0} (w : world.Ghosts W) (exact : Bool) (route : Route) (events : List Event) (reference : ℕ) (happened : Happened)
-    (behind : Counts) (result : Result Report E) → IfOk result (IsBorneIf w exact route events (lent_by reference happened) behind)
-    → IfOk result (IsBorneIf w exact route events happened behind)
-lent_borne w exact route events reference happened behind result so =
-    borne_as_quiet w exact route events happened (lent_by reference happened) behind result (lent-quiet reference happened) so
+    (counts : Counts) (result : Result Report E) → IfOk result (IsBorneIf w exact route events (lent_by reference happened) counts)
+    → IfOk result (IsBorneIf w exact route events happened counts)
+lent_borne w exact route events reference happened counts (Ok report) so = λ is may.
+    so is (record { few = may.few; quiet = lent-quiet reference happened may.quiet; told = may.told })
+lent_borne w exact route events reference happened counts (Err err) so = tt
+
+pub lent_through : {E W S : Type 0} (w : world.Ghosts W) (t : sitting.Ghosts S W) (exact : Bool) (route : Route) (events : List Event)
+    (reference : ℕ) (happened : Happened) (counts : Counts) (result : Result Report E)
+    → IfOk result (WentThrough w t exact route events (lent_by reference happened) counts)
+    → IfOk result (WentThrough w t exact route events happened counts)
+lent_through w t exact route events reference happened counts result so =
+    through_as_lent w t exact route events happened (lent_by reference happened) counts result (lent-quiet reference happened) (λ target. refl) so
 
 pub lent_shares : {E W : Type 0} (w : world.Ghosts W) (exact : Bool) (route : Route) (events : List Event) (counts : Counts) (reference : ℕ)
     (happened : Happened) (result : Result Report E) → IfOk result (SharesIfOrderlyOver w exact route events counts (lent_by reference happened))

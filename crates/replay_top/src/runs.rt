@@ -5,7 +5,7 @@ ghost use Rattle.script.specs.Events.{AreEvents};
 ghost use Rattle.replay.specs.Report.{IsReportOf};
 ghost use Rattle.replay.specs.Undisturbed.{IsUntroubledIf};
 ghost use Rattle.replay.specs.Wires.{IsCountedBy};
-ghost use Rattle.replay_laws.specs.Borne.{IsBorneIf};
+ghost use Rattle.replay_laws.specs.Borne.{WentThrough, IsBorneIf};
 ghost use Rattle.replay_shares.specs.Shares.{SharesIfOrderlyOver};
 
 use crate::lent::LentWire;
@@ -18,10 +18,10 @@ use route_config::Route;
 use script::Event;
 use std::alloc::Global;
 use z_client::{ZBackend, ZSession};
-use z_types::{List, Memory, World};
+use z_types::{List, Memory, Sitting, World};
 
 /// Plays the events of a script over the links of a wire, with a new pool.
-#[tactic(auto, using(crate::proofs::RunLemmas::lent_untroubled, crate::proofs::RunLemmas::lent_borne, crate::proofs::RunLemmas::lent_shares))]
+#[tactic(auto, using(crate::proofs::RunLemmas::lent_untroubled, crate::proofs::RunLemmas::lent_through, crate::proofs::RunLemmas::lent_borne, crate::proofs::RunLemmas::lent_shares))]
 pub fn run<W: World, N: Wire<W> + Events>(
     alloc: Global,
     route: &Route,
@@ -40,7 +40,10 @@ pub fn run<W: World, N: Wire<W> + Events>(
     ensures untroubled { IfOk result (IsUntroubledIf W.World N.exact route.now events.now
         (N.counts wire.old) (N.happened wire.old)) }
 
-    // So it is where links are cut and sets are deleted between requests, no more than is borne.
+    // So it is where links are cut and sets are deleted between requests, no more than is borne: by
+    // what the replay went through, and by the script alone.
+    ensures through { IfOk result (WentThrough W.World ⟦<ZSession<W, N::Link> as Sitting<W>>⟧
+        N.exact route.now events.now (N.happened wire.old) (N.counts wire.new)) }
     ensures borne { IfOk result (IsBorneIf W.World N.exact route.now events.now
         (N.happened wire.old) (N.counts wire.new)) }
 
@@ -69,6 +72,8 @@ fn run_with<W: World, N: Wire<W> + Events>(
         (N.counts backend.old.wire) (N.counts backend.new.wire)) }
     ensures untroubled { IfOk result (IsUntroubledIf W.World N.exact route.now events.now
         (N.counts backend.old.wire) (N.happened backend.old.wire)) }
+    ensures through { IfOk result (WentThrough W.World ⟦<ZSession<W, N::Link> as Sitting<W>>⟧
+        N.exact route.now events.now (N.happened backend.old.wire) (N.counts backend.new.wire)) }
     ensures borne { IfOk result (IsBorneIf W.World N.exact route.now events.now
         (N.happened backend.old.wire) (N.counts backend.new.wire)) }
     ensures shared { IfOk result (SharesIfOrderlyOver W.World N.exact route.now events.now

@@ -1,0 +1,24 @@
+-- What is sure of the report of events that were played over a wire (this project's own)
+use Rattle.std.specs.Prelude.{List}
+use Rattle.z_types.specs.declared.world.World as world
+use Rattle.route_config.specs.declared.route.Route.{Route}
+use Rattle.script.specs.declared.event.Event.{Event}
+use Rattle.replay.specs.declared.reports.Report.{Report}
+use Rattle.replay.specs.Report.{IsReportOf}
+use Rattle.replay.specs.Undisturbed.{IsUntroubledIf}
+use Rattle.replay.specs.Wires.{IsCountedBy}
+use Rattle.replay_laws.specs.Borne.{IsBorneIf, WentThrough}
+use Rattle.replay_shares.specs.Shares.{SharesIfOrderlyOver}
+use Rattle.gateway_top.specs.Outside.{WireCalls}
+
+-- Each client was answered to the octets that it was fed; the sums are what the wire counted, and the marks have their counted cause; and
+-- more is sure where nothing befalls links; where no more befalls them than is borne, by what the replay went through and by the events
+-- alone; and where the events are orderly.
+pub record IsPlayedReport {W S : Type 0} (w : world.Ghosts W) (calls : WireCalls W S) (route : Route) (events : List Event) (report : Report)
+    : Type 0 where
+  pub right : IsReportOf w route events report
+  pub counted : IsCountedBy w calls.exact route calls.before calls.behind report
+  pub untroubled : IsUntroubledIf w calls.exact route events calls.before calls.happened report
+  pub through : WentThrough w calls.sessions calls.exact route events calls.happened calls.behind report
+  pub borne : IsBorneIf w calls.exact route events calls.happened calls.behind report
+  pub shared : SharesIfOrderlyOver w calls.exact route events calls.before calls.happened report
