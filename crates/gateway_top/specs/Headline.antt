@@ -24,6 +24,8 @@
 -- link, the legs of each request go to different classes, and the sets of a class find room in one session), every mark
 -- is Plain, and the searches and dials that are printed are those that sharing needs, class by class: they are counted
 -- from the script and what targets mean, without a pool.
+-- Each load is orderly. So over such a wire, at a target that tells what it answers, the four requests of each client are Plain
+-- in its line, which has a search for each of five letters, more only where the target refuses one, and one link.
 -- Where every mark is Plain, octets have one answer (`one_answer` of `sru_rules`), and how a connection ends follows
 -- from its octets and the route alone (`one_end`). So two replays that feed a client the same octets, with all its
 -- marks Plain, write it the same and end its connection the same.

@@ -1,15 +1,20 @@
 -- The command `load` (this project's own): what is printed of a load, and when each status comes
-use Rattle.std.specs.Prelude.{ℕ, Bool, true, false, List, ◌++◌, length, codes, sum_by, count_by}
+use Rattle.std.specs.Prelude.{◌≡◌, ℕ, ◌*◌, Bool, true, false, List, ◌++◌, length, codes, sum_by, count_by}
+use Rattle.std.specs.List.{range_with_len}
 use Rattle.std.specs.Fmt.{decimal}
 use Rattle.z_types.specs.declared.marks.Mark.{Mark}
 use Rattle.z_types.specs.declared.marks.Mark.TheVariants.{Plain}
 use Rattle.z_types.specs.declared.world.World as world
+use Rattle.gw_outside.specs.Happened.{IsQuietWire}
+use Rattle.gateway_rules.specs.Fair.{IsFair}
 use Rattle.route_config.specs.Smallest.{smallest_route}
-use Rattle.sample_maker.specs.Load.{load_events}
+use Rattle.sample_maker.specs.Load.{letter_of, load_events}
 use Rattle.replay.specs.declared.reports.ClassReport.{ClassReport}
 use Rattle.replay.specs.declared.reports.ClientReport.{ClientReport}
 use Rattle.replay.specs.declared.reports.Report.{Report}
 use Rattle.replay.specs.Page.{requests}
+use Rattle.load_shares.specs.Costs.{load_dials, load_searches}
+use Rattle.load_shares.specs.Runs.{answers_for}
 use Rattle.gateway_config.specs.Lines.{Received, ReceivedNothing, FailedWithin, line_of}
 use Rattle.gateway_config.specs.Outside.{SinkWrites}
 use Rattle.gateway_config.specs.declared.status.Status.{Status}
@@ -50,17 +55,33 @@ load_line clients report =
     ++ codes " dials " ++ decimal (links_made report.classes)
     )
 
+-- Of a load no request was marked, and each client was written the answers to the requests of its letter; a search was sent for each
+-- of five letters, and one each time where the target refuses a letter; and one link was made.
+pub record IsPlainLoad {W : Type 0} (w : world.Ghosts W) (clients : ℕ) (report : Report) : Type 0 where
+  pub plain : plain_requests report.clients ≡ 4 * clients
+  pub written : octets_written report.clients ≡ sum_by (λ client. length (answers_for w (letter_of client))) (range_with_len 1 clients)
+  pub searched : searches_sent report.classes ≡ load_searches w clients
+  pub dialled : links_made report.classes ≡ load_dials clients
+
+-- the sums of a load where the target tells what it answers: each client was answered four requests, whatever befell the links; and
+-- over a wire that counts exactly, was quiet and without links before, the load is plain
+pub record HasLoadSums {W S : Type 0} (w : world.Ghosts W) (calls : WireCalls W S) (clients : ℕ) (report : Report) : Type 0 where
+  pub asked : IsFair w smallest_route → requests report.clients ≡ 4 * clients
+  pub plain : calls.exact ≡ true → IsFair w smallest_route → IsQuietWire calls.before calls.happened → IsPlainLoad w clients report
+
 -- the load of so many clients was played by the route of the smallest configuration, and the line of
 -- one report of it was printed, and nothing else
 pub record HasLoaded {W S : Type 0} (w : world.Ghosts W) (calls : WireCalls W S) (clients : ℕ) (writes : SinkWrites) : Type 0 where
   pub report : Report
   pub played : IsPlayedReport w calls smallest_route (load_events clients) report
+  pub sums : HasLoadSums w calls clients report
   pub printed : Received writes (load_line clients report)
 
 -- the same, of which a front of the line was printed, and nothing else, since a write failed
 pub record HasLoadedPart {W S : Type 0} (w : world.Ghosts W) (calls : WireCalls W S) (clients : ℕ) (writes : SinkWrites) : Type 0 where
   pub report : Report
   pub played : IsPlayedReport w calls smallest_route (load_events clients) report
+  pub sums : HasLoadSums w calls clients report
   pub printed : FailedWithin writes (load_line clients report)
 
 -- the load of so many clients was played: its line is printed, or a front of it where the sink failed,

@@ -6,13 +6,16 @@ ghost use Rattle.script.specs.Events.{most_clients};
 ghost use Rattle.route_config.specs.Smallest.{smallest_route};
 ghost use Rattle.sample_maker.specs.Load.{load_events};
 ghost use Rattle.replay.specs.Page.{requests};
-ghost use Rattle.gateway_top.specs.Load.{LoadDone, is_plain, links_made, load_line, octets_written, plain_requests, searches_sent};
+ghost use Rattle.gateway_top.specs.Load.{HasLoadSums, LoadDone, is_plain, links_made, load_line, octets_written, plain_requests, searches_sent};
 ghost use Rattle.gateway_config.specs.Outside.{sink_writes};
 ghost use Rattle.gateway_top.specs.Outside.{wire_calls};
 ghost use Rattle.gateway_top.specs.Reported.{IsPlayedReport};
 
 use gateway_config::Status;
 use gw_outside::{Events, Sink, Wire, write_all};
+use load_shares::{
+    loads_are_answered, loads_are_answered_plainly, loads_are_orderly, loads_need_so,
+};
 use replay::{ClassReport, ClientReport, Report};
 use replay_top::run;
 use route_config::Route;
@@ -33,7 +36,7 @@ pub(crate) fn load<W: World, N: Wire<W> + Events, K: Sink>(
         (wire_calls N.Watched ⟦<ZSession<W, N::Link> as Sitting<W>>⟧ wire.old wire.new) clients
         (sink_writes K.Sink out.old out.new) result }
 {
-    let Ok(report) = play_load::<W, N>(alloc, clients, wire) else {
+    let Ok(report) = load_report::<W, N>(alloc, clients, wire) else {
         return Status::Memory;
     };
     let Ok(line) = load_line(alloc, clients, &report) else {
@@ -46,7 +49,27 @@ pub(crate) fn load<W: World, N: Wire<W> + Events, K: Sink>(
     }
 }
 
-/// The report of the load of so many clients.
+/// The report of the load of so many clients, of which the sums are known.
+fn load_report<W: World, N: Wire<W> + Events>(
+    alloc: Global,
+    clients: u32,
+    wire: &mut N,
+) -> Result<Report, Memory>
+    requires { clients ≤ most_clients }
+    ensures played { IfOk result (IsPlayedReport W.World
+        (wire_calls N.Watched ⟦<ZSession<W, N::Link> as Sitting<W>>⟧ wire.old wire.new)
+        smallest_route (load_events clients)) }
+    ensures sums { IfOk result (HasLoadSums W.World
+        (wire_calls N.Watched ⟦<ZSession<W, N::Link> as Sitting<W>>⟧ wire.old wire.new) clients) }
+{
+    loads_are_orderly::<W>();
+    loads_are_answered::<W>();
+    loads_are_answered_plainly::<W>();
+    loads_need_so::<W>();
+    play_load::<W, N>(alloc, clients, wire)
+}
+
+/// What came of the load of so many clients.
 fn play_load<W: World, N: Wire<W> + Events>(
     alloc: Global,
     clients: u32,

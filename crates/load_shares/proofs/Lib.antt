@@ -1,0 +1,10 @@
+pub mod ListLemmas
+pub mod EventLemmas
+pub mod UnitLemmas
+pub mod WorkLemmas
+pub mod KeyLemmas
+pub mod TurnLemmas
+pub mod UseLemmas
+pub mod NeedLemmas
+pub mod OrderlyLoads
+pub mod AnsweredLoads
