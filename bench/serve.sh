@@ -3,7 +3,8 @@
 # for each) and a floor that answers each unit with a fixed reply (`serve/zfloor.c`), all on this machine and by the same units:
 #
 # - one connection of 5,000 Searches and Presents in turns, over a built-in target: at least as many a second as the best of
-#   yaz-ztest; over a target that is the floor: at least 0.45 of what the floor answers itself;
+#   yaz-ztest; over a target that is the floor: at least 0.45 of what the floor answers itself. What can be had there is told by a relay
+#   that does nothing but pass Presents on (`serve/zrelay.c`);
 # - 16 connections at once, each Init, Search, Present and Close, with 16 workers: at least as many a second as yaz-ztest's threads;
 # - GETs of SRU, a connection each, 16 at once: at least half of the floor's;
 # - 64 connections open at once: at most 64 kB of memory each, and how many sessions their one query takes at a target.
@@ -12,17 +13,17 @@
 #
 #     bench/serve.sh [COMMAND [PORT]]
 #
-# COMMAND starts the gateway (the program that is built), PORT is the first of six that are free (21100).
+# COMMAND starts the gateway (the program that is built), PORT is the first of seven that are free (21100).
 here=$(cd "$(dirname "$0")/.." && pwd) || exit 1
 gateway=${1:-$here/crates/gateway_program/out/gateway_program}
 port=${2:-21100}
-floor=$((port + 1)) static=$((port + 2)) threads=$((port + 3)) forks=$((port + 4)) sixteen=$((port + 5))
+floor=$((port + 1)) static=$((port + 2)) threads=$((port + 3)) forks=$((port + 4)) sixteen=$((port + 5)) relay=$((port + 6))
 units=$here/bench/serve/session.units
 room=$(mktemp -d) || exit 1
 missed=0
 trap 'kill $(jobs -p) 2>/dev/null; rm -rf "$room"' EXIT
 
-for tool in zload zfloor; do
+for tool in zload zfloor zrelay; do
     cc -O2 -pthread -o "$room/$tool" "$here/bench/serve/$tool.c" || exit 1
 done
 cp "$here/examples/first.toml" "$room/demo"
@@ -60,6 +61,7 @@ waits() { # until a port is listened on
     exit 1
 }
 "$room/zfloor" "$floor" "b4=${replies[0]}" "b6=${replies[1]}" "b8=${replies[2]}" "bf30=${replies[3]}" "47=$page" &
+"$room/zrelay" "$relay" "$floor" "b4=${replies[0]}" "b6=${replies[1]}" "bf30=${replies[3]}" &
 yaz-ztest -v none -S "@:$static" 2>/dev/null &
 yaz-ztest -v none -T "@:$threads" 2>/dev/null &
 yaz-ztest -v none "@:$forks" 2>/dev/null &
@@ -67,7 +69,7 @@ yaz-ztest -v none "@:$forks" 2>/dev/null &
 of_64=$! served=$!
 "$gateway" serve "$room/route" "$sixteen" 16 --quiet >"$room/out16" 2>"$room/log16" &
 of_16=$!
-for at in "$floor" "$static" "$threads" "$forks" "$port" "$sixteen"; do waits "$at"; done
+for at in "$floor" "$relay" "$static" "$threads" "$forks" "$port" "$sixteen"; do waits "$at"; done
 [ "${#replies[3]}" -gt 0 ] && [ -n "$page" ] || { echo 'the gateway answered no whole session' >&2; exit 1; }
 
 # ---- rates
@@ -106,6 +108,8 @@ turns[-1]="@$room/units"
 least=$(rate requests "$floor" "${turns[@]}") || exit 1
 ours requests "$port" "${turns[@]}" || exit 1
 row 'the same over a target' "$least" 'the floor alone' 0.45
+passed=$(rate requests "$relay" "${turns[@]}") || exit 1
+awk -v passed="$passed" -v floor="$least" 'BEGIN { printf "a relay there that passes Presents on: %d a second, %.2f times\n", passed, passed / floor }'
 
 each_one=(-n 4000 -c 16 "@$units")
 ztest=$(rate connections "$threads" "${each_one[@]}") || exit 1
