@@ -1,34 +1,26 @@
 -- The main theorem: what is printed of a replay, of a load, and of a configuration that is checked.
---
--- A replay of the configuration and the script of two files printed the page of one report, and nothing else. The
--- script feeds clients, runs them whole or step by step, lets time pass, deletes result sets at targets, and cuts and
--- slows links, in any order. On a fair route, whose targets' answers are known whichever member of a group is asked,
--- each client that it names, once and in ascending order, and no other, was written the answers to the octets that it
--- was fed, as Z39.50 or, where a letter comes first, as HTTP: those of a route with private sessions with the targets
--- and no pool, under the marks that the report lists, one for each request that is answered. No other client, no
--- session with a target, no pool and no clock is in that answer. A mark other than Plain says that a target or the
--- pool failed this request, and comes with its counted cause alone: over all clients the wire counted a fault for each
--- Link, as many looks in vain as the pool is patient for each Silent, and one reply more that a set is gone than the pool
--- repeats for each Gone; and where one is Full, as many links were made, or failed, as there may be sessions. The sums
--- that are printed, of links made, Searches sent, sets that were gone and calls that failed, are what the wire counted.
--- (A target that tells what it answers makes no other fault.)
--- Where the script cuts and slows no link and deletes no set, over a wire to which nothing was made to happen before and
--- whose counts are exact and stood at 0, at targets that tell what they answer, no call failed and no set was gone, and
+-- A replay of the configuration and the script of two files printed the page of one report, and nothing else, whatever
+-- the script interleaves. On a fair route, whose targets' answers are known whichever member of a group is asked, each
+-- client that it names, once and in ascending order, and no other, was written the answers to the octets that it was
+-- fed, as Z39.50 or, where a letter comes first, as HTTP: those of a route with private sessions with the targets and
+-- no pool, under the marks that the report lists, one for each request that is answered. No other client, no session
+-- with a target, no pool and no clock is in that answer. A mark other than Plain comes with its counted cause alone:
+-- over all clients the wire counted a fault for each Link, as many looks in vain as the pool is patient for each
+-- Silent, and one reply more that a set is gone than the pool repeats for each Gone; and where one is Full, as many
+-- links were made, or failed, as there may be sessions. The sums that are printed, of links, Searches, sets gone and
+-- calls that failed, are what the wire counted.
+-- Over a wire that counts exactly, had counted nothing and to which nothing was made to happen, at targets that tell
+-- what they answer, a script that cuts and slows no link and deletes no set has no failed call and no set gone, and
 -- every mark is Plain or Full; and Plain, where fewer links were made than there may be sessions of a class, or where
--- there may be, for each client that the script names, as many as the route's databases have legs together, or 16 where
--- they have more. So are all marks where links are cut, replies are late and sets are deleted, over such a wire whatever
--- it counted, if no cut and no deletion falls while a request is in work, no more Presents find their sets deleted than
--- the pool repeats, and replies come within its patience. Which requests are in work at each event is seen in what the
--- replay went through; where every client that took a step was run since, none is.
+-- there may be, for each client named, as many as the route's databases have legs, or 16 where they have more. So they
+-- are whatever is cut, slowed and deleted, if no cut and no deletion falls while a request is in work (seen in what it
+-- went through), no more Presents find sets deleted than the pool repeats, and replies come within its patience.
 -- And where a script is orderly over such a wire without links (no two requests are in work at once, nothing befalls a
--- link, the legs of each request go to different classes, and the sets of a class find room in one session), every mark
--- is Plain, and the searches and dials that are printed are those that sharing needs, class by class: they are counted
--- from the script and what targets mean, without a pool.
--- Each load is orderly. So over such a wire, at a target that tells what it answers, the four requests of each client are Plain
--- in its line, which has a search for each of five letters, more only where the target refuses one, and one link.
--- Where every mark is Plain, octets have one answer (`one_answer` of `sru_rules`), and how a connection ends follows
--- from its octets and the route alone (`one_end`). So two replays that feed a client the same octets, with all its
--- marks Plain, write it the same and end its connection the same.
+-- link, the legs of each request go to different classes, and the sets of a class find room in one session), every
+-- mark is Plain, and the searches and dials that are printed are those that sharing needs, class by class: they are
+-- counted from the script and what targets mean, without a pool. Each load is orderly. Where every mark is Plain,
+-- octets have one answer (`one_answer` of `sru_rules`) and one end (`one_end`), by the route alone: two replays that
+-- feed a client the same octets write it the same and end it the same.
 use Rattle.std.specs.Prelude.{◌≡◌, ℕ, List, [], ◌∷◌, Some, codes}
 use Rattle.z_types.specs.declared.world.World as world
 use Rattle.route_config.specs.declared.route.Route.{Route}
@@ -69,8 +61,7 @@ IsReplayHeadline w calls words reads writes ended =
     → reads.contents config ≡ Some config_text → reads.contents script ≡ Some script_text
     → IsReplay w calls config_text script_text writes
 
--- `load` at Ok: so many clients were played, and one line of a report of them was printed, as that of a
--- replay is one by its events
+-- `load` at Ok: so many clients were played, and the line of a report of them was printed
 abbrev pub IsLoadHeadline : {W S : Type 0} → world.Ghosts W → WireCalls W S → List (List ℕ) → SinkWrites → Status
     → Type 0
 IsLoadHeadline w calls words writes ended =
