@@ -1,5 +1,5 @@
 /* zrelay - a gateway that does nothing: passes each unit on to a target, and its reply back; a unit whose tag is listed it answers itself with a fixed
-   reply. One thread a connection, one link each. Its system calls are the gateway's: a read, a send, a wait and a read at the target, and a send.
+   reply. One thread a connection, one link each. Its system calls are the gateway's but for a futex a request: a read, a send, a wait and a read at the target, and a send.
    Build: gcc -O2 -Wall -pthread -o zrelay zrelay.c      Use: zrelay PORT TARGETPORT TAGHEX=REPLYHEX ...   (tag as zfloor's). Each unit and each reply has to
    come by one read, of at most 4096 octets. */
 #define _GNU_SOURCE
@@ -31,6 +31,7 @@ static void *serve(void *c) { int s = (int)(long)c, link = at(target, 0), i; uns
         if (!m || send(s, o, (size_t)m, MSG_NOSIGNAL) != m) break; }
     close(link); close(s); return 0; }
 int main(int argc, char **argv) { int l, c, i, one = 1; size_t k;
+    if (argc < 3) { fprintf(stderr, "use: zrelay PORT TARGETPORT TAGHEX=REPLYHEX ...\n"); return 2; }
     for (i = 3; i < argc && nr < 16; i++) { char *q = strchr(argv[i], '='); R *r = &rs[nr]; if (!q) continue; *q++ = 0; r->tag = (unsigned)strtoul(argv[i], 0, 16);
         for (k = 0; k + 1 < strlen(q) && r->n < MOST; k += 2) { char x[3] = {q[k], q[k + 1], 0}; r->b[r->n++] = (unsigned char)strtol(x, 0, 16); } nr++; }
     target = atoi(argv[2]); l = at(atoi(argv[1]), 1);

@@ -19,8 +19,8 @@
 -- link, the legs of each request go to different classes, and the sets of a class find room in one session), every
 -- mark is Plain, and the searches and dials that are printed are those that sharing needs, class by class: they are
 -- counted from the script and what targets mean, without a pool. Each load is orderly. Where every mark is Plain,
--- octets have one answer (`one_answer` of `sru_rules`) and one end (`one_end`), by the route alone: two replays that
--- feed a client the same octets write it the same and end it the same.
+-- octets have one answer (`one_answer` of `sru_rules`); they have one end, by the route alone (`one_end`). So two
+-- replays that feed a client the same octets, with all its marks Plain, write it the same and end it the same.
 use Rattle.std.specs.Prelude.{◌≡◌, ℕ, List, [], ◌∷◌, Some, codes}
 use Rattle.z_types.specs.declared.world.World as world
 use Rattle.route_config.specs.declared.route.Route.{Route}
