@@ -1,3 +1,2 @@
 mod Played
-mod ReportLemmas
 mod PlainLoads

@@ -19,8 +19,8 @@ use Rattle.load_shares.specs.Costs.{is_sent, load_dials, load_searches, load_use
 use Rattle.load_shares.specs.Laws.{AreAnswered, LoadsAreAnswered, LoadsAreAnsweredPlainly, LoadsAreOrderly, LoadsNeedSo, WasAnswered, WasAnsweredPlainly}
 use Rattle.load_shares.specs.Runs.{answers_for, load_runs}
 use Rattle.gateway_top.specs.Load.{HasLoadSums, is_plain, octets_written, plain_requests}
-use Rattle.gateway_top.specs.Outside.{WireCalls}
-use Rattle.gateway_top.specs.Reported.{IsPlayedReport}
+use Rattle.replay_top.specs.Outside.{WireCalls}
+use Rattle.replay_top.specs.Reported.{IsPlayedReport}
 
 -- a number below 2^64 stays as it is
 within : (n : ℕ) → n ≤ most_clients → within64 n ≡ n

@@ -12,7 +12,7 @@ use Rattle.gateway_top.specs.Outcome.{ScriptPlayed, ScriptDone, RoutePlayed, Rep
 use Rattle.gateway_config.specs.Outside.{FileReads, SinkWrites}
 use Rattle.gateway_config.specs.declared.status.Status.{Status}
 use Rattle.gateway_config.specs.declared.status.Status.TheVariants as status
-use Rattle.gateway_top.specs.Outside.{WireCalls}
+use Rattle.replay_top.specs.Outside.{WireCalls}
 
 -- what files have, how their faults rose, and which read failed last
 abbrev reads : (List ℕ → Option (List ℕ)) → (before after : ℕ) → Option (List ℕ) → FileReads

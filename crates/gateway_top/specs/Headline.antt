@@ -35,7 +35,7 @@ use Rattle.gateway_top.specs.Outcome.{HasPrinted, IsPlayable}
 use Rattle.gateway_config.specs.Outside.{FileReads, SinkWrites}
 use Rattle.gateway_config.specs.declared.status.Status.{Status}
 use Rattle.gateway_config.specs.declared.status.Status.TheVariants.{Ok}
-use Rattle.gateway_top.specs.Outside.{WireCalls}
+use Rattle.replay_top.specs.Outside.{WireCalls}
 
 -- the configuration and the script were replayed, and the page is what was printed
 pub record IsReplay {W S : Type 0} (w : world.Ghosts W) (calls : WireCalls W S) (config script : List ℕ)

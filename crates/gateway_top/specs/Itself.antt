@@ -7,7 +7,7 @@ use Rattle.gateway_config.specs.Lines.{line_of}
 use Rattle.gateway_top.specs.Outcome.{IsDone}
 use Rattle.gateway_config.specs.Outside.{FileReads, SinkWrites}
 use Rattle.gateway_config.specs.declared.status.Status.{Status}
-use Rattle.gateway_top.specs.Outside.{WireCalls}
+use Rattle.replay_top.specs.Outside.{WireCalls}
 
 -- what the program is, and its words
 abbrev pub help_text : List ℕ

@@ -1,8 +1,6 @@
 pub mod Command
 pub mod Lines
 pub mod Targets
-pub mod Outside
-pub mod Reported
 pub mod Load
 pub mod Outcome
 pub mod Headline

@@ -19,8 +19,8 @@ use Rattle.gateway_config.specs.Lines.{Received, ReceivedNothing, FailedWithin, 
 use Rattle.gateway_config.specs.Outside.{SinkWrites}
 use Rattle.gateway_config.specs.declared.status.Status.{Status}
 use Rattle.gateway_config.specs.declared.status.Status.TheVariants as status
-use Rattle.gateway_top.specs.Outside.{WireCalls}
-use Rattle.gateway_top.specs.Reported.{IsPlayedReport}
+use Rattle.replay_top.specs.Outside.{WireCalls}
+use Rattle.replay_top.specs.Reported.{IsPlayedReport}
 
 -- the mark of an answer that no target and no pool failed
 abbrev pub is_plain : Mark → Bool

@@ -18,8 +18,8 @@ use Rattle.gateway_top.specs.Command.{check_of, replay_of, load_of}
 use Rattle.gateway_top.specs.Lines.{check_line, real_target_line, script_line}
 use Rattle.gateway_top.specs.Load.{LoadDone}
 use Rattle.gateway_top.specs.Targets.{first_real}
-use Rattle.gateway_top.specs.Outside.{WireCalls}
-use Rattle.gateway_top.specs.Reported.{IsPlayedReport}
+use Rattle.replay_top.specs.Outside.{WireCalls}
+use Rattle.replay_top.specs.Reported.{IsPlayedReport}
 
 -- the page of one report of the events was printed, and nothing else
 pub record HasPrinted {W S : Type 0} (w : world.Ghosts W) (calls : WireCalls W S) (route : Route) (events : List Event)

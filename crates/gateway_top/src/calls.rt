@@ -2,7 +2,7 @@
 
 ghost use Rattle.gateway_top.specs.Outcome.{IsDone, ReplayDone, CheckDone, RoutePlayed, IsMemoryOr, IsTargetRefusal, IsTextPrinted};
 ghost use Rattle.gateway_config.specs.Outside.{file_reads, sink_writes};
-ghost use Rattle.gateway_top.specs.Outside.{wire_calls};
+ghost use Rattle.replay_top.specs.Outside.{wire_calls};
 ghost use Rattle.gateway_top.specs.Headline.{IsReplayHeadline, IsCheckHeadline, IsLoadHeadline};
 ghost use Rattle.gateway_top.specs.Targets.{first_real};
 ghost use Rattle.gateway_top.specs.Lines.{check_line};

@@ -2,7 +2,7 @@
 
 ghost use Rattle.gateway_top.specs.Itself.{IsProgramDone, own_text};
 ghost use Rattle.gateway_config.specs.Outside.{file_reads, sink_writes};
-ghost use Rattle.gateway_top.specs.Outside.{wire_calls};
+ghost use Rattle.replay_top.specs.Outside.{wire_calls};
 ghost use Rattle.std.specs.Prelude.{◌≡◌};
 ghost use Rattle.std.specs.Option.{option_copied};
 

@@ -8,8 +8,8 @@ ghost use Rattle.sample_maker.specs.Load.{load_events};
 ghost use Rattle.replay.specs.Page.{requests};
 ghost use Rattle.gateway_top.specs.Load.{HasLoadSums, LoadDone, is_plain, links_made, load_line, octets_written, plain_requests, searches_sent};
 ghost use Rattle.gateway_config.specs.Outside.{sink_writes};
-ghost use Rattle.gateway_top.specs.Outside.{wire_calls};
-ghost use Rattle.gateway_top.specs.Reported.{IsPlayedReport};
+ghost use Rattle.replay_top.specs.Outside.{wire_calls};
+ghost use Rattle.replay_top.specs.Reported.{IsPlayedReport};
 
 use gateway_config::Status;
 use gw_outside::{Events, Sink, Wire, write_all};

@@ -4,7 +4,7 @@ ghost use Rattle.std.specs.Prelude.{◌≤◌, ℕ, length, Some};
 ghost use Rattle.script.specs.Events.{AreEvents};
 ghost use Rattle.gateway_top.specs.Outcome.{IsRefusal, Played, ScriptPlayed, ScriptDone};
 ghost use Rattle.gateway_config.specs.Outside.{file_reads, sink_writes};
-ghost use Rattle.gateway_top.specs.Outside.{wire_calls};
+ghost use Rattle.replay_top.specs.Outside.{wire_calls};
 
 use crate::say::script_line;
 use gateway_config::{Status, say, unread};

@@ -1,1 +1,3 @@
 pub mod Lent
+pub mod Outside
+pub mod Reported

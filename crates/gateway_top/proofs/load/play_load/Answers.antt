@@ -1,4 +1,4 @@
-use Rattle.gateway_top.proofs.ReportLemmas.{played_as, played_ok}
+use Rattle.replay_top.proofs.ReportLemmas.{played_as, played_ok}
 use Rattle.gateway_top.proofs.load.play_load.Goals as goal
 
 pub run-requires : goal.run-requires

@@ -9,7 +9,7 @@ use Rattle.replay.specs.Undisturbed.{IsUntroubledIf}
 use Rattle.replay.specs.Wires.{IsCountedBy}
 use Rattle.replay_laws.specs.Borne.{IsBorneIf, WentThrough}
 use Rattle.replay_shares.specs.Shares.{SharesIfOrderlyOver}
-use Rattle.gateway_top.specs.Outside.{WireCalls}
+use Rattle.replay_top.specs.Outside.{WireCalls}
 
 -- Each client was answered to the octets that it was fed; the sums are what the wire counted, and the marks have their counted cause; and
 -- more is sure where nothing befalls links; where no more befalls them than is borne, by what the replay went through and by the events

@@ -10,8 +10,8 @@ use Rattle.replay.specs.Undisturbed.{IsUntroubledIf}
 use Rattle.replay.specs.Wires.{IsCountedBy}
 use Rattle.replay_laws.specs.Borne.{IsBorneIf, WentThrough}
 use Rattle.replay_shares.specs.Shares.{SharesIfOrderlyOver}
-use Rattle.gateway_top.specs.Outside.{WireCalls}
-use Rattle.gateway_top.specs.Reported.{IsPlayedReport}
+use Rattle.replay_top.specs.Outside.{WireCalls}
+use Rattle.replay_top.specs.Reported.{IsPlayedReport}
 
 pub played_ok : {E W S : Type 0} (w : world.Ghosts W) (calls : WireCalls W S) (route : Route) (events : List Event) (result : Result Report E)
     → IfOk result (IsReportOf w route events) → IfOk result (IsCountedBy w calls.exact route calls.before calls.behind)
