@@ -150,10 +150,11 @@ impl RandomSource for Parts {
     }
 }
 
-/// A queue with one task, which is to be polled.
+/// A queue with one task, which is to be polled. Its task asks to be polled again in each poll, so nobody
+/// waits at its doorbell, and a ring wakes none: it is of the kind that takes no system call.
 fn queue_of_one(alloc: Global) -> io::Result<Queue> {
     let parts = Parts { alloc };
-    let made = Queue::new(&parts, Doorbell::parking());
+    let made = Queue::new(&parts, Doorbell::spinning());
     let Parts { alloc: _ } = parts;
     let queue = made?;
     queue.add()?.schedule();

@@ -12,7 +12,6 @@ pub mod UnitLemmas
 pub mod CountLemmas
 pub mod HappenedLemmas
 pub mod GoneLemmas
-pub mod OpenLemmas
 pub mod SteadyArrivals
 pub mod SteadyAsks
 pub mod SteadyLooks
