@@ -28,9 +28,9 @@ const MOST_SETS: u32 = 3;
 pub struct Seven {}
 
 impl Digest for Seven {
-    ghost digest = { λ _. 7 };
+    ghost digest = { λ _ _. 7 };
 
-    fn digest(_: &SetKey) -> u64 {
+    fn digest(_: u32, _: &SetKey) -> u64 {
         7
     }
 }

@@ -134,6 +134,10 @@ module _ {S : Type 0} where
   pub seen_number : (x : Expiries) (ttl : ℕ) (b : Berth (Session S)) → (seen x ttl b).number ≡ b.session.number
   seen_number x ttl b = (elim (nat_lt b.stamp x.count) as (λ t. (cond t (with_fresh_sets x.last ttl b.session) b.session).number ≡ b.session.number) [ true ↦ refl | false ↦ refl ])
 
+  -- and so is its class
+  pub seen_of_class : (x : Expiries) (ttl : ℕ) (b : Berth (Session S)) → (seen x ttl b).class ≡ b.session.class
+  seen_of_class x ttl b = (elim (nat_lt b.stamp x.count) as (λ t. (cond t (with_fresh_sets x.last ttl b.session) b.session).class ≡ b.session.class) [ true ↦ refl | false ↦ refl ])
+
   -- and so is whether it is of a class, of a member, of a seat, or idle
   pub seen_class : (x : Expiries) (ttl class : ℕ) (at : List Address) (b : Berth (Session S)) → in_class class at (seen x ttl b) ≡ in_class class at b.session
   seen_class x ttl class at b = (elim (nat_lt b.stamp x.count) as (λ t. in_class class at (cond t (with_fresh_sets x.last ttl b.session) b.session) ≡ in_class class at b.session) [

@@ -3,4 +3,5 @@ pub mod Settling
 pub mod Seeking
 pub mod Counting
 pub mod Rosters
+pub mod Spending
 pub mod Given

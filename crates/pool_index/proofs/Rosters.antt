@@ -1,5 +1,5 @@
 -- What a roster keeps, and what is told of it
-use Rattle.std.proofs.Common.{◌≡◌, ℕ, suc, zero, ◌+◌, ◌-◌, ◌^◌, ◌<◌, ◌≤◌, min, nat_lt, true, false, cond, not, List, [], ◌∷◌, ◌++◌, length, get_or, set, map, filter, find, Contains, position, Some, is_some, IfSome, refl, sym, ◌∙◌, ap, subst, arith, All}
+use Rattle.std.proofs.Common.{◌≡◌, ℕ, suc, zero, ◌+◌, ◌-◌, ◌^◌, ◌<◌, ◌≤◌, min, nat_lt, true, false, cond, not, List, [], ◌∷◌, ◌++◌, length, get_or, set, map, filter, Contains, position, is_some, IfSome, refl, sym, ◌∙◌, ap, subst, arith, All}
 use Rattle.std.specs.List.Sorted.{IsPermutation}
 use Rattle.std.proofs.lemmas.Bool.Decides.{leb_tells}
 use Rattle.std.proofs.lemmas.List.{map-set, map-append, get_or-map, length-map}
@@ -12,22 +12,19 @@ use Rattle.pool_sets.specs.declared.pooled.Parts.{Parts}
 use Rattle.pool_sets.specs.declared.sessions.Stand.{Stand}
 use Rattle.pool_sets.specs.declared.sessions.Stand.TheVariants.{Idle, Out}
 use Rattle.pool_sets.specs.declared.doors.Seat.{Seat}
-use Rattle.pool_sets.specs.Table.{Entry, same_key}
+use Rattle.pool_sets.specs.Table.{Entry}
 use Rattle.pool_sets.specs.Sessions.{Session, idle_parts, idle_with, with_stand}
 use Rattle.pool_sets.specs.Plain.{is_seat, stays_open, with_fresh_sets, without_old_sets, fresh_sessions}
-use Rattle.pool_sets.proofs.TableLemmas.{find_passes}
-use Rattle.pool_sets.proofs.KeptLemmas.{found_holds}
 use Rattle.pool_core.specs.PoolView.{Ascends, holder_place, at_member}
 use Rattle.pool_core.proofs.Ascending.{ascends_filter, ascends_map, ascends_put}
-use Rattle.pool_core.proofs.Chosen.{holder_of}
 use Rattle.pool_keys.specs.declared.index.Pair.{Pair}
 use Rattle.pool_keys.specs.Pairs.{Indexed, Holds, Grows, pair}
 use Rattle.pool_index.specs.declared.berth.Berth.{Berth}
 use Rattle.pool_index.specs.declared.berth.Expiries.{Expiries}
-use Rattle.pool_index.specs.Told.{seen, told, settled, StandSince, sets_of, AreListed, AreGathered, IsBerth, IsRoster}
-use Rattle.pool_index.specs.RosterView.{RiseIn, IsPlace, is_holder, IsHolder, AreFound, out_session}
+use Rattle.pool_index.specs.Told.{seen, told, settled, StandSince, sets_of, AreListed, IsListed, AreGathered, IsBerth, IsRoster}
+use Rattle.pool_index.specs.RosterView.{RiseIn, IsPlace, is_holder, IsHolder, out_session}
 use Rattle.pool_index.proofs.Lazy.{expires_lazily, expires_each, settled_all, seen_number}
-use Rattle.pool_index.proofs.Settling.{since_lower, seen_listed, settled_berth}
+use Rattle.pool_index.proofs.Settling.{since_lower, settled_berth}
 use Rattle.pool_index.proofs.Counting.{position_same, told_without}
 
 not_less : (n : ℕ) → nat_lt n n ≡ false
@@ -47,11 +44,6 @@ fits a h = omega arith
 
 none_under : {X : Type 0} (j : ℕ) → j < 0 → X
 none_under j h = absurd (omega arith)
-
-one_listed : (digest : SetKey → ℕ) (index : Indexed) (number : ℕ) (key : SetKey) (es : List Entry) (e : Entry) → AreListed digest index number es → find (λ (f : Entry). same_key f.key key) es ≡ Some e → Holds index (pair (digest key) number)
-one_listed digest index number key es e listed h =
-    let same : e.key ≡ key = keys.key.eq_is_exact e.key key (find_passes (λ (f : Entry). same_key f.key key) es e h) in
-    subst (λ k. Holds index (pair (digest k) number)) same (found_holds (λ (f : Entry). Holds index (pair (digest f.key) number)) (λ f. same_key f.key key) es e listed h)
 
 module _ {S : Type 0} where
   ends : (m n : ℕ) (os : List (Session S)) → Ascends m n os → m ≤ n
@@ -134,19 +126,7 @@ module _ {S : Type 0} where
       holds = λ d. ap (is_holder class at key) (told_at place bs b d is.within e ∙ sym (ap (λ y. y.session) s)) ∙ h;
     }
 
-  module _ (digest : SetKey → ℕ) (index : Indexed) (x : Expiries) (oldest ttl : ℕ) where
-    found_one : (class : ℕ) (at : List Address) (key : SetKey) (b : Berth (Session S)) → index.whole ≡ true → IsBerth digest index x.count oldest b → is_holder class at key (seen x ttl b) ≡ true → Contains index.pairs (pair (digest key) (seen x ttl b).number)
-    found_one class at key b whole is h =
-        let w = holder_of class at key (seen x ttl b) h in
-        let listed = subst (λ s. AreListed digest index b.session.number (sets_of s)) w.2.idle.stand (seen_listed digest index b.session.number ttl x b is.listed) in
-        subst (λ n. Contains index.pairs (pair (digest key) n)) (sym (seen_number x ttl b)) (one_listed digest index b.session.number key w.0.table.entries w.1 listed w.2.holds whole)
-
-    -- each session that holds a set of the key is found
-    pub are_found : (class : ℕ) (at : List Address) (key : SetKey) (bs : List (Berth (Session S))) → index.whole ≡ true → IsRoster digest index x oldest ttl bs → AreFound index (digest key) class at key (told x ttl bs)
-    are_found class at key bs whole r =
-        All-map (λ (o : Session S). is_holder class at key o ≡ true → Contains index.pairs (pair (digest key) o.number)) (seen x ttl) bs
-        (All-weaker (IsBerth digest index x.count oldest) (λ b. is_holder class at key (seen x ttl b) ≡ true → Contains index.pairs (pair (digest key) (seen x ttl b).number)) (λ b is. found_one class at key b whole is) bs r.each)
-
+  module _ (digest : ℕ → SetKey → ℕ) (index : Indexed) (x : Expiries) (oldest ttl : ℕ) where
     -- the pool expires, and no session does
     pub told_lazily : (now session_ttl : ℕ) (bs : List (Berth (Session S))) → x.last ≤ now → now - oldest < session_ttl → IsRoster digest index x oldest ttl bs → told (record { count = x.count + 1; last = now }) ttl bs ≡ fresh_sessions now session_ttl ttl (told x ttl bs)
     told_lazily now session_ttl bs h k r =
@@ -204,7 +184,7 @@ module _ {S : Type 0} where
       each = All-set (IsBerth digest after x.count since) bs place c is (All-weaker (IsBerth digest index x.count oldest) (IsBerth digest after x.count since) (λ y k. record {
         stamped = k.stamped;
         since = since_lower since oldest y.session.stand earlier k.since;
-        listed = All-weaker (λ (f : Entry). Holds index (pair (digest f.key) y.session.number)) (λ f. Holds after (pair (digest f.key) y.session.number)) (λ f h. grows (pair (digest f.key) y.session.number) h) (sets_of y.session.stand) k.listed;
+        listed = All-weaker (λ (f : Entry). Holds index (pair (digest y.session.class f.key) y.session.number)) (λ f. Holds after (pair (digest y.session.class f.key) y.session.number)) (λ f h. grows (pair (digest y.session.class f.key) y.session.number) h) (sets_of y.session.stand) k.listed;
       }) bs r.each);
     }
 
@@ -212,12 +192,12 @@ module _ {S : Type 0} where
     pub lent_roster : (place : ℕ) (bs : List (Berth (Session S))) (b : Berth (Session S)) (spot : Address) → IsRoster digest index x oldest ttl bs → place < length bs → b ≡ get_or bs place b → IsRoster digest index x oldest ttl (set bs place (record { session = with_stand (Out spot) (seen x ttl b); stamp = x.count }))
     lent_roster place bs b spot r w e =
         roster_set index oldest place bs b (record { session = with_stand (Out spot) (seen x ttl b); stamp = x.count }) r (λ p h. h) (omega arith)
-        (record { stamped = omega arith; since = tt; listed = All-nil (λ (f : Entry). Holds index (pair (digest f.key) (seen x ttl b).number)) })
+        (record { stamped = omega arith; since = tt; listed = All-nil (λ (f : Entry). Holds index (pair (digest (seen x ttl b).class f.key) (seen x ttl b).number)) })
         (ap (λ o. o.number) (left_now x ttl (with_stand (Out spot) (seen x ttl b)))) w e
 
     -- a session is put to rest, and its sets are found
     pub rested_roster : (after : Indexed) (since place : ℕ) (bs : List (Berth (Session S))) (b : Berth (Session S)) (parts : Parts S) → IsRoster digest index x oldest ttl bs → place < length bs → b ≡ get_or bs place b →
-        Grows index after → AreListed digest after b.session.number parts.table.entries → IsRoster digest after x (min oldest since) ttl (set bs place (record { session = with_stand (Idle parts since) b.session; stamp = x.count }))
+        Grows index after → AreListed (digest b.session.class) after b.session.number parts.table.entries → IsRoster digest after x (min oldest since) ttl (set bs place (record { session = with_stand (Idle parts since) b.session; stamp = x.count }))
     rested_roster after since place bs b parts r w e grows listed =
         roster_set after (min oldest since) place bs b (record { session = with_stand (Idle parts since) b.session; stamp = x.count }) r grows (omega arith)
         (record { stamped = omega arith; since = omega arith; listed = listed })
@@ -227,17 +207,17 @@ module _ {S : Type 0} where
     pub moved_roster : (place : ℕ) (bs : List (Berth (Session S))) (b : Berth (Session S)) (member : ℕ) (to : Address) → IsRoster digest index x oldest ttl bs → place < length bs → b ≡ get_or bs place b → IsRoster digest index x oldest ttl (set bs place (record { session = at_member member to b.session; stamp = b.stamp }))
     moved_roster place bs b member to r w e =
         roster_set index oldest place bs b (record { session = at_member member to b.session; stamp = b.stamp }) r (λ p h. h) (omega arith)
-        (record { stamped = subst (λ y. y.stamp ≤ x.count) (sym e) (r.each place b w).stamped; since = tt; listed = All-nil (λ (f : Entry). Holds index (pair (digest f.key) b.session.number)) })
+        (record { stamped = subst (λ y. y.stamp ≤ x.count) (sym e) (r.each place b w).stamped; since = tt; listed = All-nil (λ (f : Entry). Holds index (pair (digest b.session.class f.key) b.session.number)) })
         (ap (λ o. o.number) (moved_seen x ttl b member to)) w e
 
     -- a session is dialled
     pub dialled_roster : (bs : List (Berth (Session S))) (number class member : ℕ) (spot : Address) → IsRoster digest index x oldest ttl bs → Ascends 0 (2 ^ 64 - 1) (told x ttl bs ++ out_session number class member spot ∷ []) → IsRoster digest index x oldest ttl (bs ++ (record { session = out_session number class member spot; stamp = x.count }) ∷ [])
     dialled_roster bs number class member spot r a =
         roster_push bs (record { session = out_session number class member spot; stamp = x.count }) r
-        (record { stamped = omega arith; since = tt; listed = All-nil (λ (f : Entry). Holds index (pair (digest f.key) number)) })
+        (record { stamped = omega arith; since = tt; listed = All-nil (λ (f : Entry). Holds index (pair (digest class f.key) number)) })
         (subst (λ o. Ascends 0 (2 ^ 64 - 1) (told x ttl bs ++ o ∷ [])) (sym (left_now x ttl (out_session number class member spot))) a)
 
-    relisted : (after : Indexed) (bs : List (Berth (Session S))) → IsRoster digest index x oldest ttl bs → All (λ b. AreListed digest after b.session.number (sets_of b.session.stand)) bs → IsRoster digest after x oldest ttl bs
+    pub relisted : (after : Indexed) (bs : List (Berth (Session S))) → IsRoster digest index x oldest ttl bs → All (IsListed digest after) bs → IsRoster digest after x oldest ttl bs
     relisted after bs r listed = record {
       ascends = r.ascends;
       each = λ k d w. record { stamped = (r.each k d w).stamped; since = (r.each k d w).since; listed = listed k d w };
@@ -248,7 +228,7 @@ module _ {S : Type 0} where
     roster_lacking after bs lacks r = relisted after bs r (λ k d w i e h whole. let bad : true ≡ false = sym whole ∙ lacks in cc)
 
     -- an index that is filled with the pairs of all sets
-    pub roster_filled : (after : Indexed) (ps : List Pair) (bs : List (Berth (Session S))) → IsPermutation ps after.pairs → All (λ b. AreGathered digest ps b.session.number (sets_of b.session.stand)) bs → IsRoster digest index x oldest ttl bs → IsRoster digest after x oldest ttl bs
+    pub roster_filled : (after : Indexed) (ps : List Pair) (bs : List (Berth (Session S))) → IsPermutation ps after.pairs → All (λ b. AreGathered (digest b.session.class) ps b.session.number (sets_of b.session.stand)) bs → IsRoster digest index x oldest ttl bs → IsRoster digest after x oldest ttl bs
     roster_filled after ps bs moved gathered r =
-        relisted after bs r (λ k d w. All-weaker (λ (e : Entry). Contains ps (pair (digest e.key) (get_or bs k d).session.number)) (λ e. Holds after (pair (digest e.key) (get_or bs k d).session.number))
-        (λ e there whole. Contains-permutation ps after.pairs (pair (digest e.key) (get_or bs k d).session.number) moved there) (sets_of (get_or bs k d).session.stand) (gathered k d w))
+        relisted after bs r (λ k d w. All-weaker (λ (e : Entry). Contains ps (pair (digest (get_or bs k d).session.class e.key) (get_or bs k d).session.number)) (λ e. Holds after (pair (digest (get_or bs k d).session.class e.key) (get_or bs k d).session.number))
+        (λ e there whole. Contains-permutation ps after.pairs (pair (digest (get_or bs k d).session.class e.key) (get_or bs k d).session.number) moved there) (sets_of (get_or bs k d).session.stand) (gathered k d w))

@@ -1,5 +1,5 @@
 -- The first session that holds a set of a key, by its number
-use Rattle.std.proofs.Common.{◌≡◌, ◌≢◌, ℕ, suc, zero, ◌+◌, ◌<◌, ◌≤◌, ◌^◌, nat_lt, Bool, true, false, List, [], ◌∷◌, length, get_or, Option, None, Some, refl, sym, ◌∙◌, ap, subst, arith, All, position}
+use Rattle.std.proofs.Common.{◌≡◌, ◌≢◌, ℕ, suc, zero, ◌+◌, ◌<◌, ◌≤◌, ◌^◌, nat_lt, Bool, true, false, List, [], ◌∷◌, length, get_or, Option, None, Some, refl, sym, ◌∙◌, ap, subst, arith, All, Contains, position}
 use Rattle.std.specs.List.{position_or_len}
 use Rattle.std.proofs.lemmas.Bool.Decides.{leb_tells}
 use Rattle.std.specs.List.Sorted.{IsNonDecreasingBy, IsPartitionPoint}
@@ -12,11 +12,11 @@ use Rattle.pool_sets.specs.Sessions.{Session}
 use Rattle.pool_sets.specs.Plain.{is_seat}
 use Rattle.pool_core.proofs.Seats.{seat_number}
 use Rattle.pool_core.specs.PoolView.{holder_place}
-use Rattle.pool_keys.specs.Pairs.{Indexed, IsNext, IsAtMost}
+use Rattle.pool_keys.specs.Pairs.{Indexed, IsNext, IsAtMost, pair}
 use Rattle.pool_index.specs.declared.berth.Berth.{Berth}
 use Rattle.pool_index.specs.declared.berth.Expiries.{Expiries}
 use Rattle.pool_index.specs.Told.{seen, told}
-use Rattle.pool_index.specs.RosterView.{Rises, IsPlace, RiseIn, is_holder, IsHolder, IsNoHolder, AreFound}
+use Rattle.pool_index.specs.RosterView.{Rises, IsPlace, RiseIn, is_holder, IsHolder, IsNoHolder}
 use Rattle.pool_index.proofs.Lazy.{seen_number}
 
 less : (a b : ℕ) → nat_lt a b ≡ true → a < b
@@ -64,6 +64,10 @@ lower a b c h k = omega arith
 
 too_low : (n m : ℕ) → n ≤ m → m < n → ⊥
 too_low n m h k = omega arith
+
+-- the sets of a key are found under a digest
+abbrev pub AreFound : {S : Type 0} → Indexed → ℕ → ℕ → List Address → SetKey → List (Session S) → Type 0
+AreFound index digest class at key os = All (λ o. is_holder class at key o ≡ true → Contains index.pairs (pair digest o.number)) os
 
 -- no session of a lesser number holds a set of the key
 abbrev pub NoneUnder : {S : Type 0} → ℕ → List Address → SetKey → List (Session S) → ℕ → Type 0

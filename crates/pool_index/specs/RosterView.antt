@@ -1,12 +1,11 @@
 -- For contracts alone: the sessions of a pool, and how long sessions and sets stay unused (this project's own)
-use Rattle.std.specs.Prelude.{◌≡◌, ◌⊎◌, ℕ, ◌<◌, ◌^◌, Bool, true, false, List, [], slice_set, slice_index_or, length, is_some, All, Contains}
+use Rattle.std.specs.Prelude.{◌≡◌, ◌⊎◌, ℕ, ◌<◌, ◌^◌, Bool, true, false, List, [], slice_set, slice_index_or, length, is_some, All}
 use Rattle.z_types.specs.declared.key.SetKey.{SetKey}
 use Rattle.z_types.specs.declared.address.Address.{Address}
 use Rattle.pool_sets.specs.declared.sessions.Stand.TheVariants.{Out}
 use Rattle.pool_sets.specs.Sessions.{Session, idle_with}
 use Rattle.pool_index.specs.declared.berth.Berth.{Berth}
 use Rattle.pool_index.specs.declared.berth.Expiries.{Expiries}
-use Rattle.pool_keys.specs.Pairs.{Indexed, pair}
 use Rattle.pool_index.specs.Told.{settled}
 
 -- the sessions that are told, and how long a session and a set may be unused
@@ -62,11 +61,6 @@ module _ {S : Type 0} where
   -- the session of a number is none
   abbrev pub IsNoHolder : ℕ → ℕ → List Address → SetKey → List (Session S) → Type 0
   IsNoHolder number class at key os = All (λ o. o.number ≡ number → is_holder class at key o ≡ false) os
-
-  -- the sets of a key are found under a digest
-  abbrev pub AreFound : Indexed → ℕ → ℕ → List Address → SetKey → List (Session S) → Type 0
-  AreFound index digest class at key os =
-      All (λ o. is_holder class at key o ≡ true → Contains index.pairs (pair digest o.number)) os
 
   -- a session that was left as it was, or as it is told
   abbrev pub MaySettle : Expiries → ℕ → Berth (Session S) → Berth (Session S) → Type 0

@@ -1,5 +1,5 @@
 -- What is told of sessions that stood as they were left while the pool expired (this project's own)
-use Rattle.std.specs.Prelude.{ℕ, ◌≤◌, ◌<◌, ◌-◌, ◌^◌, nat_lt, if◌then◌else◌, List, [], map, All, Contains}
+use Rattle.std.specs.Prelude.{◌≡◌, ◌≢◌, ℕ, ◌≤◌, ◌<◌, ◌-◌, ◌^◌, nat_lt, if◌then◌else◌, List, [], map, All, Contains}
 use Rattle.z_types.specs.declared.key.SetKey.{SetKey}
 use Rattle.z_types.specs.declared.address.Address.{Address}
 use Rattle.pool_sets.specs.declared.pooled.Parts.{Parts}
@@ -21,6 +21,10 @@ AreListed digest index number es = All (λ e. Holds index (pair (digest e.key) n
 -- the pair of each set is there
 abbrev pub AreGathered : (SetKey → ℕ) → List Pair → ℕ → List Entry → Type 0
 AreGathered digest pairs number es = All (λ e. Contains pairs (pair (digest e.key) number)) es
+
+-- no set has that digest
+abbrev pub LacksDigest : (SetKey → ℕ) → ℕ → List Entry → Type 0
+LacksDigest digest wanted es = All (λ e. digest e.key ≢ wanted) es
 
 -- what is there stays there
 abbrev pub Gains : List Pair → List Pair → Type 0
@@ -54,13 +58,23 @@ module _ {S : Type 0} where
   sets_of (Idle parts since) = parts.table.entries
   sets_of (Out address) = []
 
+  -- the sets of a session are found, where it is idle
+  abbrev pub IsListed : (ℕ → SetKey → ℕ) → Indexed → Berth (Session S) → Type 0
+  IsListed digest index b = AreListed (digest b.session.class) index b.session.number (sets_of b.session.stand)
+
+  -- no idle session of a pair's number has a set of its digest
+  abbrev pub IsSpent : (ℕ → SetKey → ℕ) → Pair → List (Berth (Session S)) → Type 0
+  IsSpent digest one bs =
+      All (λ b. b.session.number ≡ one.number →
+      LacksDigest (digest b.session.class) one.digest (sets_of b.session.stand)) bs
+
   -- a session that was left no later than the last expiry, not before that moment where it is idle, and whose sets are found
-  pub record IsBerth (digest : SetKey → ℕ) (index : Indexed) (count oldest : ℕ) (b : Berth (Session S)) : Type 0 where
+  pub record IsBerth (digest : ℕ → SetKey → ℕ) (index : Indexed) (count oldest : ℕ) (b : Berth (Session S)) : Type 0 where
     pub stamped : b.stamp ≤ count
     pub since : StandSince oldest b.session.stand
-    pub listed : AreListed digest index b.session.number (sets_of b.session.stand)
+    pub listed : IsListed digest index b
 
   -- sessions in the order of their numbers, each of them such
-  pub record IsRoster (digest : SetKey → ℕ) (index : Indexed) (x : Expiries) (oldest ttl : ℕ) (bs : List (Berth (Session S))) : Type 0 where
+  pub record IsRoster (digest : ℕ → SetKey → ℕ) (index : Indexed) (x : Expiries) (oldest ttl : ℕ) (bs : List (Berth (Session S))) : Type 0 where
     pub ascends : Ascends 0 (2 ^ 64 - 1) (told x ttl bs)
     pub each : All (IsBerth digest index x.count oldest) bs

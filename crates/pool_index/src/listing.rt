@@ -1,9 +1,9 @@
 //! The sets of sessions are put where they are found.
 
-ghost use Rattle.std.specs.Prelude.{◌<◌, ◌∷◌, [], length, slice_index_or, All, OnOk};
+ghost use Rattle.std.specs.Prelude.{◌≡◌, ◌<◌, true, false, not, nat_eq, ◌∷◌, [], length, slice_index_or, All, OnOk};
 ghost use Rattle.pool_sets.specs.Table.{Entry};
 ghost use Rattle.pool_keys.specs.Pairs.{Grows};
-ghost use Rattle.pool_index.specs.Told.{AreListed, AreGathered, Gains, sets_of};
+ghost use Rattle.pool_index.specs.Told.{AreListed, AreGathered, LacksDigest, Gains, sets_of};
 
 use crate::Berth;
 use pool_core::Spot;
@@ -12,28 +12,53 @@ use pool_sets::{Open, Pooled, SetTable, Stand};
 use z_types::{Memory, Sitting, World};
 
 /// Puts a session's set at a place into the index, where there is one.
-fn list_one<D: Digest>(index: &mut KeyIndex, table: &SetTable, place: u32, number: u64)
+fn list_one<D: Digest>(index: &mut KeyIndex, table: &SetTable, place: u32, class: u32, number: u64)
     requires within { place < length table.now.entries }
     ensures grows { Grows index.old index.new }
-    ensures listed { (d : Entry) → AreListed D.digest index.new number
+    ensures listed { (d : Entry) → AreListed (D.digest class) index.new number
         (slice_index_or table.now.entries place d ∷ []) }
 {
     if let Some((key, _)) = table.entry(place) {
         index.admit(Pair {
-            digest: D::digest(key),
+            digest: D::digest(class, key),
             number,
         });
     }
 }
 
 /// Puts all sets of a session into the index.
-pub fn list_all<D: Digest>(index: &mut KeyIndex, table: &SetTable, number: u64)
+pub fn list_all<D: Digest>(index: &mut KeyIndex, table: &SetTable, class: u32, number: u64)
     ensures grows { Grows index.old index.new }
-    ensures listed { AreListed D.digest index.new number table.now.entries }
+    ensures listed { AreListed (D.digest class) index.new number table.now.entries }
 {
     for place in 0..table.len() {
-        list_one::<D>(index, table, place, number);
+        list_one::<D>(index, table, place, class, number);
     }
+}
+
+/// Whether a session's set at a place has another digest, where there is one.
+fn differs<D: Digest>(table: &SetTable, place: u32, class: u32, digest: u64) -> bool
+    requires within { place < length table.now.entries }
+    ensures { (d : Entry) → result
+        ≡ not (nat_eq (D.digest class (slice_index_or table.now.entries place d).key) digest) }
+{
+    match table.entry(place) {
+        Some((key, _)) => D::digest(class, key) != digest,
+        None => true,
+    }
+}
+
+/// Whether no set of a session has that digest.
+pub fn lacks_digest<D: Digest>(table: &SetTable, class: u32, digest: u64) -> bool
+    ensures lacks { result ≡ true → LacksDigest (D.digest class) digest table.now.entries }
+    ensures has { result ≡ false → LacksDigest (D.digest class) digest table.now.entries → ⊥ }
+{
+    for place in 0..table.len() {
+        if !differs::<D>(table, place, class, digest) {
+            return false;
+        }
+    }
+    true
 }
 
 /// Puts the pair of a session's set at a place at the end, where there is one.
@@ -41,16 +66,18 @@ fn gather_one<D: Digest>(
     pairs: &mut Vec<Pair>,
     table: &SetTable,
     place: u32,
+    class: u32,
     number: u64,
 ) -> Result<(), Memory>
     requires within { place < length table.now.entries }
     ensures gains { OnOk result (Gains pairs.old.items pairs.new.items) }
-    ensures gathered { OnOk result ((d : Entry) → AreGathered D.digest pairs.new.items number
+    ensures gathered { OnOk result ((d : Entry)
+        → AreGathered (D.digest class) pairs.new.items number
         (slice_index_or table.now.entries place d ∷ [])) }
 {
     if let Some((key, _)) = table.entry(place) {
         let pair = Pair {
-            digest: D::digest(key),
+            digest: D::digest(class, key),
             number,
         };
         let Ok(()) = pairs.push(pair) else {
@@ -61,13 +88,18 @@ fn gather_one<D: Digest>(
 }
 
 /// Puts the pairs of all sets of a session at the end.
-fn gather<D: Digest>(pairs: &mut Vec<Pair>, table: &SetTable, number: u64) -> Result<(), Memory>
+fn gather<D: Digest>(
+    pairs: &mut Vec<Pair>,
+    table: &SetTable,
+    class: u32,
+    number: u64,
+) -> Result<(), Memory>
     ensures gains { OnOk result (Gains pairs.old.items pairs.new.items) }
     ensures gathered { OnOk result
-        (AreGathered D.digest pairs.new.items number table.now.entries) }
+        (AreGathered (D.digest class) pairs.new.items number table.now.entries) }
 {
     for place in 0..table.len() {
-        let Ok(()) = gather_one::<D>(pairs, table, place, number) else {
+        let Ok(()) = gather_one::<D>(pairs, table, place, class, number) else {
             return Err(Memory);
         };
     }
@@ -80,11 +112,16 @@ fn gather_from<W: World, S: Sitting<W>, D: Digest>(
     session: &Open<Pooled<W, S>, Spot>,
 ) -> Result<(), Memory>
     ensures gains { OnOk result (Gains pairs.old.items pairs.new.items) }
-    ensures gathered { OnOk result (AreGathered D.digest pairs.new.items session.now.number
-        (sets_of session.now.stand)) }
+    ensures gathered { OnOk result (AreGathered (D.digest session.now.class) pairs.new.items
+        session.now.number (sets_of session.now.stand)) }
 {
     match &session.stand {
-        Stand::Idle { pooled, .. } => gather::<D>(pairs, pooled.table(), session.number),
+        Stand::Idle { pooled, .. } => gather::<D>(
+            pairs,
+            pooled.table(),
+            session.class,
+            session.number,
+        ),
         Stand::Out { .. } => Ok(()),
     }
 }
@@ -94,7 +131,7 @@ pub fn gather_all<W: World, S: Sitting<W>, D: Digest>(
     pairs: &mut Vec<Pair>,
     berths: &[Berth<Open<Pooled<W, S>, Spot>>],
 ) -> Result<(), Memory>
-    ensures gathered { OnOk result (All (λ b. AreGathered D.digest pairs.new.items
+    ensures gathered { OnOk result (All (λ b. AreGathered (D.digest b.session.class) pairs.new.items
         b.session.number (sets_of b.session.stand)) berths.now) }
 {
     for berth in berths {

@@ -167,10 +167,9 @@ impl<W: World, S: Sitting<W>, D: Digest> Roster<W, S, D> {
         if !self.index.is_whole() {
             return self.holder_searched(class, at, key);
         }
-        first_holder(
+        first_holder::<W, S, D>(
             &mut self.berths,
-            &self.index,
-            D::digest(key),
+            &mut self.index,
             self.expiries,
             self.set_ttl,
             class,
@@ -249,7 +248,12 @@ impl<W: World, S: Sitting<W>, D: Digest> Roster<W, S, D> {
         ensures idle { Changes (with_stand (Idle pooled since)) place self.old self.new }
     {
         let berth = &mut self.berths[place];
-        list_all::<D>(&mut self.index, pooled.table(), berth.session.number);
+        list_all::<D>(
+            &mut self.index,
+            pooled.table(),
+            berth.session.class,
+            berth.session.number,
+        );
         self.oldest = self.oldest.min(since);
         rest(&mut berth.session, pooled, since);
         berth.stamp = self.expiries.count;

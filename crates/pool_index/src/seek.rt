@@ -1,17 +1,18 @@
 //! The first session that holds a set of a key, by the digest of the key.
 
-ghost use Rattle.std.specs.Prelude.{◌≡◌, IfSome, IsNone};
+ghost use Rattle.std.specs.Prelude.{◌≡◌, true, false, All, IfSome, IsNone};
 ghost use Rattle.std.specs.List.{AllZip};
 ghost use Rattle.pool_core.specs.PoolView.{holder_place};
-ghost use Rattle.pool_index.specs.Told.{told};
-ghost use Rattle.pool_index.specs.RosterView.{RiseIn, IsHolder, IsNoHolder, AreFound, MaySettle};
+ghost use Rattle.pool_index.specs.Told.{told, IsListed, IsSpent};
+ghost use Rattle.pool_index.specs.RosterView.{Rises, RiseIn, IsHolder, IsNoHolder, MaySettle};
 
 use crate::Berth;
 use crate::berth::{Expiries, settle};
 use crate::berths::place_of;
+use crate::listing::lacks_digest;
 use pool_core::{Spot, holds_in};
-use pool_keys::KeyIndex;
-use pool_sets::{Open, Pooled};
+use pool_keys::{Digest, KeyIndex, Pair};
+use pool_sets::{Open, Pooled, Stand};
 use z_types::{Address, SetKey, Sitting, World};
 
 /// The place of the session of a number, where it is idle and of the class and holds a set of the key.
@@ -42,11 +43,48 @@ fn holder_of<W: World, S: Sitting<W>>(
     }
 }
 
-/// The place of the first idle session of the class that holds a set of the key.
-pub fn first_holder<W: World, S: Sitting<W>>(
+/// Whether no idle session of a pair's number has a set of its digest.
+fn is_spent<W: World, S: Sitting<W>, D: Digest>(
+    berths: &[Berth<Open<Pooled<W, S>, Spot>>],
+    pair: Pair,
+) -> bool
+    requires order { Rises berths.now }
+    ensures spent { result ≡ true → IsSpent D.digest pair berths.now }
+    ensures stands { result ≡ false → IsSpent D.digest pair berths.now → ⊥ }
+{
+    let Some(place) = place_of(berths, pair.number) else {
+        return true;
+    };
+    let session = &berths[place].session;
+    match &session.stand {
+        Stand::Idle { pooled, .. } => {
+            lacks_digest::<D>(pooled.table(), session.class, pair.digest)
+        }
+        Stand::Out { .. } => true,
+    }
+}
+
+/// Takes a pair out where it stands for no set.
+fn take_out_spent<W: World, S: Sitting<W>, D: Digest>(
+    index: &mut KeyIndex,
+    berths: &[Berth<Open<Pooled<W, S>, Spot>>],
+    pair: Pair,
+)
+    requires order { Rises berths.now }
+    requires listed { All (IsListed D.digest index.old) berths.now }
+    ensures listed { All (IsListed D.digest index.new) berths.now }
+    ensures whole { index.new.whole ≡ index.old.whole }
+{
+    if is_spent::<W, S, D>(berths, pair) {
+        index.take_out(pair);
+    }
+}
+
+/// The place of the first idle session of the class that holds a set of the key. A pair that stands for no
+/// set any more is taken out where it is met, so it is met once.
+pub fn first_holder<W: World, S: Sitting<W>, D: Digest>(
     berths: &mut Vec<Berth<Open<Pooled<W, S>, Spot>>>,
-    index: &KeyIndex,
-    digest: u64,
+    index: &mut KeyIndex,
     expiries: Expiries,
     ttl: u64,
     class: u32,
@@ -54,12 +92,14 @@ pub fn first_holder<W: World, S: Sitting<W>>(
     key: &SetKey,
 ) -> Option<usize>
     requires order { RiseIn (told expiries ttl berths.old.items) }
-    requires found { AreFound index.now digest class at.now key.now
-        (told expiries ttl berths.old.items) }
+    requires whole { index.old.whole ≡ true }
+    requires listed { All (IsListed D.digest index.old) berths.old.items }
     ensures place { result
         ≡ holder_place class at.now key.now (told expiries ttl berths.old.items) }
     ensures berths { AllZip (MaySettle expiries ttl) berths.old.items berths.new.items }
+    ensures listed { All (IsListed D.digest index.new) berths.new.items }
 {
+    let digest = D::digest(class, key);
     let mut from = 0;
     loop {
         let Some(number) = index.next(digest, from) else {
@@ -68,6 +108,7 @@ pub fn first_holder<W: World, S: Sitting<W>>(
         if let Some(place) = holder_of(berths, number, expiries, ttl, class, at, key) {
             return Some(place);
         }
+        take_out_spent::<W, S, D>(index, berths.as_slice(), Pair { digest, number });
         let Some(after) = number.checked_add(1) else {
             return None;
         };

@@ -1,1 +1,1 @@
-mod PairLemmas
+pub mod PairLemmas

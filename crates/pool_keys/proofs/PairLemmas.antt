@@ -1,14 +1,15 @@
 -- Pairs in order
 use Rattle.std.proofs.Common.{◌≡◌, ◌⊎◌, inl, inr, ℕ, zero, suc, ◌+◌, ◌*◌, ◌^◌, ◌<◌, ◌≤◌, Bool, true, false, if◌then◌else◌, nat_lt, nat_eq, List, ◌∷◌, length, get_or, Contains, None, Some, refl, sym, ◌∙◌, ap, subst, arith}
-use Rattle.std.specs.List.{insert}
+use Rattle.std.specs.List.{insert, remove}
 use Rattle.std.specs.List.Sorted.{IsPartitionPoint, IsNonDecreasingBy}
 use Rattle.std.proofs.lemmas.Bool.{eqb-true}
 use Rattle.std.specs.Cmp.{nat_eq_equiv}
 use Rattle.std.proofs.lemmas.Bool.Decides.{leb_tells}
 use Rattle.std.proofs.lemmas.List.{get_or_default}
-use Rattle.std.proofs.lemmas.List.Sorted.{Contains-permutation, IsPermutation-insert, IsPermutation-sym}
+use Rattle.std.proofs.lemmas.List.Edits.{length-remove, get_or-remove_below, get_or-remove_above}
+use Rattle.std.proofs.lemmas.List.Sorted.{Contains-permutation, IsPermutation-insert, IsPermutation-sym, IsNonDecreasingBy-insert}
 use Rattle.pool_keys.specs.declared.index.Pair.{Pair}
-use Rattle.pool_keys.specs.Pairs.{rank, is_before, pair, IsNext}
+use Rattle.pool_keys.specs.Pairs.{rank, is_before, pair, IsAt, IsNext}
 
 less : (a b : ℕ) → nat_lt a b ≡ true → a < b
 less a b h = grind (arith, leb_tells)
@@ -16,17 +17,32 @@ less a b h = grind (arith, leb_tells)
 not_less : (a b : ℕ) → nat_lt a b ≡ false → b ≤ a
 not_less a b h = grind (arith, leb_tells)
 
+at_most : (a b : ℕ) → a < b → a ≤ b
+at_most a b h = omega arith
+
 one_pair : (p q : Pair) → p.digest ≡ q.digest → nat_eq p.number q.number ≡ true → p ≡ q
 one_pair p q a k =
     let b = eqb-true p.number q.number k in
     λ i. record { digest = a i; number = b i }
 
 -- a pair that is read at a place is there
-pub there : (ps : List Pair) (i : ℕ) (d q : Pair) → i < length ps → (get_or ps i d).digest ≡ q.digest → nat_eq (get_or ps i d).number q.number ≡ true → Contains ps q
-there ps i d q within h k = (i, within, get_or_default ps i q d within ∙ one_pair (get_or ps i d) q h k)
+pub there : (ps : List Pair) (i : ℕ) (d q : Pair) → i < length ps → (get_or ps i d).digest ≡ q.digest → nat_eq (get_or ps i d).number q.number ≡ true → IsAt ps i q
+there ps i d q within h k = record { within = within; there = sym (get_or_default ps i q d within ∙ one_pair (get_or ps i d) q h k) }
+
+-- without the one at a place, the pairs stand in order still
+pub removed_order : (ps : List Pair) (i : ℕ) → i < length ps → IsNonDecreasingBy rank ps → IsNonDecreasingBy rank (remove ps i)
+removed_order ps i within up j k d le lt =
+    let long = length-remove ps i within in
+    (elim (nat_lt k i) as (λ t. nat_lt k i ≡ t → rank (get_or (remove ps i) j d) ≤ rank (get_or (remove ps i) k d)) [
+      | true ↦ λ t. let low = less k i t in rw (get_or-remove_below ps i d j (omega arith) within, get_or-remove_below ps i d k low within) (up j k d le (omega arith))
+      | false ↦ λ t. let high = not_less k i t in (elim (nat_lt j i) as (λ u. nat_lt j i ≡ u → rank (get_or (remove ps i) j d) ≤ rank (get_or (remove ps i) k d)) [
+        | true ↦ λ u. rw (get_or-remove_below ps i d j (less j i u) within, get_or-remove_above ps i d k high within) (up j (k + 1) d (omega arith) (omega arith))
+        | false ↦ λ u. rw (get_or-remove_above ps i d j (not_less j i u) within, get_or-remove_above ps i d k high within) (up (j + 1) (k + 1) d (omega arith) (omega arith))
+      ]) refl
+    ]) refl
 
 -- what stands in a list with a head stands in the rest, or is the head
-in_cons : (xs : List Pair) (y p : Pair) → Contains (y ∷ xs) p → Contains xs p ⊎ (p ≡ y)
+pub in_cons : (xs : List Pair) (y p : Pair) → Contains (y ∷ xs) p → Contains xs p ⊎ (p ≡ y)
 in_cons xs y p (zero, within, e) = inr (sym e)
 in_cons xs y p (suc k, within, e) = inl (k, omega arith, e)
 
@@ -40,8 +56,24 @@ pub in_put : (put : Bool) (xs : List Pair) (i : ℕ) (y p : Pair) → Contains (
 in_put true xs i y p h = in_insert xs i y p h
 in_put false xs i y p h = inl h
 
+-- a pair that was put in is there, with all that was
+pub put_holds : (put : Bool) (xs : List Pair) (i : ℕ) (y : Pair) → put ≡ true → Contains (if put then insert xs i y else xs) y
+put_holds true xs i y h = Contains-permutation (y ∷ xs) (insert xs i y) y (IsPermutation-insert xs i y) (0, omega arith, refl)
+put_holds false xs i y h = cc
+
+pub put_grows : (put : Bool) (xs : List Pair) (i : ℕ) (y p : Pair) → Contains xs p → Contains (if put then insert xs i y else xs) p
+put_grows true xs i y p h = Contains-permutation (y ∷ xs) (insert xs i y) p (IsPermutation-insert xs i y) (suc h.0, omega (arith, h.1), h.2)
+put_grows false xs i y p h = h
+
 abbrev pub Point : Pair → List Pair → ℕ → Type 0
 Point q ps i = IsPartitionPoint (λ p. is_before q p ≡ true) (λ p. is_before q p ≡ false) ps i
+
+-- and the pairs stand in order still
+pub put_order : (put : Bool) (xs : List Pair) (i : ℕ) (y : Pair) → i ≤ length xs → Point y xs i → IsNonDecreasingBy rank xs → IsNonDecreasingBy rank (if put then insert xs i y else xs)
+put_order true xs i y l point up =
+    IsNonDecreasingBy-insert rank xs i y up l (λ k d low. at_most (rank (get_or xs k d)) (rank y) (less (rank (get_or xs k d)) (rank y) (point.0 k d (omega arith) low)))
+    (λ k d high w. not_less (rank (get_or xs k d)) (rank y) (point.1 k d high w))
+put_order false xs i y l point up = up
 
 below : (d f m r : ℕ) → f ≤ m → r < d * 2 ^ 64 + f → r ≡ d * 2 ^ 64 + m → ⊥
 below d f m r h p e = omega arith
@@ -72,6 +104,10 @@ module _ (ps : List Pair) (digest from i : ℕ) (point : Point (pair digest from
     from_there = tt;
     least = λ m h s c. none_before m c.0 h c.2 (is_under c.0 i (length ps) c.1 le);
   }
+
+  -- and the pair of that number stands nowhere
+  pub nowhere : length ps ≤ i → Contains ps (pair digest from) → ⊥
+  nowhere le c = none_before from c.0 (omega arith) c.2 (is_under c.0 i (length ps) c.1 le)
 
   module _ (up : IsNonDecreasingBy rank ps) (p : Pair) (within : i < length ps) (is : p ≡ get_or ps i p) (small : p.number < 2 ^ 64) where
     from_here : digest * 2 ^ 64 + from ≤ p.digest * 2 ^ 64 + p.number
@@ -106,3 +142,18 @@ module _ (ps : List Pair) (digest from i : ℕ) (point : Point (pair digest from
       from_there = from_le digest p.digest p.number from from_here same;
       least = λ m h s c. (one_next m h s c).1;
     }
+
+    -- the pair of the digest and that number stands here, if anywhere
+    here : from < 2 ^ 64 → Contains ps (pair digest from) → (p.digest ≡ digest) × (p.number ≡ from)
+    here s c =
+        let e = one_next from (omega arith) s c in
+        let low = from_le digest p.digest p.number from from_here e.0 in
+        (e.0, omega arith)
+
+    -- and nowhere where one of another digest stands here
+    pub other_digest : from < 2 ^ 64 → nat_eq p.digest digest ≡ false → Contains ps (pair digest from) → ⊥
+    other_digest s other c = let bad : true ≡ false = sym (ap (λ d. nat_eq d digest) (here s c).0 ∙ nat_eq_equiv.refl digest) ∙ other in cc
+
+    -- or one of another number
+    pub other_number : from < 2 ^ 64 → nat_eq p.number from ≡ false → Contains ps (pair digest from) → ⊥
+    other_number s other c = let bad : true ≡ false = sym (ap (λ d. nat_eq d from) (here s c).1 ∙ nat_eq_equiv.refl from) ∙ other in cc

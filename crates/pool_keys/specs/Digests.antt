@@ -1,4 +1,4 @@
--- A number for each key, by which its sets are found (this project's own)
+-- A number for each key of a class, by which its sets are found (this project's own)
 use Rattle.std.specs.Prelude.{ℕ, ◌+◌, ◌*◌, ◌^◌, ◌%◌, List, fold, unsigned_abs}
 use Rattle.z_types.specs.declared.key.SetKey.{SetKey}
 use Rattle.z_types.specs.declared.query.Attr.{Attr}
@@ -32,6 +32,6 @@ tree_mixed (and l r) digest = tree_mixed r (tree_mixed l (mixed digest 6))
 tree_mixed (or l r) digest = tree_mixed r (tree_mixed l (mixed digest 7))
 tree_mixed (and_not l r) digest = tree_mixed r (tree_mixed l (mixed digest 8))
 
--- the number of a key: that of its databases and its query
-abbrev pub key_digest : SetKey → ℕ
-key_digest key = tree_mixed key.query.root (names_mixed 0 key.dbs)
+-- the number of a key of a class: that of the class, of the key's databases and of its query
+abbrev pub key_digest : ℕ → SetKey → ℕ
+key_digest class key = tree_mixed key.query.root (names_mixed (mixed 0 class) key.dbs)

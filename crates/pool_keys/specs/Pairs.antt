@@ -1,5 +1,5 @@
 -- For contracts alone: pairs of digests and numbers (this project's own)
-use Rattle.std.specs.Prelude.{◌≡◌, ◌⊎◌, ℕ, ◌+◌, ◌*◌, ◌^◌, ◌≤◌, ◌<◌, nat_lt, Bool, true, List, Contains, Option, None, Some, IfSome}
+use Rattle.std.specs.Prelude.{◌≡◌, ◌⊎◌, ℕ, ◌+◌, ◌*◌, ◌^◌, ◌≤◌, ◌<◌, nat_lt, Bool, true, List, length, slice_index_or, Contains, Option, None, Some, IfSome}
 use Rattle.pool_keys.specs.declared.index.Pair.{Pair}
 
 -- the pairs, and whether none is lacking that was put in
@@ -13,6 +13,11 @@ rank p = p.digest * 2 ^ 64 + p.number
 
 abbrev pub is_before : Pair → Pair → Bool
 is_before pair p = nat_lt (rank p) (rank pair)
+
+-- a pair stands at a place
+pub record IsAt (pairs : List Pair) (place : ℕ) (one : Pair) : Type 0 where
+  pub within : place < length pairs
+  pub there : one ≡ slice_index_or pairs place one
 
 -- a pair is there, unless some are lacking
 abbrev pub Holds : Indexed → Pair → Type 0

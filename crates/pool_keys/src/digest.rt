@@ -1,4 +1,4 @@
-//! A number for each key.
+//! A number for each key of a class.
 
 ghost use Rattle.std.specs.Prelude.{◌≡◌, ℕ, fold};
 ghost use Rattle.z_types.specs.declared.key.SetKey.{SetKey};
@@ -6,25 +6,26 @@ ghost use Rattle.pool_keys.specs.Digests.{mixed, names_mixed, attributes_mixed, 
 
 use z_types::{Attr, Node, Rpn, SetKey, Term, Text};
 
-/// A number for each key, by which a set is found. Two keys may have one number.
+/// A number for each key of a class, by which a set is found. Two keys may have one number.
 pub trait Digest: Drop {
     /// The number.
-    ghost digest: { SetKey → ℕ };
+    ghost digest: { ℕ → SetKey → ℕ };
 
-    /// The number of a key.
-    fn digest(key: &SetKey) -> u64
-        ensures { result ≡ digest key.now };
+    /// The number of a key of a class.
+    fn digest(class: u32, key: &SetKey) -> u64
+        ensures { result ≡ digest class key.now };
 }
 
-/// A number that each part of a key changes.
+/// A number that the class and each part of a key change.
 #[derive(Drop)]
 pub struct KeyDigest {}
 
 impl Digest for KeyDigest {
     ghost digest = { key_digest };
 
-    fn digest(key: &SetKey) -> u64 {
-        mix_tree(mix_names(0, key.dbs.as_slice()), &key.query.root)
+    fn digest(class: u32, key: &SetKey) -> u64 {
+        let names = mix_names(mix(0, u64::from(class)), key.dbs.as_slice());
+        mix_tree(names, &key.query.root)
     }
 }
 

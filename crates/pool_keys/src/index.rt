@@ -1,9 +1,9 @@
 //! The digests of keys in order, with the numbers of the sessions that hold sets of them.
 
-ghost use Rattle.std.specs.Prelude.{◌≡◌, ◌≤◌, true, false, [], length, Contains, if◌then◌else◌};
+ghost use Rattle.std.specs.Prelude.{◌≡◌, ◌≤◌, true, false, [], ◌∷◌, length, Contains, if◌then◌else◌};
 ghost use Rattle.std.specs.List.{insert};
 ghost use Rattle.std.specs.List.Sorted.{IsPartitionPoint, IsNonDecreasingBy, IsPermutation};
-ghost use Rattle.pool_keys.specs.Pairs.{rank, is_before, Holds, Grows, GainsAtMost, IsNext};
+ghost use Rattle.pool_keys.specs.Pairs.{rank, is_before, IsAt, Holds, Grows, GainsAtMost, IsNext};
 
 use std::alloc::Global;
 use std::marker::Model;
@@ -56,9 +56,13 @@ fn place(pairs: &[Pair], pair: Pair) -> usize
     pairs.partition_point(|p| rank(*p) < wanted)
 }
 
-/// Whether that pair stands at a place.
+/// Whether that pair stands at its place; where it does not, it stands nowhere.
 fn is_at(pairs: &[Pair], place: usize, pair: Pair) -> bool
-    ensures { result ≡ true → Contains pairs.now pair }
+    requires order { IsNonDecreasingBy rank pairs.now }
+    requires point { IsPartitionPoint (λ p. is_before pair p ≡ true) (λ p. is_before pair p ≡ false)
+        pairs.now place }
+    ensures at { result ≡ true → IsAt pairs.now place pair }
+    ensures nowhere { result ≡ false → Contains pairs.now pair → ⊥ }
 {
     if place >= pairs.len() {
         return false;
@@ -137,6 +141,21 @@ impl KeyIndex {
             return;
         }
         self.whole = put_in(&mut self.pairs, place, pair);
+    }
+
+    /// Takes a pair out where it stands, once, and answers whether it stood there.
+    pub fn take_out(&mut self, pair: Pair) -> bool
+        ensures taken { result ≡ true → IsPermutation self.old.pairs (pair ∷ self.new.pairs) }
+        ensures nowhere { result ≡ false → Contains self.old.pairs pair → ⊥ }
+        ensures same { result ≡ false → self.new ≡ self.old }
+        ensures whole { self.new.whole ≡ self.old.whole }
+    {
+        let place = place(self.pairs.as_slice(), pair);
+        if !is_at(self.pairs.as_slice(), place, pair) {
+            return false;
+        }
+        self.pairs.remove(place);
+        true
     }
 
     /// Takes all pairs out, and gives their room back without them. The index lacks pairs then.

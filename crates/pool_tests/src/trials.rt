@@ -62,9 +62,9 @@ pub(crate) const KINDS: [Kind; 3] = [Kind::Plain, Kind::Indexed, Kind::OneDigest
 struct Seven {}
 
 impl Digest for Seven {
-    ghost digest = { λ _. 7 };
+    ghost digest = { λ _ _. 7 };
 
-    fn digest(_: &SetKey) -> u64 {
+    fn digest(_: u32, _: &SetKey) -> u64 {
         7
     }
 }

@@ -5,4 +5,4 @@ use Rattle.pool_index.proofs.listing.gather_from.Goals as goal
 
 pub returns-in-Idle-clause-gathered : goal.returns-in-Idle-clause-gathered
 returns-in-Idle-clause-gathered g c =
-    rw c.in-Idle.is (subst (λ t. OnOk c.gather.result (AreGathered g.D.Digest.digest c.gather.new.pairs.items c.args.session.now.number t.entries)) c.table.ensures c.gather.ensures.gathered)
+    rw c.in-Idle.is (subst (λ t. OnOk c.gather.result (AreGathered (g.D.Digest.digest c.args.session.now.class) c.gather.new.pairs.items c.args.session.now.number t.entries)) c.table.ensures c.gather.ensures.gathered)

@@ -1,6 +1,6 @@
-use Rattle.std.proofs.Common.{◌-◌, ◌^◌}
+use Rattle.std.proofs.Common.{◌≡◌, true, ◌-◌, ◌^◌, All}
 use Rattle.std.specs.List.{AllZip}
-use Rattle.pool_index.specs.Told.{told}
+use Rattle.pool_index.specs.Told.{told, IsListed}
 use Rattle.pool_index.specs.RosterView.{MaySettle}
 use Rattle.pool_index.proofs.Seeking.{NoneUnder}
 use Rattle.pool_index.proofs.seek.first_holder.Given as goal
@@ -9,6 +9,8 @@ abbrev pub invariant-loop-number : goal.invariant-loop-number
 invariant-loop-number g l = record {
   none : NoneUnder l.class l.at l.key (told l.expiries l.ttl l.initial.berths.items) l.from;
   may : AllZip (MaySettle l.expiries l.ttl) l.initial.berths.items l.berths.items;
+  whole : l.index.whole ≡ true;
+  listed : All (IsListed g.D.Digest.digest l.index) l.berths.items;
 }
 
 abbrev pub decreases-loop-number : goal.decreases-loop-number

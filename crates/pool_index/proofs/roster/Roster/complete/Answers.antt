@@ -10,4 +10,4 @@ invariant_of-self g c =
 pub invariant_of-self-2 : goal.invariant_of-self-2
 invariant_of-self-2 g c =
     roster_filled g.D.Digest.digest c.self.inside.index c.self.inside.expiries c.self.inside.oldest c.self.inside.set_ttl c.refill.new.self c.gather_all.new.pairs.items c.self.inside.berths.items c.refill.ensures.pairs
-    (subst (All (λ b. AreGathered g.D.Digest.digest c.gather_all.new.pairs.items b.session.number (sets_of b.session.stand))) c.as_slice.ensures.value c.in-Ok.ensures.gathered) c.self.invariant
+    (subst (All (λ b. AreGathered (g.D.Digest.digest b.session.class) c.gather_all.new.pairs.items b.session.number (sets_of b.session.stand))) c.as_slice.ensures.value c.in-Ok.ensures.gathered) c.self.invariant

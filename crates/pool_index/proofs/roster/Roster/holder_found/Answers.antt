@@ -2,7 +2,7 @@ use Rattle.std.proofs.Common.{◌∙◌, ◌^◌, ◌-◌, ap, subst, sym}
 use Rattle.pool_core.specs.PoolView.{Ascends}
 use Rattle.pool_index.specs.Told.{told}
 use Rattle.pool_index.proofs.Settling.{told_same, berths_same}
-use Rattle.pool_index.proofs.Rosters.{rise_in, are_found}
+use Rattle.pool_index.proofs.Rosters.{rise_in}
 use Rattle.pool_index.proofs.roster.Roster.holder_found.Goals as goal
 
 pub first_holder-requires : goal.first_holder-requires
@@ -12,7 +12,8 @@ first_holder-requires g c =
     let bs = c.self.inside.berths.items in
     record {
       order = rise_in (told x ttl bs) c.self.invariant.ascends;
-      found = rw c.digest.ensures (are_found g.D.Digest.digest c.self.inside.index x c.self.inside.oldest ttl c.args.class c.args.at.now c.args.key.now bs (sym c.is_whole.ensures ∙ c.if-not-is_whole.false) c.self.invariant);
+      whole = sym c.is_whole.ensures ∙ c.if-not-is_whole.false;
+      listed = λ k b w. (c.self.invariant.each k b w).listed;
     }
 
 pub invariant_of-self : goal.invariant_of-self
@@ -20,9 +21,10 @@ invariant_of-self g c =
     let x = c.self.inside.expiries in
     let ttl = c.self.inside.set_ttl in
     let bs = c.self.inside.berths.items in
+    let same = berths_same x ttl g.D.Digest.digest c.self.inside.index c.self.inside.oldest bs c.first_holder.new.berths.items c.first_holder.ensures.berths c.self.invariant.each in
     record {
       ascends = subst (Ascends 0 (2 ^ 64 - 1)) (sym (told_same x ttl bs c.first_holder.new.berths.items c.first_holder.ensures.berths)) c.self.invariant.ascends;
-      each = berths_same x ttl g.D.Digest.digest c.self.inside.index c.self.inside.oldest bs c.first_holder.new.berths.items c.first_holder.ensures.berths c.self.invariant.each;
+      each = λ k b w. record { stamped = (same k b w).stamped; since = (same k b w).since; listed = c.first_holder.ensures.listed k b w };
     }
 
 pub returns-clause-same : goal.returns-clause-same
