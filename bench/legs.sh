@@ -4,7 +4,6 @@
 # records are made once and handed on as they are, so a leg that copied none takes no longer where they are larger.
 # Prints medians of 5 runs. The status is 1 where larger records take more than twice as long, or where a run fails.
 bench=bench_legs
-words="fetch 100 1"
 . "$(dirname "$0")/readers.sh"
 
 reuse=$(median_each reuse 100 400000) && small=$(median_each fetch 100 100000) || exit 1

@@ -6,7 +6,6 @@
 # sessions a second whose set is wanted, where 1000 are idle, in at most twice the time of 10, and at 10,000 in at
 # most four times. The status is 1 where it does not, or where a run fails.
 bench=bench_pool
-words="any 1 1"
 . "$(dirname "$0")/readers.sh"
 
 for want in any first last other; do

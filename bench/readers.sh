@@ -1,19 +1,6 @@
 # Times the program `bench`, which is bench_readers where nothing else is said; the scripts beside this one read it.
-# `words` are those of a run that is tried when it is built.
 root=$(cd "$(dirname "${BASH_SOURCE[0]}")/.." && pwd) || exit 1
-bench=${bench:-bench_readers}
-program=$root/crates/$bench/out/$bench
-
-# The program is there, and no file of a crate is newer.
-is_built() {
-    [ -x "$program" ] && [ -z "$(find "$root/crates" -name out -prune -o -type f -newer "$program" -print | head -n 1)" ]
-}
-
-# shellcheck disable=SC2086
-is_built || (cd "$root/crates/$bench" && rt run -- ${words:-ber-flat 100 1}) >/dev/null 2>&1 || {
-    echo "$bench was not built" >&2
-    exit 1
-}
+program=$("$root/bench/crate.sh" "${bench:-bench_readers}") || exit 1
 
 # Nanoseconds that the program takes for a shape of so many octets, or sessions, so many times.
 nanoseconds() {

@@ -66,7 +66,7 @@ done
 
 # Clients whose queries are of so many letters, over links and asked directly, each of 53 requests.
 ways() (
-    bench=bench_conn words="both 1 3"
+    bench=bench_conn
     . "$here/bench/readers.sh"
     links=$(median_each links "$1" 400) && direct=$(median_each direct "$1" 400) || exit 1
     awk -v n="$1" -v a="$links" -v b="$direct" 'BEGIN {

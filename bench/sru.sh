@@ -32,7 +32,7 @@ echo "A query of 2000 names at $large MB/s, one of 200 at $small; ten times the 
 
 # GETs of one query over links and a pool. Each of them has to be answered its 799 octets.
 gets() (
-    bench=bench_conn words="both 1 3"
+    bench=bench_conn
     . "$(dirname "$0")/readers.sh"
     for coming in get get-long get-pieces; do
         [ "$("$program" "$coming" 1 2)" = "2 clients, 1598 octets, 0 works, 0 alike" ] || exit 1

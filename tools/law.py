@@ -168,7 +168,8 @@ def page(law):
     lines = sum(len(it) for file in files for it in law.reached[file])
     whole = sum(file.read_text().count("\n") for file in files)
     definitions = sum(len(law.reached[file]) for file in files)
-    text = ["# The law", ""]
+    text = ["# The law", "", "<!-- Written by tools/law.py: change the definitions, and not this page. -->", ""]
+    text += ["For those who want to read what the main theorem says, down to its last word; behind this page they know each definition that it rests on. [The theorem](THEOREM.md) says it in plain words, and how to read these files.", ""]
     text += [f"The main theorem, [`Headline.antt`](../{HEADLINE.relative_to(TOP)}), rests on {definitions} definitions: {lines} lines with their comments, in {len(files)} files of {len({crate_of(it) for it in files})} crates, which have {whole} lines in all. Here they are, each file behind those that cite it, so that they can be read from the top. What stands in `specs/` and not here is cited by contracts, by proofs or by other laws alone, or belongs to a crate that no replay needs."]
     text += ["", "`tools/law.py` made this page from the imports, definition by definition, and `tools/law.py --check` tells whether it is still true."]
     last = None

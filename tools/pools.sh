@@ -3,7 +3,6 @@
 # where the digests of all keys are one, and compares what they answer, call by call. Ends with status 1 where an answer
 # is another one.
 bench=bench_pool
-words="alike 6 300"
 calls=50000
 . "$(dirname "$0")/../bench/readers.sh"
 

@@ -1,5 +1,5 @@
 #!/bin/bash
-# What another reader of XML says of the replies to SRU clients: each that the tests of sru_tests expect, octet
+# What another reader of XML says of the replies to SRU clients: each that the cases of texts_tests expect, octet
 # for octet, is parted into its head and its body, whose length has to be that of the head. xmllint (Debian's
 # libxml2-utils) reads the body, and holds it against `sru_reply.rng`; what a packed record says is read once more.
 here=$(cd "$(dirname "$0")/.." && pwd) || exit 1
@@ -13,11 +13,9 @@ tried=0
 wrong=0
 found=$'HTTP/1.1 200 OK\r'
 
-# The octets of a literal of Rust, as the tests have them: escapes of quotes, CR and LF.
+# The octets of an answer, as the cases have it: escapes of backslashes, CR and LF.
 octets() {
-    local text=${1#*b\"}
-    text=${text%\";}
-    printf '%b' "${text//\\\"/\"}"
+    printf '%b' "$1"
 }
 
 # Whether a packed record is XML, where there is one.
@@ -43,7 +41,7 @@ while IFS= read -r line; do
         echo "wrong: a reply of $length octets"
         cat "$room/said"
     fi
-done < <(grep -o 'b"HTTP/1\.1 .*";$' "$here/crates/sru_tests/src/replies.rt")
+done < <(grep -o 'HTTP/1\.1 .*$' "$here/crates/texts_tests/data/sru-replies.cases")
 
 echo "$tried replies, $wrong wrong"
 [[ $tried -gt 0 && $wrong -eq 0 ]]

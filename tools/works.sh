@@ -3,7 +3,6 @@
 # answered: generated Searches, Presents and Scans, between which links are cut, sets are gone, targets are late, and
 # sets and sessions grow old. Ends with status 1 where a client is answered otherwise, or under another mark than Plain.
 bench=bench_conn
-words="both 1 3"
 clients=220
 . "$(dirname "$0")/../bench/readers.sh"
 

@@ -38,6 +38,7 @@ fn join_to(alloc: Global, left: LeftOperand, right: Grown) -> Result<Grown, Stop
 {
     let levels = left.query.levels.max(right.levels);
     if levels >= MOST_QUERY_DEPTH {
+        drop((left, right));
         return Err(Stop::Deep);
     }
     let LeftOperand {

@@ -64,14 +64,19 @@ impl Stack {
         ensures refused { IfErr result (λ e. IsFull self.old.brackets e) }
     {
         if self.brackets >= MOST_QUERY_DEPTH {
+            drop(left);
             return Err(Stop::Deep);
         }
-        let pushed = self.frames.push(Frame::Bracket(left));
-        if pushed.is_err() {
-            return Err(Stop::Memory);
+        match self.frames.push(Frame::Bracket(left)) {
+            Ok(()) => {
+                self.brackets += 1;
+                Ok(())
+            }
+            Err(failed) => {
+                drop(failed);
+                Err(Stop::Memory)
+            }
         }
-        self.brackets += 1;
-        Ok(())
     }
 
     /// Begins a prefix assignment; without memory nothing is changed.

@@ -96,7 +96,7 @@ fn list_mark(
 fn fill<W: World, S: Sitting<W>>(place: &mut Option<Package<W, S>>, begun: Package<W, S>)
     ensures { place.new ≡ Some begun }
 {
-    *place = Some(begun);
+    drop(place.replace(begun));
 }
 
 /// Answers the request that waits by what came of its legs, and lists the mark of their cause. Without
@@ -450,5 +450,6 @@ impl<W: World, S: Sitting<W>> Answering<W, S> {
         };
         add_accounts(self.alloc, &mut self.totals, package.accounts());
         package.give_up(door);
+        drop(package);
     }
 }

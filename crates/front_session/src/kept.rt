@@ -20,9 +20,13 @@ pub(crate) fn end_sets(
     ensures ok { OnOk result (sets.new ≡ sets_ended pending is_good hits sets.old) }
     ensures err { OnErr result (sets.new ≡ sets.old) }
 {
-    let name = set_name_of(&pending.request)?;
-    let work = work_of(pending);
-    keep_under(alloc, sets, is_good, name, work, hits)
+    match set_name_of(&pending.request) {
+        Ok(name) => keep_under(alloc, sets, is_good, name, work_of(pending), hits),
+        Err(memory) => {
+            drop(pending);
+            Err(memory)
+        }
+    }
 }
 
 /// The work of a request that waited.
@@ -74,6 +78,7 @@ fn keep(
 {
     if !is_good {
         remove_set(alloc, sets, name.as_slice());
+        drop(work);
         return Ok(());
     }
     match work {
@@ -86,6 +91,9 @@ fn keep(
             };
             store_set(alloc, sets, set)
         }
-        _ => Ok(()),
+        other => {
+            drop(other);
+            Ok(())
+        }
     }
 }

@@ -14,7 +14,7 @@ use crate::Admitted;
 use crate::asking::{Asking, due_for};
 use crate::kept::end_sets;
 use crate::limited::are_units_spent;
-use crate::settle::{Pending, answer_to, searches_behind};
+use crate::settle::{Answer, Pending, answer_to, searches_behind};
 use gateway_rules::is_accepted;
 use limit_rules::Spent;
 use route_config::Route;
@@ -114,6 +114,7 @@ impl FrontSession {
         ensures { IsGivenAdmitted due request.now self.old self.new result }
     {
         let Some(units) = self.units.checked_add(1) else {
+            drop(due);
             return Admitted::Memory;
         };
         match due {
@@ -139,7 +140,10 @@ impl FrontSession {
                 self.wait(units, request, pending);
                 Admitted::Work(work)
             }
-            Err(_) => Admitted::Memory,
+            Err(_) => {
+                drop(work);
+                Admitted::Memory
+            }
         }
     }
 
@@ -181,10 +185,45 @@ impl FrontSession {
         requires fits { FitsWork pending.work outcome }
         ensures { IfOk result (IsSettledWith self.old self.new pending outcome) }
     {
-        let answer = answer_to(alloc, &pending, outcome)?;
-        let given = answer.given;
-        self.end(alloc, pending, answer.is_good, answer.hits, given)?;
-        Ok(answer.reply)
+        match answer_to(alloc, &pending, outcome) {
+            Ok(answer) => self.end_answered(alloc, pending, answer),
+            Err(memory) => {
+                drop(pending);
+                Err(memory)
+            }
+        }
+    }
+
+    /// The reply to a request that was answered, and what is kept behind it.
+    fn end_answered(
+        &mut self,
+        alloc: Global,
+        pending: Pending,
+        answer: Answer,
+    ) -> Result<Reply, Memory>
+        requires kept { IsKept self.old }
+        requires none { self.old.waiting ≡ None }
+        requires waits { CanWait self.old (waiting_of pending) }
+        requires records { self.old.records + answer.given < 2 ^ 32 }
+        requires after { All IsKeptSet
+            (sets_ended pending answer.is_good answer.hits self.old.sets) }
+        ensures reply { IfOk result (λ reply. reply ≡ answer.reply) }
+        ensures ended { OnOk result (self.new
+            ≡ ended self.old pending answer.is_good answer.hits answer.given) }
+    {
+        let Answer {
+            reply,
+            is_good,
+            hits,
+            given,
+        } = answer;
+        match self.end(alloc, pending, is_good, hits, given) {
+            Ok(()) => Ok(reply),
+            Err(memory) => {
+                drop(reply);
+                Err(memory)
+            }
+        }
     }
 
     /// Keeps what a request has left that was settled.
@@ -214,7 +253,7 @@ impl FrontSession {
 fn fill(place: &mut Option<Pending>, pending: Pending)
     ensures { place.new ≡ Some pending }
 {
-    *place = Some(pending);
+    drop(place.replace(pending));
 }
 
 /// Whether a request is in its place: an Init until one was accepted, and another after it.

@@ -27,10 +27,14 @@ impl Pending {
         ensures request { IfOk result (λ pending. pending.request ≡ request.now) }
         ensures work { IfOk result (λ pending. pending.work ≡ work.now) }
     {
-        Ok(Pending {
-            request: copy(request)?,
-            work: copy(work)?,
-        })
+        let request = copy(request)?;
+        match copy(work) {
+            Ok(work) => Ok(Pending { request, work }),
+            Err(memory) => {
+                drop(request);
+                Err(memory)
+            }
+        }
     }
 }
 

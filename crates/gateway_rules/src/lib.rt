@@ -17,6 +17,3 @@ pub use laws::{
 };
 pub use marks::{mark_of, marked_diag};
 pub use replies::{bad_unit_reply, failed_reply, finished_reply, limit_reply};
-
-#[cfg(test)]
-mod tests;

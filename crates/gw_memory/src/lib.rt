@@ -8,8 +8,6 @@ mod files;
 mod sessions;
 mod sinks;
 mod sources;
-#[cfg(test)]
-mod tests;
 
 pub use accepts::MemoryAccept;
 pub use clocks::MemoryClock;

@@ -14,8 +14,6 @@ mod quiet;
 mod sinks;
 mod sources;
 mod targets;
-#[cfg(test)]
-mod tests;
 mod watched;
 mod wires;
 

@@ -170,18 +170,27 @@ fn after_init<W: World, S: Sitting<W>>(
     let looks = count_look(account, terms.class, &heard, held.given, looks);
     match heard {
         Heard::Opened => {
+            drop(heard);
             held.given = false;
             let items = List::new(alloc);
             (Phase::Ready { held, items }, Turned::Went)
         }
         Heard::NotYet => {
+            drop(heard);
             if terms.pool.patience <= looks {
+                drop(held.parts);
                 return (silent(held.seat, terms.pool.patience), Turned::Went);
             }
             (Phase::Dialled { held, looks }, Turned::NotYet)
         }
-        Heard::Failed => (after_fault(held), Turned::Went),
-        Heard::Memory => (Phase::Spoiled { seat: held.seat }, Turned::Memory),
+        Heard::Failed => {
+            drop(heard);
+            (after_fault(held), Turned::Went)
+        }
+        Heard::Memory => {
+            drop((heard, held.parts));
+            (Phase::Spoiled { seat: held.seat }, Turned::Memory)
+        }
         _ => unreachable!(),
     }
 }

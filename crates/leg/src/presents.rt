@@ -73,10 +73,12 @@ pub(crate) fn present<W: World, S: Sitting<W>, B: Backend<W, Session = S>>(
 {
     let Ok(ask) = present_for(alloc, task, &items, slot) else {
         account.count(terms.class, Rises::none(), held.given, 0);
+        drop((held.parts, items));
         return (Phase::Spoiled { seat: held.seat }, Turned::Memory);
     };
     let began = backend.start(alloc, &mut held.parts.session, &ask);
     count_start(account, terms.class, &ask, began, held.given);
+    drop(ask);
     let looks = 0;
     match began {
         Began::Started => (
@@ -89,8 +91,14 @@ pub(crate) fn present<W: World, S: Sitting<W>, B: Backend<W, Session = S>>(
             },
             Turned::Went,
         ),
-        Began::Failed => (after_fault(held), Turned::Went),
-        Began::Memory => (Phase::Spoiled { seat: held.seat }, Turned::Memory),
+        Began::Failed => {
+            drop(items);
+            (after_fault(held), Turned::Went)
+        }
+        Began::Memory => {
+            drop((held.parts, items));
+            (Phase::Spoiled { seat: held.seat }, Turned::Memory)
+        }
     }
 }
 
@@ -152,13 +160,16 @@ fn after_present<W: World, S: Sitting<W>>(
     let looks = count_look(account, terms.class, &heard, held.given, looks);
     match heard {
         Heard::Gone => {
+            drop(heard);
             held.given = false;
             held.parts.table.forget(slot);
             let phase = gone_again(terms.pool.repeats, account.gones, held, items);
             (phase, Turned::Went)
         }
         Heard::NotYet => {
+            drop(heard);
             if terms.pool.patience <= looks {
+                drop((held.parts, items));
                 return (silent(held.seat, terms.pool.patience), Turned::Went);
             }
             let phase = Phase::Fetching {
@@ -170,8 +181,14 @@ fn after_present<W: World, S: Sitting<W>>(
             };
             (phase, Turned::NotYet)
         }
-        Heard::Failed => (after_fault(held), Turned::Went),
-        Heard::Memory => (Phase::Spoiled { seat: held.seat }, Turned::Memory),
+        Heard::Failed => {
+            drop((heard, items));
+            (after_fault(held), Turned::Went)
+        }
+        Heard::Memory => {
+            drop((heard, held.parts, items));
+            (Phase::Spoiled { seat: held.seat }, Turned::Memory)
+        }
         reply => {
             held.given = false;
             with_reply(terms, task, held, items, slot, hits, reply)
@@ -270,6 +287,7 @@ fn with_items<W: World, S: Sitting<W>>(
         unreachable!()
     };
     let Ok(items) = joined(items, others) else {
+        drop(held.parts);
         return (Phase::Spoiled { seat: held.seat }, Turned::Memory);
     };
     if items.len() < *count as usize {

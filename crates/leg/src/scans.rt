@@ -55,14 +55,19 @@ pub(crate) fn scan<W: World, S: Sitting<W>, B: Backend<W, Session = S>>(
 {
     let Ok(own) = scan_for(alloc, terms.dbs, ask) else {
         account.count(terms.class, Rises::none(), held.given, 0);
+        drop((held.parts, items));
         return (Phase::Spoiled { seat: held.seat }, Turned::Memory);
     };
     let began = backend.start(alloc, &mut held.parts.session, &own);
     count_start(account, terms.class, &own, began, held.given);
+    drop((own, items));
     match began {
         Began::Started => (Phase::Scanning { held, looks: 0 }, Turned::Went),
         Began::Failed => (after_fault(held), Turned::Went),
-        Began::Memory => (Phase::Spoiled { seat: held.seat }, Turned::Memory),
+        Began::Memory => {
+            drop(held.parts);
+            (Phase::Spoiled { seat: held.seat }, Turned::Memory)
+        }
     }
 }
 
@@ -111,13 +116,21 @@ fn after_scan<W: World, S: Sitting<W>>(
     let looks = count_look(account, terms.class, &heard, held.given, looks);
     match heard {
         Heard::NotYet => {
+            drop(heard);
             if terms.pool.patience <= looks {
+                drop(held.parts);
                 return (silent(held.seat, terms.pool.patience), Turned::Went);
             }
             (Phase::Scanning { held, looks }, Turned::NotYet)
         }
-        Heard::Failed => (after_fault(held), Turned::Went),
-        Heard::Memory => (Phase::Spoiled { seat: held.seat }, Turned::Memory),
+        Heard::Failed => {
+            drop(heard);
+            (after_fault(held), Turned::Went)
+        }
+        Heard::Memory => {
+            drop((heard, held.parts));
+            (Phase::Spoiled { seat: held.seat }, Turned::Memory)
+        }
         reply => {
             held.given = false;
             let answer = scan_answer(reply);

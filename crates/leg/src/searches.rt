@@ -68,10 +68,12 @@ pub(crate) fn search<W: World, S: Sitting<W>, B: Backend<W, Session = S>>(
     let slot = held.parts.table.room();
     let Ok(ask) = search_for(alloc, slot, key) else {
         account.count(terms.class, Rises::none(), held.given, 0);
+        drop((held.parts, items));
         return (Phase::Spoiled { seat: held.seat }, Turned::Memory);
     };
     let began = backend.start(alloc, &mut held.parts.session, &ask);
     count_start(account, terms.class, &ask, began, held.given);
+    drop(ask);
     let looks = 0;
     match began {
         Began::Started => (
@@ -83,8 +85,14 @@ pub(crate) fn search<W: World, S: Sitting<W>, B: Backend<W, Session = S>>(
             },
             Turned::Went,
         ),
-        Began::Failed => (after_fault(held), Turned::Went),
-        Began::Memory => (Phase::Spoiled { seat: held.seat }, Turned::Memory),
+        Began::Failed => {
+            drop(items);
+            (after_fault(held), Turned::Went)
+        }
+        Began::Memory => {
+            drop((held.parts, items));
+            (Phase::Spoiled { seat: held.seat }, Turned::Memory)
+        }
     }
 }
 
@@ -145,11 +153,14 @@ fn after_search<W: World, S: Sitting<W>>(
     let looks = count_look(account, terms.class, &heard, held.given, looks);
     match heard {
         Heard::Hits(hits) => {
+            drop(heard);
             held.given = false;
             found(alloc, terms, task, held, items, slot, hits, now)
         }
         Heard::NotYet => {
+            drop(heard);
             if terms.pool.patience <= looks {
+                drop((held.parts, items));
                 return (silent(held.seat, terms.pool.patience), Turned::Went);
             }
             (
@@ -162,9 +173,16 @@ fn after_search<W: World, S: Sitting<W>>(
                 Turned::NotYet,
             )
         }
-        Heard::Failed => (after_fault(held), Turned::Went),
-        Heard::Memory => (Phase::Spoiled { seat: held.seat }, Turned::Memory),
+        Heard::Failed => {
+            drop((heard, items));
+            (after_fault(held), Turned::Went)
+        }
+        Heard::Memory => {
+            drop((heard, held.parts, items));
+            (Phase::Spoiled { seat: held.seat }, Turned::Memory)
+        }
         other => {
+            drop(items);
             held.given = false;
             let answer = LegAnswer::Refused(diag_of(other));
             (Phase::Returning { held, answer }, Turned::Went)

@@ -108,7 +108,7 @@ impl<W: World, S: Sitting<W>> Leg<W, S> {
             door,
             now,
         );
-        self.phase = phase;
+        drop(mem::replace(&mut self.phase, phase));
         turned
     }
 
@@ -181,7 +181,7 @@ impl<W: World, S: Sitting<W>> Leg<W, S> {
         let Some(seat) = seat_of(&self.phase) else {
             return;
         };
-        self.phase = Phase::Ended;
+        drop(mem::replace(&mut self.phase, Phase::Ended));
         door.lost(seat);
     }
 }

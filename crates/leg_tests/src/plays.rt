@@ -4,8 +4,9 @@ ghost use Rattle.std.specs.Prelude.{◌≡◌, ◌<◌, length, None};
 ghost use Rattle.leg.specs.Turns.{IsLegOf};
 ghost use Rattle.leg_tests.specs.Played.{ArePlayed};
 
-use crate::asks::{Asked, ask_of};
-use crate::happens::{Event, Happens};
+use crate::asks::ask_of;
+use crate::happens::Happens;
+use crate::steps::Step;
 use crate::words::{put_account, put_answer, put_turned, put_turns};
 use gw_outside::Backend;
 use leg::{Leg, Turned};
@@ -18,26 +19,7 @@ use z_types::{Memory, Sitting, Text, World};
 /// The most turns of a leg that is turned to its end.
 const MOST_TURNS: u32 = 3000;
 
-/// What is done with a leg, or happens between two turns of it.
-#[derive(Clone, Copy, Drop)]
-pub(crate) enum Step {
-    /// A leg is made.
-    Begin(Asked),
-    /// It is turned once.
-    Turn,
-    /// It is turned until it is done, or lacks memory.
-    Run,
-    /// It is given up.
-    GiveUp,
-    /// The other leg is played on.
-    Other,
-    /// The moment of the turns from now on.
-    Now(u64),
-    /// Something happens to the links.
-    Happen(Event),
-}
-
-/// The leg that is played and another, the moment, and what is told.
+/// The leg that is played and another, the moment, and the answers so far.
 #[derive(Drop)]
 pub(crate) struct Play<W: World, S: Sitting<W>> {
     leg: Option<Leg<W, S>>,
@@ -46,8 +28,8 @@ pub(crate) struct Play<W: World, S: Sitting<W>> {
     line: Text,
 }
 
-/// What is told of legs of a route, step by step.
-pub(crate) fn words_of<W: World, B: Backend<W> + Happens, D: Door<W, B::Session>>(
+/// The answers to steps of legs of a route, a line for each.
+pub(crate) fn answers_to<W: World, B: Backend<W> + Happens, D: Door<W, B::Session>>(
     alloc: Global,
     route: &Route,
     backend: &mut B,
@@ -62,7 +44,7 @@ pub(crate) fn words_of<W: World, B: Backend<W> + Happens, D: Door<W, B::Session>
     if_taken(taken, line)
 }
 
-/// A play without legs, of which nothing is told yet.
+/// A play without legs and answers.
 fn new_play<W: World, S: Sitting<W>>(alloc: Global) -> Play<W, S>
     ensures leg { result.leg ≡ None }
     ensures other { result.other ≡ None }
@@ -75,7 +57,7 @@ fn new_play<W: World, S: Sitting<W>>(alloc: Global) -> Play<W, S>
     }
 }
 
-/// What was told, where all steps were taken.
+/// The answers, where all steps were taken.
 fn if_taken(taken: Result<(), Memory>, line: Text) -> Result<Text, Memory> {
     taken?;
     Ok(line)
@@ -95,6 +77,7 @@ fn take_steps<W: World, B: Backend<W> + Happens, D: Door<W, B::Session>>(
 {
     for step in steps {
         take_step(alloc, route, backend, door, play, *step)?;
+        play.line.push(b'\n')?;
     }
     Ok(())
 }
@@ -133,6 +116,7 @@ fn take_step<W: World, B: Backend<W> + Happens, D: Door<W, B::Session>>(
             Ok(())
         }
         Step::Happen(event) => backend.happen(event),
+        Step::Unknown => play.line.append(b"no such step"),
     }
 }
 
@@ -150,7 +134,7 @@ fn turn<W: World, B: Backend<W>, D: Door<W, B::Session>>(
         route.now (D.counts door.new).most play.new.leg play.new.other }
 {
     let Some(leg) = &mut play.leg else {
-        return play.line.append(b"no leg; ");
+        return play.line.append(b"no leg");
     };
     let turned = leg.turn(alloc, route, backend, door, play.now);
     put_turned(&mut play.line, turned)
@@ -181,7 +165,7 @@ fn run<W: World, B: Backend<W>, D: Door<W, B::Session>>(
         route.now (D.counts door.new).most play.new.leg play.new.other }
 {
     let Some(leg) = &mut play.leg else {
-        return play.line.append(b"no leg; ");
+        return play.line.append(b"no leg");
     };
     let turns = turns_of(alloc, route, backend, door, leg, play.now);
     if leg.is_done() {

@@ -29,20 +29,6 @@ pub(crate) struct Way {
     pub(crate) sets: u32,
 }
 
-/// The test target 0, with many sessions and sets.
-pub(crate) const WIDE: Way = Way {
-    at: At::One,
-    sessions: 64,
-    sets: 10,
-};
-
-/// The same with one session.
-pub(crate) const NARROW: Way = Way {
-    at: At::One,
-    sessions: 1,
-    sets: 10,
-};
-
 /// The addresses of a class's members.
 fn addresses(alloc: Global, at: At) -> Result<List<Address>, Memory>
     ensures { IfOk result AreMembers }

@@ -12,10 +12,10 @@ fn put_number(alloc: Global, line: &mut Text, words: &str, number: u32) -> Resul
 /// Puts what a turn answers behind a line.
 pub(crate) fn put_turned(line: &mut Text, turned: Turned) -> Result<(), Memory> {
     line.append(match turned {
-        Turned::Went => b"went; ",
-        Turned::NotYet => b"not yet; ",
-        Turned::Done => b"done; ",
-        Turned::Memory => b"memory; ",
+        Turned::Went => b"went",
+        Turned::NotYet => b"not yet",
+        Turned::Done => b"done",
+        Turned::Memory => b"memory",
     })
 }
 
@@ -102,6 +102,5 @@ pub(crate) fn put_account(alloc: Global, line: &mut Text, account: &Account) -> 
 
 /// Puts how many turns it took behind a line.
 pub(crate) fn put_turns(alloc: Global, line: &mut Text, turns: u32) -> Result<(), Memory> {
-    put_number(alloc, line, ", turns ", turns)?;
-    line.append(b"; ")
+    put_number(alloc, line, ", turns ", turns)
 }

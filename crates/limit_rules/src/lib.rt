@@ -5,8 +5,6 @@
 mod allowed;
 mod rules;
 mod spent;
-#[cfg(test)]
-mod tests;
 
 pub use allowed::Allowed;
 pub use rules::{allow, room};

@@ -3,7 +3,6 @@
 ghost use Rattle.std.specs.Prelude.{◌≡◌, true};
 ghost use Rattle.z_types.specs.Counts.{one_more};
 
-use crate::replies::octets;
 use bytes::BytesMut;
 use gw_outside::{Dialled, Events, Linked, Looked, Sent, Watched, Wire};
 use std::alloc::Global;
@@ -11,13 +10,11 @@ use test_target::TestWorld;
 use z_types::{Address, Memory, Text};
 
 /// A wire whose looks find what is played, in its order, whichever link is looked at, and then nothing.
-/// It gives a link at every host, and none at a test target. Where units are wanted, those alone can be
-/// sent, once each and in their order.
+/// It gives a link at every host, and none at a test target, and keeps all that was sent.
 #[derive(Drop)]
 pub(crate) struct PlayedWire {
     finds: Vec<Text>,
-    wanted: Vec<Text>,
-    is_watched: bool,
+    sent: Text,
     is_cut: bool,
     faults: u64,
     waits: u64,
@@ -50,8 +47,7 @@ impl PlayedWire {
     pub(crate) fn new(alloc: Global) -> PlayedWire {
         PlayedWire {
             finds: Vec::new(alloc),
-            wanted: Vec::new(alloc),
-            is_watched: false,
+            sent: Text::new(alloc),
             is_cut: false,
             faults: 0,
             waits: 0,
@@ -61,24 +57,6 @@ impl PlayedWire {
     /// Octets arrive at one look. Where there are none, the look finds nothing.
     pub(crate) fn bring(&mut self, alloc: Global, octets: &[u8]) -> Result<(), Memory> {
         self.finds.push(Text::copy_of(alloc, octets)?)?;
-        Ok(())
-    }
-
-    /// Replies in hexadecimal digits arrive, each at one look.
-    pub(crate) fn bring_each(&mut self, alloc: Global, replies: &[&str]) -> Result<(), Memory> {
-        for digits in replies {
-            self.finds.push(octets(alloc, digits))?;
-        }
-        Ok(())
-    }
-
-    /// Replies in hexadecimal digits arrive, all at one look.
-    pub(crate) fn bring_together(&mut self, alloc: Global, replies: &[&str]) -> Result<(), Memory> {
-        let mut all = Text::new(alloc);
-        for digits in replies {
-            all.append(octets(alloc, digits).as_slice())?;
-        }
-        self.finds.push(all)?;
         Ok(())
     }
 
@@ -100,23 +78,9 @@ impl PlayedWire {
         Ok(())
     }
 
-    /// A unit in hexadecimal digits is wanted next, behind those that are, and its reply arrives.
-    pub(crate) fn want(&mut self, alloc: Global, unit: &str, reply: &str) -> Result<(), Memory> {
-        self.is_watched = true;
-        self.wanted.push(octets(alloc, unit))?;
-        self.finds.push(octets(alloc, reply))?;
-        Ok(())
-    }
-
-    /// Whether a unit can be sent: it is the one that is wanted next, or none was ever wanted.
-    fn is_wanted(&mut self, unit: &[u8]) -> bool
-        ensures faults { self.new.faults ≡ self.old.faults }
-        ensures waits { self.new.waits ≡ self.old.waits }
-    {
-        if self.wanted.is_empty() {
-            return !self.is_watched;
-        }
-        self.wanted.remove(0).as_slice() == unit
+    /// All octets that were sent, over whichever link.
+    pub(crate) fn sent(&self) -> &Text {
+        &self.sent
     }
 
     /// What the next look finds, where it is played.
@@ -170,10 +134,13 @@ impl Wire<TestWorld> for PlayedWire {
     }
 
     fn send(&mut self, _: Global, link: &mut PlayedLink, unit: &[u8]) -> Sent {
-        if self.is_cut || !self.is_wanted(unit) {
+        if self.is_cut {
             self.faults = self.faults.saturating_add(1);
             return Sent::Failed;
         }
+        let Ok(()) = self.sent.append(unit) else {
+            return Sent::Memory;
+        };
         match link.delays.push(0) {
             Ok(()) => Sent::Sent,
             Err(_) => Sent::Memory,

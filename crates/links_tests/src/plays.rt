@@ -5,35 +5,12 @@ ghost use Rattle.std.specs.Prelude.{◌≡◌};
 ghost use Rattle.links_tests.specs.Stories.{IsStage, Awaits, IsAtRest, MayAskOf, found_after, hits_after, stage_after};
 
 use crate::asks::{present, scan, search};
-use crate::counts::Counts;
-use crate::words::put_heard;
+use crate::steps::Step;
+use crate::words::{put_heard, put_number};
 use gw_outside::{Backend, Began, Events, Heard, Opening};
 use std::alloc::Global;
 use std::mem;
 use z_types::{Address, Ask, MOST_NUMBER, Memory, Text, World};
-
-/// A step of a session, or what happens to its target between two.
-#[derive(Clone, Copy, Drop)]
-pub(crate) enum Step {
-    /// A link is made, and an Init sent over it.
-    Open,
-    /// The set is searched for.
-    Search,
-    /// This number of records of the set is asked for.
-    Present(u32),
-    /// The index is scanned.
-    Scan,
-    /// The reply is looked for.
-    Look,
-    /// This number of Presents finds all sets gone.
-    Gone(u32),
-    /// Replies arrive after this number of looks.
-    Slow(u32),
-    /// All links are cut.
-    Cut,
-    /// What was counted is told.
-    Count,
-}
 
 /// What a session waits for.
 #[derive(Drop)]
@@ -46,18 +23,19 @@ pub(crate) enum Stage<S> {
     Rests(S),
 }
 
-/// The session that is played, how many records its set has, and what was heard and counted.
+/// The session that is played, how many records its set has, how many looks of the last step found no
+/// reply, and the answers so far.
 #[derive(Drop)]
 struct Play<S> {
     stage: Stage<S>,
     hits: u32,
+    waits: u32,
     line: Text,
-    counts: Counts,
 }
 
-/// What is told of a session with the target of an address, step by step: what is heard, and at the end
-/// what was counted.
-pub(crate) fn words_of<W: World, B: Backend<W> + Events>(
+/// The answers to steps of a session with the target of an address, a line for each: what is heard, or why
+/// a step was not taken.
+pub(crate) fn answers_to<W: World, B: Backend<W> + Events>(
     alloc: Global,
     backend: &mut B,
     address: &Address,
@@ -66,14 +44,14 @@ pub(crate) fn words_of<W: World, B: Backend<W> + Events>(
     let mut play = Play {
         stage: Stage::None,
         hits: 0,
+        waits: 0,
         line: Text::new(alloc),
-        counts: Counts::zero(),
     };
     take_steps(alloc, backend, address, &mut play, steps)?;
     Ok(play.line)
 }
 
-/// Takes steps, and tells what was counted.
+/// Takes steps.
 fn take_steps<W: World, B: Backend<W> + Events>(
     alloc: Global,
     backend: &mut B,
@@ -85,8 +63,9 @@ fn take_steps<W: World, B: Backend<W> + Events>(
 {
     for step in steps {
         take_step(alloc, backend, address, play, *step)?;
+        play.line.push(b'\n')?;
     }
-    play.counts.put(alloc, &mut play.line)
+    Ok(())
 }
 
 /// Takes a step.
@@ -105,16 +84,17 @@ fn take_step<W: World, B: Backend<W> + Events>(
         Step::Search => ask(alloc, backend, play, search(alloc)?),
         Step::Present(count) => {
             if count == 0 || play.hits < count || MOST_NUMBER < count {
-                return play.line.append(b"no such records; ");
+                return play.line.append(b"no such records");
             }
             ask(alloc, backend, play, present(alloc, count)?)
         }
         Step::Scan => ask(alloc, backend, play, scan(alloc)?),
-        Step::Look => look(alloc, backend, play),
+        Step::Look(most) => listen(alloc, backend, play, most),
         Step::Gone(presents) => backend.gone(0, presents),
         Step::Slow(looks) => backend.slow(0, looks),
         Step::Cut => backend.cut(0),
-        Step::Count => play.counts.put(alloc, &mut play.line),
+        Step::Arrives => Ok(()),
+        Step::Unknown => play.line.append(b"no such step"),
     }
 }
 
@@ -132,16 +112,10 @@ fn open<W: World, B: Backend<W>>(
     match backend.open_(alloc, address) {
         Opening::Session(session) => {
             play.stage = Stage::Waits(session, None);
-            play.counts.count_dial();
             Ok(())
         }
-        Opening::Failed { linked } => {
-            if linked {
-                play.counts.count_dial();
-            }
-            play.counts.count_fault();
-            play.line.append(b"no session; ")
-        }
+        Opening::Failed { linked: false } => play.line.append(b"no session"),
+        Opening::Failed { linked: true } => play.line.append(b"no session over the link"),
         Opening::Memory => Err(Memory),
     }
 }
@@ -161,7 +135,7 @@ fn ask<W: World, B: Backend<W>>(
         Stage::Rests(session) => start(alloc, backend, play, session, ask),
         stage => {
             play.stage = stage;
-            play.line.append(b"not asked; ")
+            play.line.append(b"not asked")
         }
     }
 }
@@ -182,19 +156,43 @@ fn start<W: World, B: Backend<W>>(
 {
     match backend.start(alloc, &mut session, &ask) {
         Began::Started => {
-            play.counts.count_ask(&ask);
             play.stage = Stage::Waits(session, Some(ask));
             Ok(())
         }
-        Began::Failed => {
-            play.counts.count_fault();
-            play.line.append(b"not sent; ")
-        }
+        Began::Failed => play.line.append(b"not sent"),
         Began::Memory => Err(Memory),
     }
 }
 
-/// Looks for the reply, where the session waits for one.
+/// Looks for the reply until it has come, at most so many times.
+fn listen<W: World, B: Backend<W>>(
+    alloc: Global,
+    backend: &mut B,
+    play: &mut Play<B::Session>,
+    most: u32,
+) -> Result<(), Memory>
+    requires { IsStage B.Session.Sitting play.old.stage play.old.hits }
+    ensures { IsStage B.Session.Sitting play.new.stage play.new.hits }
+{
+    play.waits = 0;
+    for waits in 0..most {
+        look(alloc, backend, play)?;
+        if play.waits == waits {
+            return put_waits(alloc, &mut play.line, waits);
+        }
+    }
+    play.line.append(b"not yet")
+}
+
+/// Puts how many looks found no reply behind a line, where any did.
+fn put_waits(alloc: Global, line: &mut Text, waits: u32) -> Result<(), Memory> {
+    if waits == 0 {
+        return Ok(());
+    }
+    put_number(alloc, line, ", looks in vain ", waits)
+}
+
+/// Looks for the reply once, where the session waits for one.
 fn look<W: World, B: Backend<W>>(
     alloc: Global,
     backend: &mut B,
@@ -207,7 +205,7 @@ fn look<W: World, B: Backend<W>>(
         Stage::Waits(session, ask) => hear(alloc, backend, play, session, ask),
         stage => {
             play.stage = stage;
-            play.line.append(b"nothing awaited; ")
+            play.line.append(b"nothing awaited")
         }
     }
 }
@@ -226,11 +224,19 @@ fn hear<W: World, B: Backend<W>>(
     ensures { IsStage B.Session.Sitting play.new.stage play.new.hits }
 {
     let heard = backend.look(alloc, &mut session);
-    play.counts.count_heard(&heard);
     put_heard(alloc, &mut play.line, &heard)?;
+    play.waits = waits_after(&heard, play.waits);
     play.hits = hits_after(&ask, &heard, play.hits);
     play.stage = stage_after(session, ask, &heard);
     Ok(())
+}
+
+/// How many looks of a step found no reply after this one.
+fn waits_after(heard: &Heard, waits: u32) -> u32 {
+    match heard {
+        Heard::NotYet => waits.saturating_add(1),
+        _ => waits,
+    }
 }
 
 /// What a session that waits for a reply waits for after what was heard.

@@ -4,8 +4,6 @@
 
 mod places;
 mod ranks;
-#[cfg(test)]
-mod tests;
 mod totals;
 
 pub use places::locate;

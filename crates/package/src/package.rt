@@ -162,9 +162,15 @@ impl<W: World, S: Sitting<W>> Package<W, S> {
         ensures new { IfOk result (λ made. made ≡ new_package route.now work) }
         ensures of { (most : ℕ) → IfOk result (IsPackageOf W.World S.Sitting route.now most) }
     {
-        let first = first_legs(alloc, route, &work)?;
+        let Ok(first) = first_legs(alloc, route, &work) else {
+            drop(work);
+            return Err(Memory);
+        };
         let later = Vec::new(alloc);
-        let accounts = accounts_of(alloc, first.as_slice(), later.as_slice())?;
+        let Ok(accounts) = accounts_of(alloc, first.as_slice(), later.as_slice()) else {
+            drop((work, first));
+            return Err(Memory);
+        };
         Ok(Package {
             work,
             first,
@@ -194,6 +200,7 @@ impl<W: World, S: Sitting<W>> Package<W, S> {
             return Turned::Memory;
         };
         let Ok(accounts) = accounts_of(alloc, self.first.as_slice(), later.as_slice()) else {
+            drop(later);
             return Turned::Memory;
         };
         self.later = later;
@@ -254,8 +261,15 @@ impl<W: World, S: Sitting<W>> Package<W, S> {
             planned: _,
         } = self;
         match mark_among(first.as_slice(), later.as_slice()) {
-            Some((mark, leg)) => marked(alloc, route, mark, leg),
-            None => unmarked(alloc, route, &work, first, later),
+            Some((mark, leg)) => {
+                drop((work, first, later));
+                marked(alloc, route, mark, leg)
+            }
+            None => {
+                let outcome = unmarked(alloc, route, &work, first, later);
+                drop(work);
+                outcome
+            }
         }
     }
 

@@ -17,6 +17,3 @@ pub use members::Members;
 pub use names::{is_database_name, is_from, is_index_name, is_name};
 pub use route::{Class, Database, Group, Index, PoolNumbers, Route, RouteLeg, RouteParts, Target};
 pub use smallest::SMALLEST_TEXT;
-
-#[cfg(test)]
-mod tests;

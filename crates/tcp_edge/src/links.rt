@@ -3,7 +3,7 @@
 ghost use Rattle.std.specs.Prelude.{◌≡◌, ◌≢◌, ◌≤◌, [], None, IfOk, length};
 ghost use Rattle.gw_outside.specs.Wires.{LookFits};
 
-use crate::waits::Awaited;
+use crate::waits::{Awaited, may_give};
 use bytes::BytesMut;
 use gw_outside::{Linked, Looked};
 use std::alloc::Global;
@@ -72,11 +72,16 @@ impl TcpLink {
         }
     }
 
-    /// Sends a unit whole.
+    /// Sends a unit whole. It is an error where octets of the target stand unread, since its reply would be
+    /// taken for these, or where the target has closed.
     pub(crate) fn send(&mut self, unit: &[u8]) -> Result<()>
         ensures arrived { self.new.arrived ≡ self.old.arrived }
         ensures number { self.new.number ≡ self.old.number }
     {
+        if !self.arrived.is_empty() {
+            return Err(unread());
+        }
+        is_quiet(&self.stream)?;
         self.stream.write_all(unit)
     }
 
@@ -114,6 +119,22 @@ impl TcpLink {
             Err(_) => Looked::Memory,
         }
     }
+}
+
+/// Whether nothing stands unread at a socket, and its peer has not closed it. It does not wait.
+fn is_quiet(stream: &TcpStream) -> Result<()> {
+    if !may_give(stream) {
+        return Ok(());
+    }
+    match stream.peek(&mut [0u8; 1])? {
+        0 => Err(Error::from(ErrorKind::UnexpectedEof)),
+        _ => Err(unread()),
+    }
+}
+
+/// That a target sent what nobody asked for.
+fn unread() -> Error {
+    Error::other("octets stand unread before a request")
 }
 
 /// A socket to a host, and its address there: the first that answers, of those that the system knows for

@@ -73,6 +73,12 @@ impl Awaited {
     }
 }
 
+/// Whether a socket has octets, an end or an error to give now.
+pub(crate) fn may_give(stream: &TcpStream) -> bool {
+    let socket = stream.as_raw_fd();
+    gives(&alone(socket), socket, 0)
+}
+
 /// One socket.
 fn alone(socket: i32) -> [i32; MOST] {
     let mut sockets = [NONE; MOST];

@@ -9,6 +9,3 @@ mod place;
 pub use fault::DbFault;
 pub use legs::legs_of;
 pub use place::{LentLeg, leg_at};
-
-#[cfg(test)]
-mod tests;

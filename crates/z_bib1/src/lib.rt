@@ -5,6 +5,3 @@
 mod sru;
 
 pub use sru::{sru_of, sru_of_diag, sru_text};
-
-#[cfg(test)]
-mod tests;

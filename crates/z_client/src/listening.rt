@@ -49,9 +49,18 @@ pub(crate) fn listen<W: World, N: Wire<W>>(
             parts.waiting = waiting;
             Found::Heard(Heard::NotYet)
         }
-        Arrival::Breach => breach(wire, alloc, &parts.link),
-        Arrival::Failed => Found::Heard(Heard::Failed),
-        Arrival::Memory => Found::Heard(Heard::Memory),
+        Arrival::Breach => {
+            drop(waiting);
+            breach(wire, alloc, &parts.link)
+        }
+        Arrival::Failed => {
+            drop(waiting);
+            Found::Heard(Heard::Failed)
+        }
+        Arrival::Memory => {
+            drop(waiting);
+            Found::Heard(Heard::Memory)
+        }
     }
 }
 
@@ -75,8 +84,14 @@ fn hear<W: World, N: Wire<W>>(
 {
     match unit_heard(wire, alloc, &parts.link, &waiting, size) {
         Ok(Some(heard)) => settle(wire, alloc, parts, waiting, heard, size),
-        Ok(None) => breach(wire, alloc, &parts.link),
-        Err(_) => Found::Heard(Heard::Memory),
+        Ok(None) => {
+            drop(waiting);
+            breach(wire, alloc, &parts.link)
+        }
+        Err(_) => {
+            drop(waiting);
+            Found::Heard(Heard::Memory)
+        }
     }
 }
 
@@ -119,11 +134,15 @@ fn settle<W: World, N: Wire<W>>(
     ensures counts { N.counts wire.new ≡ N.counts wire.old }
 {
     if let Heard::Gone = heard {
+        drop(heard);
         return settle_gone(wire, alloc, parts, waiting, size);
     }
     match rest(wire, parts, waiting, &heard, size) {
         Ok(()) => Found::Heard(heard),
-        Err(_) => Found::Heard(Heard::Memory),
+        Err(_) => {
+            drop(heard);
+            Found::Heard(Heard::Memory)
+        }
     }
 }
 
@@ -148,6 +167,7 @@ fn settle_gone<W: World, N: Wire<W>>(
     ensures counts { N.counts wire.new ≡ N.counts wire.old }
 {
     let Ok(octets) = Text::copy_of(alloc, wire.arrived(&parts.link)) else {
+        drop(waiting);
         return Found::Heard(Heard::Memory);
     };
     match rest(wire, parts, waiting, &Heard::Gone, size) {

@@ -92,7 +92,13 @@ pub(crate) fn send_ask<W: World, N: Wire<W>>(
             parts.waiting = Waiting::Answer(ask);
             Began::Started
         }
-        Sent::Failed => Began::Failed,
-        Sent::Memory => Began::Memory,
+        Sent::Failed => {
+            drop(ask);
+            Began::Failed
+        }
+        Sent::Memory => {
+            drop(ask);
+            Began::Memory
+        }
     }
 }

@@ -5,6 +5,3 @@
 mod framer;
 
 pub use framer::{Framed, Framer};
-
-#[cfg(test)]
-mod tests;

@@ -1,7 +1,7 @@
--- For proofs alone: what is asked of the targets is tested and copied exactly (this project's own)
+-- For proofs alone: what is asked of the targets is tested exactly (this project's own)
 use Rattle.std.specs.Prelude.{ℕ, List, Option}
 use Rattle.std.proofs.Common.{ap}
-use Rattle.z_types.specs.Exact.{EqIsExact, CloneIsExact}
+use Rattle.z_types.specs.Exact.{EqIsExact}
 use Rattle.z_types.specs.equality.Parts.{Exactness, ◌⊠◌, number, text, list, option}
 use Rattle.z_types.specs.equality.RpnQuery.{rpn_query}
 use Rattle.z_types.specs.equality.Scan.{scan_ask}
@@ -10,7 +10,6 @@ use Rattle.z_types.specs.declared.scan.ScanAsk.{ScanAsk}
 use Rattle.z_types.specs.declared.work.Work.{Work}
 use Rattle.z_types.specs.declared.work.Work.TheVariants.{Search, Fetch, Scan}
 use Rattle.z_types.specs.contracts.work.WorkPartialEq.TheImpl as work_test
-use Rattle.z_types.specs.contracts.work.WorkClone.TheImpl as work_copy
 
 -- an optional text, as a login, an element set name or a syntax
 abbrev MaybeText : Type 0
@@ -63,15 +62,3 @@ work_exact (Fetch a b c d e f g k) (Fetch a' b' c' d' e' f' g' k') h =
     (a', (b', (c', (d', (e', (f', (g', k'))))))) h)
 work_exact (Scan a b c) (Scan a' b' c') h = ap scan_of (scanned.eq_is_exact (a, (b, c)) (a', (b', c')) h)
 work_exact a b h = cc
-
-pub work_cloned : CloneIsExact (work_copy.ghosts).is_clone
-work_cloned (Search a b c d e f g k l m) (Search a' b' c' d' e' f' g' k' l' m') h =
-    ap search_of (searched.clone_is_exact
-    (a, (b, (c, (d, (e, (f, (g, (k, (l, m)))))))))
-    (a', (b', (c', (d', (e', (f', (g', (k', (l', m'))))))))) h)
-work_cloned (Fetch a b c d e f g k) (Fetch a' b' c' d' e' f' g' k') h =
-    ap fetch_of (fetched.clone_is_exact
-    (a, (b, (c, (d, (e, (f, (g, k)))))))
-    (a', (b', (c', (d', (e', (f', (g', k'))))))) h)
-work_cloned (Scan a b c) (Scan a' b' c') h = ap scan_of (scanned.clone_is_exact (a, (b, c)) (a', (b', c')) h)
-work_cloned a b h = absurd h

@@ -17,19 +17,19 @@ returns-in-Some g c =
           c.marked.ensures);
     }
 
-pub unmarked-requires-clause-unmarked : goal.unmarked-requires-clause-unmarked
-unmarked-requires-clause-unmarked g c =
+pub unmarked-outcome-requires-clause-unmarked : goal.unmarked-outcome-requires-clause-unmarked
+unmarked-outcome-requires-clause-unmarked g c =
     let first = c.self.inside.first.items in
     let later = c.self.inside.later.items in
     let none : first_mark (first ++ later) ≡ None =
     sym (rw (c.as_slice.ensures.value, c.as_slice-2.ensures.value) at c.in-None.ensures) in
     first_unmarked c.args.route.now c.self.inside.work first later none
 
-pub unmarked-requires-clause-first_done : goal.unmarked-requires-clause-first_done
-unmarked-requires-clause-first_done g c = let over = rw (← c.self.view_is) at c.requires.over in over.first
+pub unmarked-outcome-requires-clause-first_done : goal.unmarked-outcome-requires-clause-first_done
+unmarked-outcome-requires-clause-first_done g c = let over = rw (← c.self.view_is) at c.requires.over in over.first
 
-pub unmarked-requires-clause-later_done : goal.unmarked-requires-clause-later_done
-unmarked-requires-clause-later_done g c = let over = rw (← c.self.view_is) at c.requires.over in over.later
+pub unmarked-outcome-requires-clause-later_done : goal.unmarked-outcome-requires-clause-later_done
+unmarked-outcome-requires-clause-later_done g c = let over = rw (← c.self.view_is) at c.requires.over in over.later
 
 pub returns : goal.returns
 returns g c =
@@ -38,6 +38,6 @@ returns g c =
     let none : first_mark (first ++ later) ≡ None =
     sym (rw (c.as_slice.ensures.value, c.as_slice-2.ensures.value) at c.in-None.ensures) in
     record {
-      outcome = rw (← c.self.view_is) (subst (λ (o : Outcome). IfOk c.unmarked.result (λ outcome. outcome ≡ o))
-          (sym (finished_unmarked c.args.route.now c.self.inside.work first later none)) c.unmarked.ensures);
+      outcome = rw (← c.self.view_is) (subst (λ (o : Outcome). IfOk c.unmarked-outcome.result (λ outcome. outcome ≡ o))
+          (sym (finished_unmarked c.args.route.now c.self.inside.work first later none)) c.unmarked-outcome.ensures);
     }

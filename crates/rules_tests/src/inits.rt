@@ -1,0 +1,72 @@
+//! Inits and what they are answered. A subject is the versions and options that are asked for, in hexadecimal
+//! digits, and the size; each has the referenceId `ab` and the exceptional size 7.
+
+use case_files::{Answer, NoAnswer};
+use gateway_rules::{init_reply, is_accepted};
+use std::alloc::Global;
+use z_types::{Init, Reply, Text};
+
+/// Whether a call is one of these. Its answer is put at the end.
+pub(crate) fn is_answered(
+    alloc: Global,
+    call: &str,
+    words: &str,
+    out: &mut Answer,
+) -> Result<bool, NoAnswer> {
+    match call {
+        "init_reply" => put_reply(out, &init_reply(&init_of(alloc, words)?)?),
+        "is_accepted" => out.print(&is_accepted(&init_of(alloc, words)?)),
+        _ => return Ok(false),
+    }
+    Ok(true)
+}
+
+/// An Init.
+fn init_of(alloc: Global, words: &str) -> Result<Init, NoAnswer> {
+    let Some((versions, words)) = words.split_once(' ') else {
+        return Err(NoAnswer::Misspelt);
+    };
+    let Some((options, size)) = words.split_once(' ') else {
+        return Err(NoAnswer::Misspelt);
+    };
+    Ok(Init {
+        ref_id: Some(Text::copy_of(alloc, b"ab")?),
+        versions: bits_of(versions)?,
+        options: bits_of(options)?,
+        preferred: size.parse().or(Err(NoAnswer::Misspelt))?,
+        exceptional: 7,
+    })
+}
+
+/// Bits in hexadecimal digits.
+fn bits_of(word: &str) -> Result<u32, NoAnswer> {
+    u32::from_str_radix(word, 16).or(Err(NoAnswer::Misspelt))
+}
+
+/// The fields of the reply to an Init.
+fn put_reply(out: &mut Answer, reply: &Reply) {
+    match reply {
+        Reply::Init { init, result } => {
+            put_init(out, init);
+            out.put(" result ");
+            out.print(result);
+        }
+        _ => out.put("another reply"),
+    }
+}
+
+/// The fields of an Init.
+fn put_init(out: &mut Answer, init: &Init) {
+    if let Some(reference) = &init.ref_id {
+        out.put("ref ");
+        out.put_quoted(reference.as_slice());
+    }
+    out.put(" versions ");
+    out.put_bits(init.versions);
+    out.put(" options ");
+    out.put_bits(init.options);
+    out.put(" preferred ");
+    out.print(&init.preferred);
+    out.put(" exceptional ");
+    out.print(&init.exceptional);
+}
