@@ -131,6 +131,9 @@ def play_all(wanted):
 def main():
     for it in (signal.SIGINT, signal.SIGTERM, signal.SIGHUP):
         signal.signal(it, lambda number, _: sys.exit(128 + number))
+    unknown = [it for it in sys.argv[1:] if it not in libraries_of()]
+    if unknown:
+        sys.exit(f"gateway: crates.txt names no crate {', '.join(unknown)}")
     passed, failed = play_all(sys.argv[1:])
     print(f"{passed} passed, {failed} failed")
     return int(failed > 0 or passed == 0)

@@ -7,7 +7,8 @@
     tools/try_edit.py [--stale]       tries none, and names each whose text no longer stands once in its file
 
 Libraries that are proved in the repository are taken from there, and others are proved in the copy: so run `./gateway prove` first. Of an edit
-with a line `session: NAME` no check is made: that session of gateway_sessions has to print another page. Ends with 1 where one is not refused.
+with a line `session: NAME` no check is made: that session of gateway_sessions has to print another page; nor of one with `tests: CRATE ..`: a test
+of each of these crates has to fail. Ends with 1 where one is not refused.
 """
 import os, pathlib, shutil, signal, subprocess, sys, tempfile
 
@@ -50,9 +51,9 @@ def planted(crate, edit):
     return texts
 
 
-def session_of(edit):
-    """The session that an edit names, or nothing."""
-    return next((line.partition(": ")[2] for line in edit.read_text().split("\n") if line.startswith("session: ")), "")
+def named_by(edit, word):
+    """What an edit names behind a word, a session or crates of tests, or nothing."""
+    return next((line.partition(": ")[2] for line in edit.read_text().split("\n") if line.startswith(f"{word}: ")), "")
 
 
 def copy(room):
@@ -71,19 +72,32 @@ def copy(room):
     (room / "crates.txt").write_text("".join(rows))
 
 
-def changes_its_page(room, crate, edit):
-    """Whether the session that an edit names prints another page with it, in the program without proof."""
-    name, folder = session_of(edit), room / "crates" / SESSIONS
+def lines_with(room, crate, edit, folder, words):
+    """What `rt try` prints in a folder of the copy with an edit planted, without proof."""
     texts = planted(crate, edit)
     for path, text in texts.items():
         write(room / "crates" / crate / path, text)
-    data = [word for it in (folder / "data" / name).iterdir() for word in ("--data", f"{name}/{it.name}={it}")]
-    run = subprocess.run(["rt", "try", *data], cwd=folder, stdin=subprocess.DEVNULL, stdout=subprocess.PIPE, stderr=subprocess.DEVNULL, text=True)
+    run = subprocess.run(["rt", "try", *words], cwd=folder, stdin=subprocess.DEVNULL, stdout=subprocess.PIPE, stderr=subprocess.DEVNULL, text=True)
     for path in texts:
         write(room / "crates" / crate / path, text_of(crate, path))
-    is_other = name in run.stdout.split("\n")
+    return run.stdout.split("\n")
+
+
+def changes_its_page(room, crate, edit):
+    """Whether the session that an edit names prints another page with it."""
+    name, folder = named_by(edit, "session"), room / "crates" / SESSIONS
+    data = [word for it in (folder / "data" / name).iterdir() for word in ("--data", f"{name}/{it.name}={it}")]
+    is_other = name in lines_with(room, crate, edit, folder, data)
     print(f"session {name} with {crate}/{edit.name}: " + ("another page, as it must be" if is_other else "NOT REFUSED: its own page, or none"), flush=True)
     return is_other
+
+
+def fails_the_tests(room, crate, edit, name):
+    """Whether a test of a crate fails with an edit."""
+    lines = lines_with(room, crate, edit, room / "crates" / name, ["--test"])
+    failed = [line.split(" ")[1] for line in lines if line.startswith("test ") and line.endswith(" FAILED")]
+    print(f"tests of {name} with {crate}/{edit.name}: " + (f"{', '.join(failed)} failed, as it must be" if failed else "NOT REFUSED"), flush=True)
+    return bool(failed)
 
 
 def write(file, text):
@@ -94,8 +108,9 @@ def write(file, text):
 
 def are_refused(room, crate, files):
     """Whether each of these edits of a crate is refused."""
-    planned = [it for it in files if not session_of(it)]
-    well = [changes_its_page(room, crate, it) for it in files if session_of(it)]
+    planned = [it for it in files if not named_by(it, "session") and not named_by(it, "tests")]
+    well = [changes_its_page(room, crate, it) for it in files if named_by(it, "session")]
+    well += [fails_the_tests(room, crate, it, name) for it in files for name in named_by(it, "tests").split()]
     if planned:
         folder = room / "crates" / crate / "must-fail"
         folder.mkdir()

@@ -17,13 +17,13 @@
 mod answer;
 mod answers;
 mod notation;
-mod oids;
 mod player;
 mod query;
 mod repeats;
+mod values;
 
 pub use answer::Answer;
 pub use answers::{Answers, NoAnswer};
 pub use notation::{octets_of_hex, octets_of_text};
-pub use oids::oid_of_words;
 pub use player::play;
+pub use values::{diag_of_words, number_of, oid_of_words};

@@ -4,7 +4,8 @@ use Rattle.std.proofs.lemmas.Bool.{cases_lt, lt-leb}
 use Rattle.std.proofs.lemmas.List.Elements.{Contains-get_or}
 use Rattle.z_types.specs.Pending.{IsPending, Pending, resting, opening, asked}
 use Rattle.z_types.specs.declared.address.Address.{Address}
-use Rattle.z_types.specs.declared.address.Address.TheVariants.{Test, Tcp}
+use Rattle.z_types.specs.declared.address.Address.TheVariants.{Test, Tcp, Login}
+use Rattle.z_types.specs.declared.address.Site.TheVariants as site
 use Rattle.z_types.specs.declared.ask.Ask.{Ask}
 use Rattle.z_types.specs.declared.ask.Ask.TheVariants as ask
 use Rattle.z_types.specs.declared.key.SetKey.{SetKey}
@@ -61,10 +62,16 @@ fewer-at old new (Test target) other worse e =
     subst (λ (a : Address). (at_address new a).presents ≤ (old.of_target target).presents) (sym e) (worse.presents target)
 fewer-at old new (Tcp host port) other worse e =
     subst (λ (a : Address). (at_address new a).presents ≤ 0) (sym e) (omega (arith))
+fewer-at old new (Login (site.Test target) login) other worse e =
+    subst (λ (a : Address). (at_address new a).presents ≤ (old.of_target target).presents) (sym e) (worse.presents target)
+fewer-at old new (Login (site.Tcp host port) login) other worse e =
+    subst (λ (a : Address). (at_address new a).presents ≤ 0) (sym e) (omega (arith))
 
 cut-at : (old new : Happened) (one other : Address) → AreNoWorse old new → other ≡ one → (at_address new other).cut ≡ (at_address old one).cut
 cut-at old new (Test target) other worse e = ap (λ (a : Address). (at_address new a).cut) e ∙ worse.cut target
 cut-at old new (Tcp host port) other worse e = ap (λ (a : Address). (at_address new a).cut) e
+cut-at old new (Login (site.Test target) login) other worse e = ap (λ (a : Address). (at_address new a).cut) e ∙ worse.cut target
+cut-at old new (Login (site.Tcp host port) login) other worse e = ap (λ (a : Address). (at_address new a).cut) e
 
 -- the number of a link that is not cut
 uncut-at : (old new : Happened) (one other : Address) (number same : ℕ) → AreNoWorse old new → other ≡ one → same ≡ number
@@ -76,6 +83,8 @@ uncut-at old new one other number same worse e f uncut =
 cut-made : (backend : BackendView) (address : Address) → AreCutOnceMade backend → (at_address backend.happened address).cut ≤ backend.counts.dials
 cut-made backend (Test target) cuts = cuts target
 cut-made backend (Tcp host port) cuts = omega (arith)
+cut-made backend (Login (site.Test target) login) cuts = cuts target
+cut-made backend (Login (site.Tcp host port) login) cuts = omega (arith)
 
 new-uncut : {S : Type 0} (backend moved : BackendView) (address : Address) (made : Opening S) → AreCutOnceMade backend → GotLink made
     → OpenCounts true made backend.counts moved.counts → DialsGoOn moved.counts
@@ -91,6 +100,8 @@ present-less : (address : Address) (name : List ℕ) (first count : ℕ) (syntax
     → (at_address new address).presents ≡ (at_address old address).presents - 1
 present-less (Test target) name first count syntax element old new h = ap (λ (x : Happening). x.presents) h.own
 present-less (Tcp host port) name first count syntax element old new h = refl
+present-less (Login (site.Test target) login) name first count syntax element old new h = ap (λ (x : Happening). x.presents) h.own
+present-less (Login (site.Tcp host port) login) name first count syntax element old new h = refl
 
 -- one that finds none leaves room for one set that is gone
 finds-none : (happening : Happening) (holds : List ℕ → Bool) (name : List ℕ) (gones repeats left : ℕ) → gones + happening.presents ≤ repeats

@@ -5,7 +5,8 @@ use Rattle.z_types.specs.Links.{LinkView}
 use Rattle.z_types.specs.Pending.{IsPending, Pending, resting, opening, asked, broken}
 use Rattle.z_types.specs.Same.{is_same}
 use Rattle.z_types.specs.declared.address.Address.{Address}
-use Rattle.z_types.specs.declared.address.Address.TheVariants.{Test, Tcp}
+use Rattle.z_types.specs.declared.address.Address.TheVariants.{Test, Tcp, Login}
+use Rattle.z_types.specs.declared.address.Site.TheVariants as site
 use Rattle.z_types.specs.declared.ask.Ask.{Ask}
 use Rattle.z_types.specs.declared.ask.Ask.TheVariants.{Search, Present, Scan}
 use Rattle.z_types.specs.declared.key.SetKey.{SetKey}
@@ -32,6 +33,9 @@ use Rattle.conn_quiet.specs.steps.Whole.{will_stand}
 pub at-bearable : (pool : PoolNumbers) (h : Happened) (address : Address) → AreBearable pool h → IsBearable pool (at_address h address)
 at-bearable pool h (Test target) bearable = bearable.each target
 at-bearable pool h (Tcp host port) bearable =
+    let some = (bearable.each 0).delay in record { presents = omega (arith); delay = omega (arith, some) }
+at-bearable pool h (Login (site.Test target) login) bearable = bearable.each target
+at-bearable pool h (Login (site.Tcp host port) login) bearable =
     let some = (bearable.each 0).delay in record { presents = omega (arith); delay = omega (arith, some) }
 
 -- no Present finds its sets deleted where none is searched for again

@@ -1,5 +1,5 @@
 //! Over a quiet backend that counts exactly, at addresses that are told, nothing goes wrong: no call
-//! fails, no look is in vain and no set is gone, whatever a connection goes through. Where more befalls
+//! fails, no look is in vain and no set is gone, whatever a leg or a package goes through. Where more befalls
 //! links, but no more than a leg bears, no leg is marked but where the door was full.
 #![tactic(auto)]
 

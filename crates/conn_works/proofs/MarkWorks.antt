@@ -3,6 +3,7 @@ use Rattle.std.proofs.Common.{◌≡◌, ◌+◌, List, [], ◌∷◌, ◌++◌,
 use Rattle.z_types.specs.declared.diagnostic.Diag.{Diag}
 use Rattle.z_types.specs.declared.marks.Mark.{Mark}
 use Rattle.z_types.specs.declared.marks.Mark.TheVariants.{Plain, Link, Silent, Gone, Full}
+use Rattle.z_types.specs.declared.outcome.Fetched.TheVariants as fetched
 use Rattle.z_types.specs.declared.outcome.Outcome.{Outcome}
 use Rattle.z_types.specs.declared.outcome.Outcome.TheVariants as outcome
 use Rattle.z_types.specs.declared.requests.Request.{Request}
@@ -14,46 +15,54 @@ use Rattle.gateway_rules.specs.Asking as asking
 use Rattle.gateway_rules.specs.Asking.{Asking, asked}
 use Rattle.gateway_rules.specs.Course as at
 use Rattle.gateway_rules.specs.Course.{Course}
+use Rattle.gateway_rules.specs.Cut.{cut_of}
 use Rattle.gateway_rules.specs.Given.{returned}
 use Rattle.gateway_rules.specs.Marks.{Cause}
 use Rattle.gateway_rules.specs.Outcomes.{plain_outcome, under_mark}
 use Rattle.gateway_rules.specs.Runs.{marks_of}
 use Rattle.gateway_rules.specs.Session.{answer_to, answered, run}
-use Rattle.gateway_rules.specs.Settling.{client_after, fetched_of, sets_after, why_failed}
+use Rattle.gateway_rules.specs.Settling.{asked_of, client_after, fetched_of, found_hits, given_of, sets_after, why_failed}
 use Rattle.gateway_rules.specs.State.{ClientState}
 use Rattle.conn_works.specs.Works.{work_of, works_of}
 
 -- ---- the client behind a request
 
+-- nothing is given of nothing
+given-none : (client : ClientState) (job : Work) (got : Outcome) → fetched_of got ≡ fetched.None
+    → returned (given_of client.agreed.sizes job got) ≡ 0
+given-none client job got none = ap (λ records. returned (cut_of client.agreed.sizes (asked_of job (found_hits got)) records)) none
+
 -- it is the same behind two that failed, whatever for
 failed-client : (client : ClientState) (asks : Request) (job : Work) (got other : Outcome) (why_got why_other : Diag)
-    → why_failed got ≡ Some why_got → why_failed other ≡ Some why_other → fetched_of got ≡ fetched_of other
+    → why_failed got ≡ Some why_got → why_failed other ≡ Some why_other → fetched_of got ≡ fetched.None → fetched_of other ≡ fetched.None
     → client_after client asks job got ≡ client_after client asks job other
-failed-client client (request.Search search) job got other why_got why_other e f same =
-    let sets = ap (λ why. sets_after why search.set_name job client.sets) e
-    ∙ sym (ap (λ why. sets_after why search.set_name job client.sets) f) in
-    λ i. record { searches = client.searches + 1; records = client.records + returned (same i); sets = sets i }
-failed-client client (request.Init init) job got other why_got why_other e f same =
-    ap (λ fetched. record client { records = client.records + returned fetched }) same
-failed-client client (request.Present present) job got other why_got why_other e f same =
-    ap (λ fetched. record client { records = client.records + returned fetched }) same
-failed-client client (request.Scan scan) job got other why_got why_other e f same =
-    ap (λ fetched. record client { records = client.records + returned fetched }) same
-failed-client client (request.Close close) job got other why_got why_other e f same =
-    ap (λ fetched. record client { records = client.records + returned fetched }) same
+failed-client client asks job got other why_got why_other e f none none_other = by asks
+  where
+    same : returned (given_of client.agreed.sizes job got) ≡ returned (given_of client.agreed.sizes job other)
+    same = given-none client job got none ∙ sym (given-none client job other none_other)
+
+    by : (request : Request) → client_after client request job got ≡ client_after client request job other
+    by (request.Search search) =
+        let sets = ap (λ why. sets_after why search.set_name job client.sets) e
+        ∙ sym (ap (λ why. sets_after why search.set_name job client.sets) f) in
+        λ i. record { agreed = client.agreed; searches = client.searches + 1; records = client.records + same i; sets = sets i }
+    by (request.Init init) = ap (λ given. record client { records = client.records + given }) same
+    by (request.Present present) = ap (λ given. record client { records = client.records + given }) same
+    by (request.Scan scan) = ap (λ given. record client { records = client.records + given }) same
+    by (request.Close close) = ap (λ given. record client { records = client.records + given }) same
 
 -- so it is whichever class is marked
 marked-client : (client : ClientState) (asks : Request) (job : Work) (mark : Mark) (one other : List _) (plainly : Outcome)
     → client_after client asks job (under_mark mark one plainly) ≡ client_after client asks job (under_mark mark other plainly)
 marked-client client asks job Plain one other plainly = refl
 marked-client client asks job Link one other plainly =
-    failed-client client asks job (outcome.Marked Link one) (outcome.Marked Link other) _ _ refl refl refl
+    failed-client client asks job (outcome.Marked Link one) (outcome.Marked Link other) _ _ refl refl refl refl
 marked-client client asks job (Silent looks) one other plainly =
-    failed-client client asks job (outcome.Marked (Silent looks) one) (outcome.Marked (Silent looks) other) _ _ refl refl refl
+    failed-client client asks job (outcome.Marked (Silent looks) one) (outcome.Marked (Silent looks) other) _ _ refl refl refl refl
 marked-client client asks job Gone one other plainly =
-    failed-client client asks job (outcome.Marked Gone one) (outcome.Marked Gone other) _ _ refl refl refl
+    failed-client client asks job (outcome.Marked Gone one) (outcome.Marked Gone other) _ _ refl refl refl refl
 marked-client client asks job (Full sessions) one other plainly =
-    failed-client client asks job (outcome.Marked (Full sessions) one) (outcome.Marked (Full sessions) other) _ _ refl refl refl
+    failed-client client asks job (outcome.Marked (Full sessions) one) (outcome.Marked (Full sessions) other) _ _ refl refl refl refl
 
 module _ {W : Type 0} (w : world.Ghosts W) (route : Route) where
   asked-client : (client : ClientState) (asks : Request) (due : Asking) (one other : Cause) → one.mark ≡ other.mark

@@ -1,4 +1,4 @@
--- For contracts alone: the tokens of a text as the grammar sees them: their class, and their text as it stands (CQL 1.2, BNF).
+-- The tokens of a text as the grammar sees them: their class, and their text as it stands (CQL 1.2, BNF).
 use Rattle.std.specs.Prelude.{ℕ, ◌+◌, ◌-◌, Bool, false, List, [], ◌∷◌, map, take, drop}
 use Rattle.cql_lex.specs.declared.token.Token.{Token}
 use Rattle.cql_lex.specs.declared.token.Kind.{Kind}

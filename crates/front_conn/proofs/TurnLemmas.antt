@@ -1,5 +1,6 @@
 -- A connection whose request in work had its turn stands as before, or behind the request.
 use Rattle.std.proofs.Common.{◌≡◌, ℕ, List, [], ◌∷◌, ◌++◌, Option, Some, None, Result, Ok, Err, append_assoc, refl, sym, ap, ◌∙◌, subst}
+use Rattle.std.specs.Prelude.{map}
 use Rattle.std.specs.List.{AllByRecursion}
 use Rattle.z_types.specs.declared.marks.End.{End}
 use Rattle.z_types.specs.declared.marks.Mark.{Mark}
@@ -7,6 +8,7 @@ use Rattle.z_types.specs.declared.memory.Memory.{Memory as NoMemory}
 use Rattle.gateway_rules.specs.Targets.{hits_of}
 use Rattle.z_types.specs.declared.outcome.Outcome.{Outcome}
 use Rattle.z_types.specs.declared.requests.Request.{Request}
+use Rattle.z_types.specs.declared.requests.Request.TheVariants as request
 use Rattle.z_types.specs.declared.sitting.Sitting as sitting
 use Rattle.z_types.specs.declared.work.Work.{Work}
 use Rattle.z_types.specs.declared.world.World as world
@@ -20,8 +22,11 @@ use Rattle.gateway_rules.specs.Fair.{IsFair}
 use Rattle.gateway_rules.specs.Marks.{Cause, IsAllowed}
 use Rattle.gateway_rules.specs.Outcomes.{classes_asked, outcome_of}
 use Rattle.gateway_rules.specs.Session.{answer_to, classes_of, reached}
-use Rattle.gateway_rules.specs.Settling.{Settled}
+use Rattle.gateway_rules.specs.Settling.{Settled, agreed_after, settled}
+use Rattle.gateway_rules.specs.State.{ClientState}
+use Rattle.gateway_rules.specs.declared.agreement.Agreement.{Agreement}
 use Rattle.front_session.specs.Admitting.{waits}
+use Rattle.z_sets.specs.Sets.{stored}
 use Rattle.front_session.specs.Sessions.{SessionState, Waiting, client_of}
 use Rattle.front_z.specs.Units.{IsEnded, Served}
 use Rattle.leg.specs.declared.answers.Turned.{Turned}
@@ -66,6 +71,28 @@ settled-for asks job before old new waiting got session waited ended =
     subst (λ (s : SessionState). IsEnded (record { session = s; out = old.out }) new ask got) session
     (subst (λ (k : Waiting). IsEnded old new k got) same ended)
 
+-- a request that has work settles nothing that an Init does
+still-agreed : {W : Type 0} (w : world.Ghosts W) (route : Route) (client : ClientState) (agreed : Agreement) (asks : Request) (job : Work)
+    → asked w route client asks ≡ asking.works job → agreed_after agreed asks ≡ agreed
+still-agreed w route client agreed (request.Init init) job h = absurd cc
+still-agreed w route client agreed (request.Search search) job h = refl
+still-agreed w route client agreed (request.Present present) job h = refl
+still-agreed w route client agreed (request.Scan scan) job h = refl
+still-agreed w route client agreed (request.Close close) job h = refl
+
+-- so its client is the one before it
+still-client : {W : Type 0} (w : world.Ghosts W) (route : Route) (before : SessionState) (asks : Request) (job : Work)
+    → asked w route (client_of before) asks ≡ asking.works job
+    → client_of (waits before asks (record { request = asks; work = job })) ≡ client_of before
+still-client w route before asks job h =
+    ap (λ (agreed : Agreement). record {
+      agreed = agreed;
+      searches = before.searches;
+      records = before.records;
+      sets = map stored before.sets;
+    })
+    (still-agreed w route (client_of before) before.agreed asks job h)
+
 -- so it is answered under the cause of its legs
 answered-under : {W : Type 0} (w : world.Ghosts W) (route : Route) (asks : Request) (job : Work) (before : SessionState) (out : List ℕ)
     (new : Served) (got : Outcome) (cause : Cause) → asked w route (client_of before) asks ≡ asking.works job
@@ -78,9 +105,13 @@ answered-under w route asks job before out new got cause due sets true ended =
     (record { request = asks; work = job }) o) true ended in
     let to : Asking → Settled = λ d. answer_to w route (client_of before) asks cause d in
     let e : asking.works job ≡ asked w route (client_of before) asks = sym due in
+    let same : client_of (waits before asks (record { request = asks; work = job })) ≡ client_of before = still-client w route before asks job due in
+    let of_client : ClientState → Settled = λ client. settled client asks job (outcome_of w route job cause) in
     record {
-      written = h.written ∙ ap (λ r. out ++ spell_reply r) h.settled.reply-is ∙ ap (λ (d : Asking). out ++ spell_reply (to d).reply) e;
-      client = h.settled.client-is ∙ ap (λ (d : Asking). (to d).client) e;
+      written = h.written ∙ ap (λ r. out ++ spell_reply r) h.settled.reply-is
+          ∙ ap (λ (c : ClientState). out ++ spell_reply (of_client c).reply) same
+          ∙ ap (λ (d : Asking). out ++ spell_reply (to d).reply) e;
+      client = h.settled.client-is ∙ ap (λ (c : ClientState). (of_client c).client) same ∙ ap (λ (d : Asking). (to d).client) e;
       accepted = h.settled.accepted;
       units = h.settled.units;
       waits_not = h.settled.waits_no_more;

@@ -67,7 +67,7 @@ module _ (told : List ℕ → List ℕ) (route : Route) (client : ClientState) w
       → search_work route client it query ≡ Ok (works job) → ComesFrom told route client job
   found-from it (Err fault) job h = absurd cc
   found-from it (Ok query) job h =
-      let same : work.Search None (legs_of route it.dbs) query it.small it.large it.medium
+      let same : work.Search client.agreed.login (legs_of route it.dbs) query it.small it.large it.medium
       it.small_element it.medium_element it.syntax (room route.limits client.records) ≡ job = cc in
       subst (ComesFrom told route client) same (it.dbs, refl)
 
@@ -82,21 +82,21 @@ module _ (told : List ℕ → List ℕ) (route : Route) (client : ClientState) w
   number-from false reply fetch job from h = let same : fetch ≡ job = cc in subst (ComesFrom told route client) same from
 
   set-from : (present : Present) (found : Option StoredSet) (job : Work) → set_named present.set_name client.sets ≡ found
-      → fetch_work present (told present.set_name) found ≡ works job → ComesFrom told route client job
+      → fetch_work client.agreed.login present (told present.set_name) found ≡ works job → ComesFrom told route client job
   set-from present None job is h = absurd cc
   set-from present (Some set) job is h =
       number-from (present.number == 0) _ _ job
       (record { name = present.set_name; set = set; found = is; of_legs = refl; of_query = refl; of_hits = refl }) h
 
   leg-from : (names : List (List ℕ)) (ask : ScanAsk) (leg : Option ℕ) (job : Work) → slice_get (legs_of route names) 0 ≡ leg
-      → leg_work ask leg ≡ Ok (works job) → ComesFrom told route client job
+      → leg_work client.agreed.login ask leg ≡ Ok (works job) → ComesFrom told route client job
   leg-from names ask None job is h = absurd cc
   leg-from names ask (Some leg) job is h =
-      let same : work.Scan None leg ask ≡ job = cc in
+      let same : work.Scan client.agreed.login leg ask ≡ job = cc in
       subst (ComesFrom told route client) same (names, is)
 
   scan-from : (names : List (List ℕ)) (ask : Asked ScanAsk) (job : Work)
-      → scan_work ask (slice_get (legs_of route names) 0) ≡ Ok (works job) → ComesFrom told route client job
+      → scan_work client.agreed.login ask (slice_get (legs_of route names) 0) ≡ Ok (works job) → ComesFrom told route client job
   scan-from names (Bad diag) job h = absurd cc
   scan-from names (Good ask) job h = leg-from names ask (slice_get (legs_of route names) 0) job refl h
 
@@ -108,7 +108,7 @@ module _ (told : List ℕ → List ℕ) (route : Route) (client : ClientState) w
       (checked-ok (search_checks route client it) (query_work route client it it.query) (works job)
       (unless-works (request.Search it) _ job h))
   comes-from (request.Present present) job h =
-      let due : Asking = fetch_work present (told present.set_name) (set_named present.set_name client.sets) in
+      let due : Asking = fetch_work client.agreed.login present (told present.set_name) (set_named present.set_name client.sets) in
       let good : Ok due ≡ Ok (works job) =
       checked-ok (present_checks route client present (told present.set_name)) (Ok due) (works job)
       (unless-works (request.Present present) _ job h) in
@@ -116,7 +116,7 @@ module _ (told : List ℕ → List ℕ) (route : Route) (client : ClientState) w
       set-from present (set_named present.set_name client.sets) job refl is
   comes-from (request.Scan scan) job h =
       scan-from scan.dbs scan.ask job
-      (checked-ok (scan_checks route scan) (scan_work scan.ask (slice_get (legs_of route scan.dbs) 0)) (works job)
+      (checked-ok (scan_checks route scan) (scan_work client.agreed.login scan.ask (slice_get (legs_of route scan.dbs) 0)) (works job)
       (unless-works (request.Scan scan) _ job h))
   comes-from (request.Close close) job h = absurd cc
 

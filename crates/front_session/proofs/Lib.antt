@@ -3,3 +3,4 @@ pub mod PresentLemmas
 pub mod SearchLemmas
 pub mod WaitLemmas
 pub mod SettleLemmas
+pub mod CutLemmas

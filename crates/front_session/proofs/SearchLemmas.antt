@@ -1,5 +1,5 @@
 -- What a Search is due, by what its parts answer
-use Rattle.std.proofs.Common.{◌≡◌, ◌≤◌, ◌<◌, ◌+◌, ◌^◌, ◌∙◌, ap, subst, ℕ, List, length, None, Result, Ok, Err}
+use Rattle.std.proofs.Common.{◌≡◌, ◌≤◌, ◌<◌, ◌+◌, ◌^◌, ◌∙◌, ap, subst, ℕ, List, length, Option, None, Result, Ok, Err}
 use Rattle.z_types.specs.Bounds.{most_legs}
 use Rattle.z_types.specs.declared.work.Work.{Work}
 use Rattle.z_types.specs.declared.diagnostic.Diag.{Diag}
@@ -17,6 +17,7 @@ use Rattle.gateway_rules.specs.Asking as asking
 use Rattle.gateway_rules.specs.Asking.{query_work, search_work as work_due}
 use Rattle.gateway_rules.specs.Checks.{checked, search_checks}
 use Rattle.gateway_rules.specs.State.{ClientState}
+use Rattle.unit_forms.specs.Logins.{IsLoginIf}
 use Rattle.gateway_rules.specs.Works.{CanBegin, IsAskable}
 use Rattle.front_session.specs.Refusals.{FailsWith, first_diagnostic}
 use Rattle.front_session.specs.Searches.{PassesChecks, expansion_of, or_fault, search_work}
@@ -43,7 +44,7 @@ query_fails route client search (Good query) diag h =
 
 query_works : (route : Route) (client : ClientState) (search : Search) (asked : Asked RpnQuery) (query : RpnQuery)
     → expansion_of asked (legs_of route search.dbs) client.sets ≡ Ok query
-    → query_work route client search asked ≡ Ok (asking.works (search_work search (legs_of route search.dbs) query (room route.limits client.records)))
+    → query_work route client search asked ≡ Ok (asking.works (search_work client.agreed.login search (legs_of route search.dbs) query (room route.limits client.records)))
 query_works route client search (Bad other) query h = cc
 query_works route client search (Good asked) query h =
     ap (work_due route client search) (found_works route client search (expanded asked (legs_of route search.dbs) client.sets) query h)
@@ -66,20 +67,20 @@ pub search_works : (route : Route) (client : ClientState) (search : Search) (leg
     → first_diagnostic (search_checks route client search) ≡ None → found_legs route search.dbs ≡ Ok legs
     → expansion_of search.query legs client.sets ≡ Ok query
     → checked (search_checks route client search) (query_work route client search search.query)
-    ≡ Ok (asking.works (search_work search legs query (room route.limits client.records)))
+    ≡ Ok (asking.works (search_work client.agreed.login search legs query (room route.limits client.records)))
 search_works route client search legs query none found h =
     let same = (legs_found route search.dbs legs found).0 in
     let expands : expansion_of search.query (legs_of route search.dbs) client.sets ≡ Ok query =
     ap (λ legs. expansion_of search.query legs client.sets) same ∙ h in
     checked_passes (search_checks route client search) (query_work route client search search.query) none
     ∙ query_works route client search search.query query expands
-    ∙ ap (λ legs. Ok (asking.works (search_work search legs query (room route.limits client.records)))) same
+    ∙ ap (λ legs. Ok (asking.works (search_work client.agreed.login search legs query (room route.limits client.records)))) same
 
 -- a Search that passes its checks, whose query has an expansion, may be asked of its legs
-pub search-ready : (route : Route) (search : Search) (legs : List ℕ) (query : RpnQuery) (most given : ℕ) (work : Work)
-    → work ≡ search_work search legs query most → PassesChecks route search legs → IsAskableQuery query
+pub search-ready : (route : Route) (login : Option (List ℕ)) (search : Search) (legs : List ℕ) (query : RpnQuery) (most given : ℕ) (work : Work)
+    → work ≡ search_work login search legs query most → IsLoginIf login → PassesChecks route search legs → IsAskableQuery query
     → most ≤ most_records → given + most < 2 ^ 32 → CanBegin work × IsAskable work × HasRoomFor given work
-search-ready route search legs query most given work is passes askable few fits =
+search-ready route login search legs query most given work is its_login passes askable few fits =
     let found = legs_found route search.dbs legs passes.found in
     let short : length legs ≤ most_legs = subst (λ (list : List ℕ). length list ≤ most_legs) found.0 found.1 in
-    rw is ((short, few), (askable, passes.elements.0, passes.elements.1), fits)
+    rw is ((short, few), (askable, passes.elements.0, passes.elements.1, its_login), fits)

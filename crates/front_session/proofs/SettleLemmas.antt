@@ -18,28 +18,63 @@ use Rattle.z_sets.specs.Operands.{others_than}
 use Rattle.z_types.specs.Same.{is_same}
 use Rattle.z_sets.specs.Sets.{stored, without_set}
 use Rattle.gateway_rules.specs.Given.{returned}
-use Rattle.gateway_rules.specs.Settling.{why_failed, found_hits, fetched_of, sets_after, client_after}
+use Rattle.gateway_rules.specs.Settling.{why_failed, found_hits, fetched_of, scanned_of, asked_of, given_of, reply_by, sets_after, client_after}
+use Rattle.gateway_rules.specs.declared.sizes.Sizes.{Sizes}
+use Rattle.unit_forms.specs.Logins.{IsLoginIf}
 use Rattle.gateway_rules.specs.Works.{CanBegin, FitsWork, IsAskable}
 use Rattle.front_session.specs.Sessions.{SessionState, Waiting, IsKeptSet, HasRoomFor, IsKept, client_of}
 use Rattle.front_session.specs.Admitting.{HasGivenHits, IsSettled}
-use Rattle.front_session.specs.Settling.{known_after, sets_behind, sets_ended, searches_behind, ended, FitsWaiting, IsSettledWith, IsSettledBy}
+use Rattle.front_session.specs.Settling.{reply_of, reply_by_parts, ArePartsOf, IsCutOf, known_after, sets_behind, sets_ended, searches_behind, ended, FitsWaiting, IsSettledWith, IsSettledBy}
 use Rattle.front_session.specs.WaitingOf.{waiting_of}
 use Rattle.front_session.specs.declared.settle.Pending.{Pending}
+use Rattle.front_session.specs.declared.settle.OutcomeParts.{OutcomeParts}
+use Rattle.front_session.specs.declared.settle.CutParts.{CutParts}
+use Rattle.front_session.proofs.CutLemmas.{fewer}
 
 -- ---- the records
 
--- the records can be counted
-pub given_fit : (records : ℕ) (work : Work) (got : Outcome) → HasRoomFor records work → FitsWork work got → records < 2 ^ 32
+fetched_fit : (records : ℕ) (work : Work) (got : Outcome) → HasRoomFor records work → FitsWork work got → records < 2 ^ 32
     → records + returned (fetched_of got) < 2 ^ 32
-given_fit records (work.Search login legs query small large medium small_element medium_element syntax room) (outcome.Found hits fetched) has fits small' = omega (arith, has, fits.1)
-given_fit records (work.Fetch login legs query hits first count syntax element) (outcome.Fetched fetched) has fits small' = omega (arith, has, fits)
-given_fit records work (outcome.Refused diag) has fits small' = omega arith
-given_fit records work (outcome.Marked mark class) has fits small' = omega arith
-given_fit records work (outcome.Scanned answer) has fits small' = omega arith
-given_fit records (work.Fetch login legs query hits first count syntax element) (outcome.Found other fetched) has fits small' = absurd fits
-given_fit records (work.Scan login leg ask) (outcome.Found other fetched) has fits small' = absurd fits
-given_fit records (work.Search login legs query small large medium small_element medium_element syntax room) (outcome.Fetched fetched) has fits small' = absurd fits
-given_fit records (work.Scan login leg ask) (outcome.Fetched fetched) has fits small' = absurd fits
+fetched_fit records (work.Search login legs query small large medium small_element medium_element syntax room) (outcome.Found hits fetched) has fits small' = omega (arith, has, fits.1)
+fetched_fit records (work.Fetch login legs query hits first count syntax element) (outcome.Fetched fetched) has fits small' = omega (arith, has, fits)
+fetched_fit records work (outcome.Refused diag) has fits small' = omega arith
+fetched_fit records work (outcome.Marked mark class) has fits small' = omega arith
+fetched_fit records work (outcome.Scanned answer) has fits small' = omega arith
+fetched_fit records (work.Fetch login legs query hits first count syntax element) (outcome.Found other fetched) has fits small' = absurd fits
+fetched_fit records (work.Scan login leg ask) (outcome.Found other fetched) has fits small' = absurd fits
+fetched_fit records (work.Search login legs query small large medium small_element medium_element syntax room) (outcome.Fetched fetched) has fits small' = absurd fits
+fetched_fit records (work.Scan login leg ask) (outcome.Fetched fetched) has fits small' = absurd fits
+
+-- the records that are given can be counted
+pub given_fit : (sizes : Sizes) (records : ℕ) (work : Work) (got : Outcome) → HasRoomFor records work → FitsWork work got → records < 2 ^ 32
+    → records + returned (given_of sizes work got) < 2 ^ 32
+given_fit sizes records work got has fits small' =
+    omega (arith, fetched_fit records work got has fits small', fewer sizes (asked_of work (found_hits got)) (given_of sizes work got) (fetched_of got) refl)
+
+-- ---- the reply
+
+-- the reply by the parts of an outcome, where each is what it is a part of
+reply_of_parts : (sizes : Sizes) (why failed : Option Diag) (request : Request) (work : Work) (got : Outcome) (all : ℕ) (parts : OutcomeParts)
+    → why ≡ failed → all ≡ returned (fetched_of got) → parts.hits ≡ found_hits got → parts.fetched ≡ given_of sizes work got
+    → parts.scanned ≡ scanned_of got → reply_of why request work all parts ≡ reply_by sizes failed request work got
+reply_of_parts sizes None (Some diag) request work got all parts why counted hits fetched scanned = absurd cc
+reply_of_parts sizes (Some diag) None request work got all parts why counted hits fetched scanned = absurd cc
+reply_of_parts sizes (Some diag) (Some other) request work got all parts why counted hits fetched scanned =
+    let same : diag ≡ other = cc in rw same refl
+reply_of_parts sizes None None (request.Init init) work got all parts why counted hits fetched scanned = refl
+reply_of_parts sizes None None (request.Search search) work got all parts why counted hits fetched scanned = rw (counted, hits, fetched) refl
+reply_of_parts sizes None None (request.Present present) work got all parts why counted hits fetched scanned = rw (counted, fetched) refl
+reply_of_parts sizes None None (request.Scan scan) work got all parts why counted hits fetched scanned = rw scanned refl
+reply_of_parts sizes None None (request.Close close) work got all parts why counted hits fetched scanned = refl
+
+-- the reply by the parts of an outcome that are cut is the reply to the request that waits
+pub answered : (sizes : Sizes) (pending : Pending) (got : Outcome) (parts : OutcomeParts) (cut : CutParts)
+    → ArePartsOf got parts → IsCutOf sizes pending.work parts cut
+    → reply_by_parts pending cut.all cut.parts ≡ reply_by sizes (why_failed got) pending.request pending.work got
+answered sizes pending got parts cut of is =
+    reply_of_parts sizes cut.parts.why (why_failed got) pending.request pending.work got cut.all cut.parts
+    (is.why ∙ of.why) (is.all ∙ ap returned of.fetched) (is.hits ∙ of.hits)
+    (is.fetched ∙ rw (of.hits, of.fetched) refl) (is.scanned ∙ of.scanned)
 
 -- ---- the sets
 
@@ -157,11 +192,11 @@ each-behind (request.Scan scan) work got sets can asks fits h = h
 each-behind (request.Close close) work got sets can asks fits h = h
 
 client-behind : (old : SessionState) (request : Request) (work : Work) (got : Outcome)
-    → client_of (ended old (record { request = request; work = work }) (is_none (why_failed got)) (found_hits got) (returned (fetched_of got)))
+    → client_of (ended old (record { request = request; work = work }) (is_none (why_failed got)) (found_hits got) (returned (given_of old.agreed.sizes work got)))
     ≡ client_after (client_of old) request work got
 client-behind old (request.Init init) work got = refl
 client-behind old (request.Search search) work got =
-    ap (λ sets. record { searches = old.searches + 1; records = old.records + returned (fetched_of got); sets = sets })
+    ap (λ sets. record (client_of old) { searches = old.searches + 1; records = old.records + returned (given_of old.agreed.sizes work got); sets = sets })
     (stored-after (why_failed got) search.set_name work (found_hits got) old.sets)
 client-behind old (request.Present present) work got = refl
 client-behind old (request.Scan scan) work got = refl
@@ -186,6 +221,7 @@ is_settled old new pending got reply fits h = rw h.new-is (record {
   client-is = client-behind (record old { waiting = None }) pending.request pending.work got;
   hits = given-behind pending.request pending.work old.sets got fits;
   accepted = refl;
+  agreed = refl;
   units = refl;
   waits_no_more = refl;
 })
@@ -217,11 +253,11 @@ length-behind (request.Close close) work is_good hits sets searches h = h
 
 -- behind a request that was settled a session keeps what it keeps
 pub end_kept : (s : SessionState) (pending : Pending) (is_good : Bool) (hits : List ℕ) (given searches : ℕ) (sets : List KnownSet) (r : Result (Unit {0}) Memory)
-    → s.waiting ≡ None → s.searches < s.units → s.units < 2 ^ 32 → given < 2 ^ 32 → length s.sets ≤ s.searches → All IsKeptSet s.sets
+    → s.waiting ≡ None → s.searches < s.units → s.units < 2 ^ 32 → IsLoginIf s.agreed.login → given < 2 ^ 32 → length s.sets ≤ s.searches → All IsKeptSet s.sets
     → All IsKeptSet (sets_ended pending is_good hits s.sets) → searches ≡ searches_behind pending.request s.searches
     → OnOk r (sets ≡ sets_ended pending is_good hits s.sets) → OnErr r (sets ≡ s.sets)
     → IsKept (record s { searches = searches; records = given; sets = sets })
-end_kept s pending is_good hits given searches sets r none spent units fits few each after is ok err =
+end_kept s pending is_good hits given searches sets r none spent units login fits few each after is ok err =
     let bounds = searches_behind-le pending.request s.searches in
     let low : s.searches ≤ searches = rw is bounds.0 in
     let high : searches ≤ s.searches + 1 = rw is bounds.1 in
@@ -232,6 +268,7 @@ end_kept s pending is_good hits given searches sets r none spent units fits few 
       of_searches = either r (λ some. length some ≤ searches) sets (sets_ended pending is_good hits s.sets) s.sets ok err length' (omega (arith, few, low));
       of_units = omega (arith, high, spent);
       units = units;
+      login = login;
       records = fits;
       waiting = none_waits s.waiting _ none;
     }

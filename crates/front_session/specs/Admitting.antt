@@ -1,4 +1,4 @@
--- For contracts alone: how a request is admitted and settled (ANSI/NISO Z39.50-2003, 4.2; this
+-- How a request is admitted and settled (ANSI/NISO Z39.50-2003, 4.2; this
 -- project's own)
 use Rattle.std.specs.Prelude.{◌≡◌, ◌⊎◌, ℕ, Bool, ◌+◌, ◌||◌, List, [], None, Some, option_map, unwrap_or, Contains}
 use Rattle.std.specs.List.{AllByRecursion}
@@ -15,7 +15,7 @@ use Rattle.z_sets.specs.Sets.{known_set_named}
 use Rattle.gateway_rules.specs.Asking.{Asking, at_once, works, asked_with}
 use Rattle.gateway_rules.specs.Course.{Meeting, bad, beyond, closing, due, met, accepts, is_in_place}
 use Rattle.gateway_rules.specs.Replies.{close_reply}
-use Rattle.gateway_rules.specs.Settling.{Settled, settled}
+use Rattle.gateway_rules.specs.Settling.{Settled, settled, agreed_after}
 use Rattle.gateway_rules.specs.Statuses.{finished}
 use Rattle.gateway_rules.specs.Works.{CanBegin, IsAskable}
 use Rattle.front_session.specs.Sessions.{SessionState, Waiting, client_of, progress_of}
@@ -28,9 +28,13 @@ use Rattle.front_session.specs.declared.admitted.Admitted.TheVariants as admitte
 abbrev pub hits_named : List KnownSet → List ℕ → List ℕ
 hits_named sets name = unwrap_or (option_map (λ set. set.hits) (known_set_named name sets)) []
 
--- a unit more is taken, and an Init may have been accepted
+-- a unit more is taken, and an Init may have been accepted, which settles what it does
 abbrev pub counted : SessionState → Request → SessionState
-counted s request = record s { units = s.units + 1; accepted = s.accepted || accepts (Some request) }
+counted s request = record s {
+  units = s.units + 1;
+  accepted = s.accepted || accepts (Some request);
+  agreed = agreed_after s.agreed request;
+}
 
 -- a unit more is taken, and its request waits
 abbrev pub waits : SessionState → Request → Waiting → SessionState
@@ -92,6 +96,7 @@ pub record IsSettled (old new : SessionState) (waiting : Waiting) (outcome : Out
   pub client-is : client_of new ≡ (settled_for old waiting outcome).client
   pub hits : AllByRecursion (HasGivenHits old.sets waiting.work outcome) new.sets
   pub accepted : new.accepted ≡ old.accepted
+  pub agreed : new.agreed ≡ old.agreed
   pub units : new.units ≡ old.units
   pub waits_no_more : new.waiting ≡ None
 

@@ -5,5 +5,6 @@ pub mod Presents
 pub mod Scans
 pub mod Admitting
 pub mod Settling
+pub mod Cutting
 pub mod WaitingOf
 pub mod SessionView

@@ -1,5 +1,5 @@
 -- For contracts alone: the parts of what a Present is due (this project's own)
-use Rattle.std.specs.Prelude.{◌≡◌, ℕ, false, List, nat_abs, None, Some, Result, Ok, Err}
+use Rattle.std.specs.Prelude.{◌≡◌, ℕ, false, List, nat_abs, Option, None, Some, Result, Ok, Err}
 use Rattle.std.specs.Borrow.{Bor}
 use Rattle.z_types.specs.MergedOrder.{total}
 use Rattle.z_types.specs.declared.conditions.Condition.TheVariants as condition
@@ -17,6 +17,7 @@ use Rattle.gateway_rules.specs.Checks.{set_check, is_out_of_range, is_too_long}
 use Rattle.front_session.specs.declared.refusal.Refusal.{Refusal}
 use Rattle.front_session.specs.Admitting.{hits_named}
 use Rattle.front_session.specs.Refusals.{AnswersDue, IsRefusal, client_with}
+use Rattle.gateway_rules.specs.declared.agreement.Agreement.{Agreement}
 use Rattle.front_session.specs.declared.asking.Asking.{Asking}
 
 -- the set of a name, with its hits and without them
@@ -36,15 +37,15 @@ pub record MayFetch (limits : Limits) (spent : Spent) (sets : List KnownSet) (pr
   pub number : are_too_many limits spent.records present.number ≡ false
   pub element : is_too_long (element_of present.element) ≡ false
 
--- what a Present asks of its set
-abbrev pub fetch_work : Present → KnownSet → Work
-fetch_work present set =
-    work.Fetch None set.legs set.query set.hits (nat_abs present.start) present.number present.syntax
+-- what a Present of a client with this login asks of its set
+abbrev pub fetch_work : Option (List ℕ) → Present → KnownSet → Work
+fetch_work login present set =
+    work.Fetch login set.legs set.query set.hits (nat_abs present.start) present.number present.syntax
     (element_of present.element)
 
--- what a Present is due, where its client has spent so much and has these sets
-abbrev pub AnswersPresent : Route → Spent → List KnownSet → Present → Result Asking Refusal → Type 0
-AnswersPresent route spent sets present answer =
+-- what a Present is due, where its client's Init settled this, and it has spent so much and has these sets
+abbrev pub AnswersPresent : Route → Agreement → Spent → List KnownSet → Present → Result Asking Refusal → Type 0
+AnswersPresent route agreed spent sets present answer =
     AnswersDue
-    (present_due route (client_with spent sets) present (stored_set_named present.set_name sets)
+    (present_due route (client_with agreed spent sets) present (stored_set_named present.set_name sets)
     (hits_named sets present.set_name)) answer

@@ -14,6 +14,7 @@ use Rattle.gateway_rules.specs.Asking as asking
 use Rattle.gateway_rules.specs.Checks.{not_found, not_served}
 use Rattle.gateway_rules.specs.Replies.{failed}
 use Rattle.gateway_rules.specs.State.{ClientState}
+use Rattle.gateway_rules.specs.declared.agreement.Agreement.{Agreement}
 use Rattle.gateway_rules.specs.Works.{CanBegin, IsAskable}
 use Rattle.front_session.specs.Sessions.{HasRoomFor}
 use Rattle.front_session.specs.declared.refusal.Refusal.{Refusal}
@@ -67,9 +68,10 @@ abbrev pub AnswersDue : Result asking.Asking Diag → Result Asking Refusal → 
 AnswersDue due (Ok given) = due ≡ Ok (due_of given)
 AnswersDue due (Err refusal) = FailsWith due refusal
 
--- a client that has spent so much and has these sets
-abbrev pub client_with : Spent → List KnownSet → ClientState
-client_with spent sets = record { searches = spent.searches; records = spent.records; sets = map stored sets }
+-- a client whose Init settled this, that has spent so much and has these sets
+abbrev pub client_with : Agreement → Spent → List KnownSet → ClientState
+client_with agreed spent sets =
+    record { agreed = agreed; searches = spent.searches; records = spent.records; sets = map stored sets }
 
 -- a work can begin, its legs may be asked for it, and its records can be spent
 abbrev pub IsReady : Spent → Asking → Type 0

@@ -7,6 +7,7 @@ use Rattle.z_types.specs.declared.scan.ScanAsk.{ScanAsk}
 use Rattle.z_types.specs.declared.work.Work.TheVariants as work
 use Rattle.route_config.specs.declared.route.Route.{Route}
 use Rattle.virt_db.specs.Legs.{legs_of}
+use Rattle.unit_forms.specs.Logins.{IsLoginIf}
 use Rattle.gateway_rules.specs.Works.{IsAskableScan}
 use Rattle.front_session.specs.declared.asking.Asking.{Asking}
 use Rattle.front_session.specs.declared.asking.Asking.TheVariants.{Works}
@@ -18,5 +19,5 @@ IsAskedOf route scan ask leg =
 
 -- the work of a Scan, which its leg may be asked for
 abbrev pub IsScan : Asking → Type 0
-IsScan (Works (work.Scan login leg ask)) = IsAskableScan ask
+IsScan (Works (work.Scan login leg ask)) = IsAskableScan ask × IsLoginIf login
 IsScan other = ⊥

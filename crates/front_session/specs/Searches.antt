@@ -1,5 +1,5 @@
 -- For contracts alone: the parts of what a Search is due (this project's own)
-use Rattle.std.specs.Prelude.{◌≡◌, ℕ, List, false, None, Result, Ok, Err}
+use Rattle.std.specs.Prelude.{◌≡◌, ℕ, List, false, Option, Result, Ok, Err}
 use Rattle.z_types.specs.declared.conditions.Condition.TheVariants as condition
 use Rattle.z_types.specs.declared.diagnostic.Diag.{Diag}
 use Rattle.z_types.specs.declared.known_set.KnownSet.{KnownSet}
@@ -19,6 +19,7 @@ use Rattle.z_sets.specs.declared.fault.ExpandFault.TheVariants as fault
 use Rattle.gateway_rules.specs.Asking.{search_due}
 use Rattle.gateway_rules.specs.Checks.{is_too_long, no_expansion}
 use Rattle.front_session.specs.Refusals.{AnswersDue, client_with}
+use Rattle.gateway_rules.specs.declared.agreement.Agreement.{Agreement}
 use Rattle.front_session.specs.declared.asking.Asking.{Asking}
 use Rattle.front_session.specs.declared.refusal.Refusal.{Refusal}
 use Rattle.front_session.specs.declared.refusal.Refusal.TheVariants.{Refused, Memory}
@@ -47,12 +48,13 @@ abbrev pub IsNoExpansion : ExpandFault → Refusal → Type 0
 IsNoExpansion fault.Memory refusal = refusal ≡ Memory
 IsNoExpansion why refusal = refusal ≡ Refused (no_expansion why)
 
--- what a Search asks of these legs
-abbrev pub search_work : Search → List ℕ → RpnQuery → ℕ → Work
-search_work search legs query room =
-    work.Search None legs query search.small search.large search.medium search.small_element search.medium_element
+-- what a Search of a client with this login asks of these legs
+abbrev pub search_work : Option (List ℕ) → Search → List ℕ → RpnQuery → ℕ → Work
+search_work login search legs query room =
+    work.Search login legs query search.small search.large search.medium search.small_element search.medium_element
     search.syntax room
 
--- what a Search is due, where its client has spent so much and has these sets
-abbrev pub AnswersSearch : Route → Spent → List KnownSet → Search → Result Asking Refusal → Type 0
-AnswersSearch route spent sets search answer = AnswersDue (search_due route (client_with spent sets) search) answer
+-- what a Search is due, where its client's Init settled this, and it has spent so much and has these sets
+abbrev pub AnswersSearch : Route → Agreement → Spent → List KnownSet → Search → Result Asking Refusal → Type 0
+AnswersSearch route agreed spent sets search answer =
+    AnswersDue (search_due route (client_with agreed spent sets) search) answer

@@ -9,6 +9,7 @@ abbrev pub state_of : Inside → SessionState
 state_of s = record {
   accepted = s.accepted;
   units = s.units;
+  agreed = s.agreed;
   searches = s.searches;
   records = s.records;
   sets = s.sets;

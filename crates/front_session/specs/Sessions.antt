@@ -1,4 +1,4 @@
--- For contracts alone: what is kept of a client between its requests (this project's own)
+-- What is kept of a client between its requests (this project's own)
 use Rattle.std.specs.Prelude.{◌≡◌, ◌<◌, ◌≤◌, ◌+◌, ◌^◌, ℕ, Bool, false, List, [], map, length, All, Option, None, IfSome}
 use Rattle.z_types.specs.declared.known_set.KnownSet.{KnownSet}
 use Rattle.z_types.specs.declared.requests.Request.{Request}
@@ -8,7 +8,9 @@ use Rattle.z_sets.specs.Askable.{IsAskableQuery}
 use Rattle.z_sets.specs.Sets.{stored}
 use Rattle.limit_rules.specs.declared.spent.Spent.{Spent}
 use Rattle.z_types.specs.Bounds.{most_legs}
-use Rattle.gateway_rules.specs.State.{ClientState, Progress}
+use Rattle.unit_forms.specs.Logins.{IsLoginIf}
+use Rattle.gateway_rules.specs.State.{ClientState, Progress, no_agreement}
+use Rattle.gateway_rules.specs.declared.agreement.Agreement.{Agreement}
 use Rattle.gateway_rules.specs.Works.{CanBegin, IsAskable}
 
 -- a request that waits for what comes of its work
@@ -16,10 +18,11 @@ pub record Waiting : Type 0 where
   pub request : Request
   pub work : Work
 
--- whether an Init was accepted, how many units were taken, the searches and records spent, the sets with their hits, and the request that waits
+-- whether an Init was accepted, how many units were taken, what the Init settled, the searches and records spent, the sets with their hits, and the request that waits
 pub record SessionState : Type 0 where
   pub accepted : Bool
   pub units : ℕ
+  pub agreed : Agreement
   pub searches : ℕ
   pub records : ℕ
   pub sets : List KnownSet
@@ -27,11 +30,11 @@ pub record SessionState : Type 0 where
 
 -- a client that has sent nothing
 abbrev pub new_session : SessionState
-new_session = record { accepted = false; units = 0; searches = 0; records = 0; sets = []; waiting = None }
+new_session = record { accepted = false; units = 0; agreed = no_agreement; searches = 0; records = 0; sets = []; waiting = None }
 
 -- what the answers have left with the client
 abbrev pub client_of : SessionState → ClientState
-client_of s = record { searches = s.searches; records = s.records; sets = map stored s.sets }
+client_of s = record { agreed = s.agreed; searches = s.searches; records = s.records; sets = map stored s.sets }
 
 -- how far its units have come, where the next one is at this offset
 abbrev pub progress_of : ℕ → SessionState → Progress
@@ -64,11 +67,12 @@ pub record CanWait (s : SessionState) (waiting : Waiting) : Type 0 where
   pub searches : s.searches < s.units
   pub records : HasRoomFor s.records waiting.work
 
--- each search took a unit, and each set a search; units and records are numbers of 32 bits
+-- each search took a unit, and each set a search; units and records are numbers of 32 bits; the login is one
 pub record IsKept (s : SessionState) : Type 0 where
   pub sets : All IsKeptSet s.sets
   pub of_searches : length s.sets ≤ s.searches
   pub of_units : s.searches ≤ s.units
   pub units : s.units < 2 ^ 32
+  pub login : IsLoginIf s.agreed.login
   pub records : s.records < 2 ^ 32
   pub waiting : IfSome s.waiting (CanWait s)

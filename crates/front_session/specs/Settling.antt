@@ -1,5 +1,5 @@
 -- For contracts alone: the parts of what an outcome leaves (this project's own)
-use Rattle.std.specs.Prelude.{◌≡◌, ◌+◌, ℕ, Bool, true, false, List, [], ◌∷◌, ◌++◌, is_none, Option, None, Some}
+use Rattle.std.specs.Prelude.{◌≡◌, ◌≤◌, ◌+◌, ℕ, Bool, true, false, List, [], ◌∷◌, ◌++◌, is_none, Option, None, Some}
 use Rattle.z_types.specs.declared.diagnostic.Diag.{Diag}
 use Rattle.z_types.specs.declared.known_set.KnownSet.{KnownSet}
 use Rattle.z_types.specs.declared.outcome.Fetched.{Fetched}
@@ -15,13 +15,16 @@ use Rattle.z_types.specs.declared.work.Work.TheVariants as work
 use Rattle.z_sets.specs.Operands.{others_than}
 use Rattle.gateway_rules.specs.Given.{search_reply, present_reply, returned}
 use Rattle.gateway_rules.specs.Replies.{failed, init_reply, close_reply}
-use Rattle.gateway_rules.specs.Settling.{why_failed, found_hits, fetched_of, scanned_of, fetched_from, reply_by}
+use Rattle.gateway_rules.specs.Settling.{why_failed, found_hits, fetched_of, scanned_of, fetched_from, asked_of, given_of, reply_by}
+use Rattle.gateway_rules.specs.Cut.{cut_of}
+use Rattle.gateway_rules.specs.declared.sizes.Sizes.{Sizes}
 use Rattle.gateway_rules.specs.Statuses.{scan_success, finished}
 use Rattle.gateway_rules.specs.Works.{FitsWork}
 use Rattle.front_session.specs.Sessions.{SessionState, Waiting}
 use Rattle.front_session.specs.Admitting.{IsSettled}
 use Rattle.front_session.specs.declared.settle.Answer.{Answer}
 use Rattle.front_session.specs.declared.settle.OutcomeParts.{OutcomeParts}
+use Rattle.front_session.specs.declared.settle.CutParts.{CutParts}
 use Rattle.front_session.specs.declared.settle.Pending.{Pending}
 
 -- a request waits, and the outcome fits its work
@@ -38,26 +41,35 @@ IsSettledBy (Some waiting) old new outcome reply = IsSettled old new waiting out
 abbrev pub only_why : Option Diag → OutcomeParts
 only_why why = record { why = why; hits = []; fetched = fetched.None; scanned = record { position = None; entries = [] } }
 
--- the reply to a request that did not fail, by the parts of its outcome
-abbrev pub good_reply_by : Request → Work → List ℕ → Fetched → ScanAnswer → Reply
-good_reply_by (request.Init init) work hits records scanned = init_reply init
-good_reply_by (request.Search search) work hits records scanned = search_reply search.ref_id hits records
-good_reply_by (request.Present present) work hits records scanned = present_reply present (fetched_from work) records
-good_reply_by (request.Scan scan) work hits records scanned = reply.Scan scan.ref_id scan_success scanned []
-good_reply_by (request.Close close) work hits records scanned = close_reply close.ref_id finished
+-- the reply to a request that did not fail, by the parts of its outcome, with what is given of `all` records
+abbrev pub good_reply_by : Request → Work → List ℕ → (all : ℕ) → Fetched → ScanAnswer → Reply
+good_reply_by (request.Init init) work hits all records scanned = init_reply init
+good_reply_by (request.Search search) work hits all records scanned = search_reply search.ref_id hits all records
+good_reply_by (request.Present present) work hits all records scanned = present_reply present (fetched_from work) all records
+good_reply_by (request.Scan scan) work hits all records scanned = reply.Scan scan.ref_id scan_success scanned []
+good_reply_by (request.Close close) work hits all records scanned = close_reply close.ref_id finished
 
 -- the reply to a request, by the parts of its outcome
-abbrev pub reply_of : Option Diag → Request → Work → OutcomeParts → Reply
-reply_of (Some diag) request work parts = failed request diag
-reply_of None request work parts = good_reply_by request work parts.hits parts.fetched parts.scanned
+abbrev pub reply_of : Option Diag → Request → Work → (all : ℕ) → OutcomeParts → Reply
+reply_of (Some diag) request work all parts = failed request diag
+reply_of None request work all parts = good_reply_by request work parts.hits all parts.fetched parts.scanned
 
 -- the reply to a request that waits
-abbrev pub reply_by_parts : Pending → OutcomeParts → Reply
-reply_by_parts pending parts = reply_of parts.why pending.request pending.work parts
+abbrev pub reply_by_parts : Pending → (all : ℕ) → OutcomeParts → Reply
+reply_by_parts pending all parts = reply_of parts.why pending.request pending.work all parts
 
 -- the reply to a request that waits and did not fail
-abbrev pub good_reply_to : Pending → List ℕ → Fetched → ScanAnswer → Reply
-good_reply_to pending hits records scanned = good_reply_by pending.request pending.work hits records scanned
+abbrev pub good_reply_to : Pending → List ℕ → (all : ℕ) → Fetched → ScanAnswer → Reply
+good_reply_to pending hits all records scanned = good_reply_by pending.request pending.work hits all records scanned
+
+-- the parts of an outcome, with what is given of its records
+pub record IsCutOf (sizes : Sizes) (work : Work) (parts : OutcomeParts) (cut : CutParts) : Type 0 where
+  pub all : cut.all ≡ returned parts.fetched
+  pub why : cut.parts.why ≡ parts.why
+  pub hits : cut.parts.hits ≡ parts.hits
+  pub scanned : cut.parts.scanned ≡ parts.scanned
+  pub fetched : cut.parts.fetched ≡ cut_of sizes (asked_of work parts.hits) parts.fetched
+  pub fewer : returned cut.parts.fetched ≤ returned parts.fetched
 
 -- the parts of an outcome, each empty where it has no such part
 pub record ArePartsOf (outcome : Outcome) (parts : OutcomeParts) : Type 0 where
@@ -104,13 +116,14 @@ ended s pending is_good hits given = record s {
 }
 
 -- what is answered to a request that waited, and what is kept of its outcome
-pub record IsAnswered (pending : Pending) (outcome : Outcome) (answer : Answer) : Type 0 where
-  pub reply : answer.reply ≡ reply_by (why_failed outcome) pending.request pending.work outcome
+pub record IsAnswered (sizes : Sizes) (pending : Pending) (outcome : Outcome) (answer : Answer) : Type 0 where
+  pub reply : answer.reply ≡ reply_by sizes (why_failed outcome) pending.request pending.work outcome
   pub is_good : answer.is_good ≡ is_none (why_failed outcome)
   pub hits : answer.hits ≡ found_hits outcome
-  pub given : answer.given ≡ returned (fetched_of outcome)
+  pub given : answer.given ≡ returned (given_of sizes pending.work outcome)
 
 -- the reply to a request that waited, and what is kept behind it
 pub record IsSettledWith (old new : SessionState) (pending : Pending) (outcome : Outcome) (reply : Reply) : Type 0 where
-  pub reply-is : reply ≡ reply_by (why_failed outcome) pending.request pending.work outcome
-  pub new-is : new ≡ ended old pending (is_none (why_failed outcome)) (found_hits outcome) (returned (fetched_of outcome))
+  pub reply-is : reply ≡ reply_by old.agreed.sizes (why_failed outcome) pending.request pending.work outcome
+  pub new-is : new ≡ ended old pending (is_none (why_failed outcome)) (found_hits outcome)
+      (returned (given_of old.agreed.sizes pending.work outcome))

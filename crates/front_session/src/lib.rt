@@ -5,6 +5,7 @@
 mod admitted;
 mod asking;
 mod check;
+mod cut;
 mod kept;
 mod limited;
 mod present;

@@ -1,4 +1,4 @@
-//! The limits of a connection, each as a test.
+//! The limits of a connection of Z39.50, each as a test.
 
 ghost use Rattle.std.specs.Prelude.{◌≡◌};
 ghost use Rattle.limit_rules.specs.Limits as limits_of;

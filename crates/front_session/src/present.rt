@@ -2,6 +2,7 @@
 
 ghost use Rattle.std.specs.Prelude.{◌≡◌, ◌<◌, ◌^◌, nat_abs, false, Some, All, IfOk};
 ghost use Rattle.z_types.specs.MergedOrder as merged_order;
+ghost use Rattle.unit_forms.specs.Logins.{IsLoginIf};
 ghost use Rattle.z_sets.specs.Sets.{stored};
 ghost use Rattle.limit_rules.specs.Limits.{are_too_many};
 ghost use Rattle.gateway_rules.specs.Asking as asking;
@@ -15,7 +16,7 @@ use crate::asking::Asking;
 use crate::check::{is_too_long, refuse_where, served_form};
 use crate::limited::are_too_many;
 use crate::refusal::Refusal;
-use gateway_rules::present_reply;
+use gateway_rules::{Agreement, present_reply};
 use limit_rules::Spent;
 use multi_merge::total;
 use route_config::Route;
@@ -29,27 +30,31 @@ use z_types::{
 pub(crate) fn present_due(
     alloc: Global,
     route: &Route,
+    agreed: &Agreement,
     spent: &Spent,
     sets: &List<KnownSet>,
     present: &Present,
 ) -> Result<Asking, Refusal>
+    requires login { IsLoginIf agreed.now.login }
     requires kept { All IsKeptSet sets.now }
-    ensures due { AnswersPresent route.now spent.now sets.now present.now result }
+    ensures due { AnswersPresent route.now agreed.now spent.now sets.now present.now result }
     ensures ready { IfOk result (IsReady spent.now) }
 {
-    let set = check_present(alloc, route, spent, sets, present)?;
-    Ok(fetch_due(&route.parts().limits, spent, present, set)?)
+    let set = check_present(alloc, route, agreed, spent, sets, present)?;
+    Ok(fetch_due(&route.parts().limits, agreed, spent, present, set)?)
 }
 
 /// The set that a Present names, where no check refuses.
 fn check_present<'a>(
     alloc: Global,
     route: &Route,
+    agreed: &Agreement,
     spent: &Spent,
     sets: &'a List<KnownSet>,
     present: &Present,
 ) -> Result<&'a KnownSet, Refusal>
-    ensures { AnswersChecks (present_checks route.now (client_with spent.now sets.now) present.now
+    ensures { AnswersChecks (present_checks route.now
+        (client_with agreed.now spent.now sets.now) present.now
         (hits_named sets.now present.now.set_name))
         (λ set. MayFetch route.now.limits spent.now sets.now present.now set.now) result }
 {
@@ -119,6 +124,7 @@ fn check_number(
 /// What a Present asks of its set, or its reply where it asks for no record.
 fn fetch_due(
     limits: &Limits,
+    agreed: &Agreement,
     spent: &Spent,
     present: &Present,
     set: &KnownSet,
@@ -126,27 +132,29 @@ fn fetch_due(
     requires range { is_out_of_range present.now (merged_order.total set.now.hits) ≡ false }
     requires number { are_too_many limits.now spent.now.records present.now.number ≡ false }
     requires each { IsKeptSet set.now }
+    requires login { IsLoginIf agreed.now.login }
     requires element { is_too_long (asking.element_of present.now.element) ≡ false }
     ensures due { IfOk result (λ due. due_of due
-        ≡ asking.fetch_work present.now set.now.hits (Some (stored set.now))) }
+        ≡ asking.fetch_work agreed.now.login present.now set.now.hits
+        (Some (stored set.now))) }
     ensures ready { IfOk result (IsReady spent.now) }
 {
     let _most = limits.records;
     let _given = spent.records;
     if present.number == 0 {
-        let reply = present_reply(present, set.hits.as_slice(), Fetched::None)?;
+        let reply = present_reply(present, set.hits.as_slice(), 0, Fetched::None)?;
         return Ok(Asking::AtOnce(reply));
     }
-    Ok(Asking::Works(fetch_work(present, set)?))
+    Ok(Asking::Works(fetch_work(&agreed.login, present, set)?))
 }
 
-/// The work of a Present from its set.
-fn fetch_work(present: &Present, set: &KnownSet) -> Result<Work, Memory>
+/// The work of a Present from its set, of a client with this login.
+fn fetch_work(login: &Option<Text>, present: &Present, set: &KnownSet) -> Result<Work, Memory>
     requires { nat_abs present.now.start < 2 ^ 32 }
-    ensures { IfOk result (λ work. work ≡ fetch_work present.now set.now) }
+    ensures { IfOk result (λ work. work ≡ fetch_work login.now present.now set.now) }
 {
     Ok(Work::Fetch {
-        login: None,
+        login: copy(login)?,
         legs: copy(&set.legs)?,
         query: copy(&set.query)?,
         hits: copy(&set.hits)?,

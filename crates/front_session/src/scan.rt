@@ -4,6 +4,7 @@ ghost use Rattle.std.specs.Prelude.{◌≡◌, ◌≤◌, IfOk, nat_lt};
 ghost use Rattle.z_types.specs.Numbers.{IfGood, ScanHasNumbers};
 ghost use Rattle.z_types.specs.QueryMeasures.{leaf_cost};
 ghost use Rattle.z_types.specs.Bounds.{most_query_cost};
+ghost use Rattle.unit_forms.specs.Logins.{IsLoginIf};
 ghost use Rattle.gateway_rules.specs.Asking as asking;
 ghost use Rattle.gateway_rules.specs.Checks.{cost_check, scan_checks, terms_check};
 ghost use Rattle.front_session.specs.Refusals.{AnswersCheck, AnswersChecks, AnswersDue};
@@ -12,6 +13,7 @@ ghost use Rattle.front_session.specs.Scans.{IsAskedOf, IsScan};
 use crate::asking::Asking;
 use crate::check::{check_databases, refuse_where, served_form};
 use crate::refusal::Refusal;
+use gateway_rules::Agreement;
 use route_config::Route;
 use std::alloc::Global;
 use z_types::{Attr, Condition, List, MOST_QUERY_COST, Measures, Scan, ScanAsk, Term, Work, copy};
@@ -20,14 +22,20 @@ use z_types::{Attr, Condition, List, MOST_QUERY_COST, Measures, Scan, ScanAsk, T
 const MOST_TERMS: u32 = 1000;
 
 /// What a Scan asks of its leg, or why it fails.
-pub(crate) fn scan_due(alloc: Global, route: &Route, scan: &Scan) -> Result<Asking, Refusal>
+pub(crate) fn scan_due(
+    alloc: Global,
+    route: &Route,
+    agreed: &Agreement,
+    scan: &Scan,
+) -> Result<Asking, Refusal>
+    requires login { IsLoginIf agreed.now.login }
     requires numbers { IfGood scan.now.ask ScanHasNumbers }
-    ensures due { AnswersDue (asking.scan_due route.now scan.now) result }
+    ensures due { AnswersDue (asking.scan_due route.now agreed.now scan.now) result }
     ensures scans { IfOk result IsScan }
 {
     let (ask, leg) = check_scan(alloc, route, scan)?;
     Ok(Asking::Works(Work::Scan {
-        login: None,
+        login: copy(&agreed.login)?,
         leg,
         ask: copy(ask)?,
     }))

@@ -2,6 +2,7 @@
 
 ghost use Rattle.std.specs.Prelude.{◌≡◌, ◌+◌, ◌<◌, ◌≤◌, ◌^◌, length, All, IfOk};
 ghost use Rattle.z_types.specs.Numbers.{IfGood, QueryHasNumbers};
+ghost use Rattle.unit_forms.specs.Logins.{IsLoginIf};
 ghost use Rattle.z_sets.specs.Askable.{IsAskableQuery};
 ghost use Rattle.z_sets.specs.Sets.{stored_set_named, without_hits};
 ghost use Rattle.limit_rules.specs.Limits as limits_of;
@@ -14,6 +15,7 @@ use crate::asking::Asking;
 use crate::check::{check_databases, is_too_long, refuse_where, served_form};
 use crate::limited::{are_searches_spent, are_sets_full};
 use crate::refusal::Refusal;
+use gateway_rules::Agreement;
 use limit_rules::{Spent, room};
 use route_config::Route;
 use std::alloc::Global;
@@ -26,32 +28,36 @@ use z_types::{
 pub(crate) fn search_due(
     alloc: Global,
     route: &Route,
+    agreed: &Agreement,
     spent: &Spent,
     sets: &List<KnownSet>,
     search: &Search,
 ) -> Result<Asking, Refusal>
+    requires login { IsLoginIf agreed.now.login }
     requires counted { spent.now.sets ≡ length sets.now }
     requires kept { All IsKeptSet sets.now }
     requires numbers { IfGood search.now.query QueryHasNumbers }
-    ensures due { AnswersSearch route.now spent.now sets.now search.now result }
+    ensures due { AnswersSearch route.now agreed.now spent.now sets.now search.now result }
     ensures ready { IfOk result (IsReady spent.now) }
 {
-    let legs = check_search(alloc, route, spent, sets, search)?;
+    let legs = check_search(alloc, route, agreed, spent, sets, search)?;
     let query = expand_query(alloc, &search.query, &legs, sets)?;
     let room = room_left(&route.parts().limits, spent);
-    Ok(Asking::Works(search_work(search, legs, query, room)?))
+    Ok(Asking::Works(search_work(&agreed.login, search, legs, query, room)?))
 }
 
 /// The legs of a Search, where no check up to its query refuses.
 fn check_search(
     alloc: Global,
     route: &Route,
+    agreed: &Agreement,
     spent: &Spent,
     sets: &List<KnownSet>,
     search: &Search,
 ) -> Result<List<u32>, Refusal>
     requires counted { spent.now.sets ≡ length sets.now }
-    ensures { AnswersChecks (search_checks route.now (client_with spent.now sets.now) search.now)
+    ensures { AnswersChecks (search_checks route.now
+        (client_with agreed.now spent.now sets.now) search.now)
         (PassesChecks route.now search.now) result }
 {
     check_searches(alloc, &route.parts().limits, spent)?;
@@ -146,12 +152,18 @@ fn room_left(limits: &Limits, spent: &Spent) -> u32
     room(limits, given)
 }
 
-/// The work of a Search over these legs.
-fn search_work(search: &Search, legs: List<u32>, query: RpnQuery, room: u32) -> Result<Work, Memory>
-    ensures { IfOk result (λ work. work ≡ search_work search.now legs query room) }
+/// The work of a Search over these legs, of a client with this login.
+fn search_work(
+    login: &Option<Text>,
+    search: &Search,
+    legs: List<u32>,
+    query: RpnQuery,
+    room: u32,
+) -> Result<Work, Memory>
+    ensures { IfOk result (λ work. work ≡ search_work login.now search.now legs query room) }
 {
     Ok(Work::Search {
-        login: None,
+        login: copy(login)?,
         legs,
         query,
         small: search.small,

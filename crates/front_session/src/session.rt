@@ -3,6 +3,8 @@
 ghost use Rattle.std.specs.Prelude.{◌≡◌, ◌+◌, ◌<◌, ◌≤◌, ◌^◌, Some, None, length, All, IfOk, OnOk};
 ghost use Rattle.z_types.specs.Numbers.{HasNumbersInRange};
 ghost use Rattle.gateway_rules.specs.Course.{accepts};
+ghost use Rattle.gateway_rules.specs.Settling.{agreed_by};
+ghost use Rattle.unit_forms.specs.Logins.{AsksWithLogin};
 ghost use Rattle.gateway_rules.specs.Works.{CanBegin, FitsWork, IsAskable};
 ghost use Rattle.front_session.specs.Admitting.{IsAdmitted, IsGivenAdmitted, IsWorkAdmitted, counted, is_in_place_after, waits};
 ghost use Rattle.front_session.specs.Refusals.{IsReady};
@@ -15,7 +17,7 @@ use crate::asking::{Asking, due_for};
 use crate::kept::end_sets;
 use crate::limited::are_units_spent;
 use crate::settle::{Answer, Pending, answer_to, searches_behind};
-use gateway_rules::is_accepted;
+use gateway_rules::{Agreement, Sizes, agreed_by, is_accepted};
 use limit_rules::Spent;
 use route_config::Route;
 use std::alloc::Global;
@@ -27,6 +29,7 @@ use z_types::{KnownSet, List, Memory, Outcome, Reply, Request, Work};
 pub struct FrontSession {
     accepted: bool,
     units: u32,
+    agreed: Agreement,
     searches: u32,
     records: u32,
     sets: List<KnownSet>,
@@ -57,6 +60,7 @@ impl FrontSession {
         FrontSession {
             accepted: false,
             units: 0,
+            agreed: Agreement::none(),
             searches: 0,
             records: 0,
             sets: List::new(alloc),
@@ -65,11 +69,12 @@ impl FrontSession {
     }
 
     /// What a request is admitted as, after what its client has sent before, under one route for all of
-    /// its calls. Its numbers are within their range, as those of a request that was read are; the legs
-    /// of a work that is handed out may be asked for it. It is `Memory` also where a number of 32 bits
-    /// would not count the units.
+    /// its calls. Its numbers are within their range, and its login is one, as those of a request that was
+    /// read are; the legs of a work that is handed out may be asked for it. It is `Memory` also where a
+    /// number of 32 bits would not count the units.
     pub fn admit(&mut self, alloc: Global, route: &Route, request: &Request) -> Admitted
-        requires { HasNumbersInRange request.now }
+        requires numbers { HasNumbersInRange request.now }
+        requires login { AsksWithLogin request.now }
         ensures { IsAdmitted route.now request.now self.old self.new result }
     {
         let spent = self.spent();
@@ -79,7 +84,7 @@ impl FrontSession {
         if !is_in_place(self.accepted, request) {
             return Admitted::Bad;
         }
-        match due_for(alloc, route, &spent, &self.sets, request) {
+        match due_for(alloc, route, &self.agreed, &spent, &self.sets, request) {
             Ok(due) => self.admit_due(request, due),
             Err(_) => Admitted::Memory,
         }
@@ -98,18 +103,25 @@ impl FrontSession {
         }
     }
 
-    /// Counts a unit more, which may be an Init that is accepted.
-    fn count(&mut self, units: u32, request: &Request)
-        requires { units ≡ self.old.units + 1 }
+    /// Counts a unit more, which may be an Init that is accepted, and keeps what that settles.
+    #[tactic(auto, using(crate::proofs::WaitLemmas::agreed_login))]
+    fn count(&mut self, units: u32, request: &Request, agreed: Option<Agreement>)
+        requires units { units ≡ self.old.units + 1 }
+        requires login { AsksWithLogin request.now }
+        requires agreed { agreed ≡ agreed_by request.now }
         ensures { self.new ≡ counted self.old request.now }
     {
         self.units = units;
         self.accepted = self.accepted || accepts(request);
+        if let Some(agreed) = agreed {
+            self.agreed = agreed;
+        }
     }
 
     /// Admits a request that is in its place.
     fn admit_due(&mut self, request: &Request, due: Asking) -> Admitted
         requires kept { IsKept self.old }
+        requires login { AsksWithLogin request.now }
         requires ready { IsReady (spent_of self.old) due }
         ensures { IsGivenAdmitted due request.now self.old self.new result }
     {
@@ -117,18 +129,30 @@ impl FrontSession {
             drop(due);
             return Admitted::Memory;
         };
+        let Ok(agreed) = agreed_by(request) else {
+            drop(due);
+            return Admitted::Memory;
+        };
         match due {
             Asking::AtOnce(reply) => {
-                self.count(units, request);
+                self.count(units, request, agreed);
                 Admitted::Reply(reply)
             }
-            Asking::Works(work) => self.admit_work(units, request, work),
+            Asking::Works(work) => self.admit_work(units, request, agreed, work),
         }
     }
 
     /// Lets a request wait for its work.
-    fn admit_work(&mut self, units: u32, request: &Request, work: Work) -> Admitted
+    fn admit_work(
+        &mut self,
+        units: u32,
+        request: &Request,
+        agreed: Option<Agreement>,
+        work: Work,
+    ) -> Admitted
         requires kept { IsKept self.old }
+        requires login { AsksWithLogin request.now }
+        requires agreed { agreed ≡ agreed_by request.now }
         requires units { units ≡ self.old.units + 1 }
         requires begins { CanBegin work }
         requires asks { IsAskable work }
@@ -137,10 +161,11 @@ impl FrontSession {
     {
         match Pending::of(request, &work) {
             Ok(pending) => {
-                self.wait(units, request, pending);
+                self.wait(units, request, agreed, pending);
                 Admitted::Work(work)
             }
             Err(_) => {
+                drop(agreed);
                 drop(work);
                 Admitted::Memory
             }
@@ -148,15 +173,17 @@ impl FrontSession {
     }
 
     /// Counts a unit more, whose request waits.
-    fn wait(&mut self, units: u32, request: &Request, pending: Pending)
+    fn wait(&mut self, units: u32, request: &Request, agreed: Option<Agreement>, pending: Pending)
         requires kept { IsKept self.old }
+        requires login { AsksWithLogin request.now }
+        requires agreed { agreed ≡ agreed_by request.now }
         requires units { units ≡ self.old.units + 1 }
         requires begins { CanBegin pending.work }
         requires asks { IsAskable pending.work }
         requires records { HasRoomFor self.old.records pending.work }
         ensures { self.new ≡ waits self.old request.now (waiting_of pending) }
     {
-        self.count(units, request);
+        self.count(units, request, agreed);
         fill(&mut self.pending, pending);
     }
 
@@ -172,6 +199,13 @@ impl FrontSession {
         self.settle_for(alloc, pending, outcome)
     }
 
+    /// The sizes that its client's Init agreed on.
+    fn sizes(&self) -> Sizes
+        ensures { result ≡ self.now.agreed.sizes }
+    {
+        self.agreed.sizes
+    }
+
     /// The reply to a request that waited for its work, and what is kept behind it.
     fn settle_for(
         &mut self,
@@ -185,7 +219,7 @@ impl FrontSession {
         requires fits { FitsWork pending.work outcome }
         ensures { IfOk result (IsSettledWith self.old self.new pending outcome) }
     {
-        match answer_to(alloc, &pending, outcome) {
+        match answer_to(alloc, self.sizes(), &pending, outcome) {
             Ok(answer) => self.end_answered(alloc, pending, answer),
             Err(memory) => {
                 drop(pending);

@@ -5,12 +5,15 @@ ghost use Rattle.limit_rules.specs.Limits.{most_records};
 ghost use Rattle.gateway_rules.specs.Given.{returned};
 ghost use Rattle.gateway_rules.specs.Settling as settling;
 ghost use Rattle.gateway_rules.specs.Works.{CanBegin, FitsWork};
-ghost use Rattle.front_session.specs.Settling.{ArePartsOf, IsAnswered, good_reply_to, only_why, reply_by_parts, searches_behind};
+ghost use Rattle.z_types.specs.Shown.{shown};
+ghost use Rattle.front_session.specs.Settling.{ArePartsOf, IsAnswered, IsCutOf, good_reply_to, only_why, reply_by_parts, searches_behind};
 
+use crate::cut::cut_of;
 use gateway_rules::{
-    count_returned, failed_reply, finished_reply, init_reply, marked_diag, present_reply,
+    Sizes, count_returned, failed_reply, finished_reply, init_reply, marked_diag, present_reply,
     scan_reply, search_reply,
 };
+use multi_merge::total;
 use std::alloc::Global;
 use z_types::{Diag, Fetched, List, Memory, Outcome, Reply, Request, ScanAnswer, Work, copy};
 
@@ -51,6 +54,15 @@ struct OutcomeParts {
     scanned: ScanAnswer,
 }
 
+/// How many records were fetched, and the parts of an outcome with those of them that are given.
+#[derive(Drop)]
+struct CutParts {
+    /// How many records were fetched.
+    all: u32,
+    /// The parts.
+    parts: OutcomeParts,
+}
+
 /// What is answered to a request that waited, and what is kept of its outcome.
 #[derive(Drop)]
 pub(crate) struct Answer {
@@ -67,23 +79,90 @@ pub(crate) struct Answer {
 /// What is answered to a request that waited, and what is kept of its outcome.
 pub(crate) fn answer_to(
     alloc: Global,
+    sizes: Sizes,
     pending: &Pending,
     outcome: Outcome,
 ) -> Result<Answer, Memory>
     requires begins { CanBegin pending.now.work }
     requires fits { FitsWork pending.now.work outcome }
-    ensures { IfOk result (IsAnswered pending.now outcome) }
+    ensures { IfOk result (IsAnswered sizes pending.now outcome) }
 {
     let parts = parts_of(alloc, outcome)?;
     let is_good = parts.why.is_none();
-    let given = count_returned(&parts.fetched);
-    let (reply, hits) = reply_to(alloc, pending, parts)?;
+    let cut = cut_parts(alloc, sizes, &pending.work, parts)?;
+    let given = count_returned(&cut.parts.fetched);
+    let (reply, hits) = reply_to(alloc, pending, cut)?;
     Ok(Answer {
         reply,
         is_good,
         hits,
         given,
     })
+}
+
+/// The parts of an outcome, with what is given of its records in place of what was fetched.
+#[tactic(auto, using(crate::proofs::CutLemmas::fewer))]
+fn cut_parts(
+    alloc: Global,
+    sizes: Sizes,
+    work: &Work,
+    parts: OutcomeParts,
+) -> Result<CutParts, Memory>
+    requires few { returned parts.fetched ≤ most_records }
+    ensures { IfOk result (IsCutOf sizes work.now parts) }
+{
+    let OutcomeParts {
+        why,
+        hits,
+        fetched,
+        scanned,
+    } = parts;
+    let all = count_returned(&fetched);
+    let asked = asked_of(work, &hits);
+    match cut_of(alloc, sizes, asked, fetched) {
+        Ok(fetched) => Ok(CutParts {
+            all,
+            parts: OutcomeParts {
+                why,
+                hits,
+                fetched,
+                scanned,
+            },
+        }),
+        Err(memory) => {
+            drop((why, hits, scanned));
+            Err(memory)
+        }
+    }
+}
+
+/// How many records a work asked for, of a Search with these hits those that are shown.
+fn asked_of(work: &Work, hits: &List<u32>) -> u32
+    ensures { result ≡ settling.asked_of work.now hits.now }
+{
+    match work {
+        Work::Search {
+            small,
+            large,
+            medium,
+            ..
+        } => shown(total(hits.as_slice()), *small, *large, *medium),
+        Work::Fetch { count, .. } => *count,
+        Work::Scan { .. } => 0,
+    }
+}
+
+/// How many records are shown with a Search.
+fn shown(count: u32, small: u32, large: u32, medium: u32) -> u32
+    ensures { result ≡ shown count small large medium }
+{
+    if count <= small {
+        return count;
+    }
+    if count >= large {
+        return 0;
+    }
+    medium.min(count)
 }
 
 /// The parts of an outcome.
@@ -137,15 +216,12 @@ fn no_entries(alloc: Global) -> ScanAnswer
 }
 
 /// The reply to the request that waits, and the hits that a Search found.
-fn reply_to(
-    alloc: Global,
-    pending: &Pending,
-    parts: OutcomeParts,
-) -> Result<(Reply, List<u32>), Memory>
-    requires few { returned parts.fetched ≤ most_records }
-    ensures reply { IfOk result (λ both. both.0 ≡ reply_by_parts pending.now parts) }
-    ensures hits { IfOk result (λ both. both.1 ≡ parts.hits) }
+fn reply_to(alloc: Global, pending: &Pending, cut: CutParts) -> Result<(Reply, List<u32>), Memory>
+    requires few { returned cut.parts.fetched ≤ most_records }
+    ensures reply { IfOk result (λ both. both.0 ≡ reply_by_parts pending.now cut.all cut.parts) }
+    ensures hits { IfOk result (λ both. both.1 ≡ cut.parts.hits) }
 {
+    let CutParts { all, parts } = cut;
     let OutcomeParts {
         why,
         hits,
@@ -154,7 +230,7 @@ fn reply_to(
     } = parts;
     let reply = match why {
         Some(diag) => failed_reply(alloc, &pending.request, diag)?,
-        None => good_reply(alloc, pending, &hits, fetched, scanned)?,
+        None => good_reply(alloc, pending, &hits, all, fetched, scanned)?,
     };
     Ok((reply, hits))
 }
@@ -164,17 +240,19 @@ fn good_reply(
     alloc: Global,
     pending: &Pending,
     hits: &List<u32>,
+    all: u32,
     fetched: Fetched,
     scanned: ScanAnswer,
 ) -> Result<Reply, Memory>
     requires few { returned fetched ≤ most_records }
-    ensures { IfOk result (λ reply. reply ≡ good_reply_to pending.now hits.now fetched scanned) }
+    ensures { IfOk result
+        (λ reply. reply ≡ good_reply_to pending.now hits.now all fetched scanned) }
 {
     match &pending.request {
         Request::Init(init) => init_reply(init),
-        Request::Search(search) => search_reply(search, hits, fetched),
+        Request::Search(search) => search_reply(search, hits, all, fetched),
         Request::Present(present) => {
-            present_reply(present, fetched_from(&pending.work), fetched)
+            present_reply(present, fetched_from(&pending.work), all, fetched)
         }
         Request::Scan(scan) => scan_reply(alloc, scan, scanned),
         Request::Close(close) => finished_reply(close),

@@ -1,4 +1,4 @@
--- For contracts alone: how a GET is begun, and each of its works ended (SRU 1.2, searchRetrieve): one request in, the octets
+-- How a GET is begun, and each of its works ended (SRU 1.2, searchRetrieve): one request in, the octets
 -- of its answer out
 use Rattle.std.specs.Prelude.{◌≡◌, ℕ, List, ◌++◌, Option, None, Some, IfSome, Result, Ok, Err}
 use Rattle.z_types.specs.MergedOrder.{total}

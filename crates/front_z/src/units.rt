@@ -4,6 +4,7 @@ ghost use Rattle.std.specs.Prelude.{◌≡◌, Some, None, IsSome, IfSome, OnOk,
 ghost use Rattle.z_types.specs.Numbers.{HasNumbersInRange};
 ghost use Rattle.z_types.specs.declared.marks.Mark.TheVariants.{Plain};
 ghost use Rattle.z_types.specs.declared.marks.End.TheVariants.{Malformed, Limited};
+ghost use Rattle.unit_forms.specs.Logins.{AsksWithLogin};
 ghost use Rattle.gateway_rules.specs.Replies.{bad_unit_reply, limit_reply};
 ghost use Rattle.gateway_rules.specs.Works.{FitsWork};
 ghost use Rattle.front_z.specs.Units.{IsBegun, IsEnded, IsRequestBegun, IsWritten, IsPut, end_behind};
@@ -76,7 +77,8 @@ fn begin_request(
     at: u64,
     out: &mut Text,
 ) -> Begun
-    requires { HasNumbersInRange request.now }
+    requires numbers { HasNumbersInRange request.now }
+    requires login { AsksWithLogin request.now }
     ensures { IsRequestBegun route.now at request.now
         (record { session = session.old; out = out.old })
         (record { session = session.new; out = out.new }) result }

@@ -1,4 +1,4 @@
-//! The program: the top call over the real files, output and test targets.
+//! The program: the top call over the real files, output and targets.
 #![tactic(auto)]
 
 mod program;

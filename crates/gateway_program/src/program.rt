@@ -1,4 +1,4 @@
-//! The program over the real files, output and test targets.
+//! The program over the real files, output and targets.
 
 use crate::serving::{is_serve, serve_here};
 use crate::words::words;

@@ -7,3 +7,4 @@ pub mod SomeAnswer
 mod FairLegs
 pub mod Joined
 pub mod MarkLemmas
+mod CutExamples

@@ -20,6 +20,7 @@ use Rattle.limit_rules.specs.Limits.{room}
 use Rattle.gateway_rules.specs.Replies.{failed, init_reply, close_reply}
 use Rattle.z_sets.specs.Sets.{StoredSet, set_named}
 use Rattle.gateway_rules.specs.State.{ClientState}
+use Rattle.gateway_rules.specs.declared.agreement.Agreement.{Agreement}
 use Rattle.gateway_rules.specs.Statuses.{finished}
 use Rattle.gateway_rules.specs.Targets.{hits_of}
 use Rattle.z_types.specs.declared.outcome.Fetched.TheVariants as fetched
@@ -47,7 +48,7 @@ unless_refused request (Ok due) = due
 abbrev pub search_work : Route → ClientState → Search → Result RpnQuery ExpandFault → Result Asking Diag
 search_work route client search (Err fault) = Err (no_expansion fault)
 search_work route client search (Ok query) =
-    Ok (works (work.Search None (legs_of route search.dbs) query search.small search.large search.medium
+    Ok (works (work.Search client.agreed.login (legs_of route search.dbs) query search.small search.large search.medium
     search.small_element search.medium_element search.syntax (room route.limits client.records)))
 
 -- the query of a Search without operand sets
@@ -78,38 +79,39 @@ abbrev pub element_of : Asked (Option (List ℕ)) → Option (List ℕ)
 element_of (Good element) = element
 element_of (Bad diag) = None
 
--- what a Present asks of a set; where it asks for no record it is answered at once
-abbrev pub fetch_work : Present → List ℕ → Option StoredSet → Asking
-fetch_work present hits None = at_once (present_reply present hits fetched.None)
-fetch_work present hits (Some set) =
-    if present.number == 0 then at_once (present_reply present hits fetched.None)
-    else works (work.Fetch None set.legs set.query hits (nat_abs present.start) present.number present.syntax
+-- what a Present of a client with this login asks of a set; where it asks for no record it is answered at once
+abbrev pub fetch_work : Option (List ℕ) → Present → List ℕ → Option StoredSet → Asking
+fetch_work login present hits None = at_once (present_reply present hits 0 fetched.None)
+fetch_work login present hits (Some set) =
+    if present.number == 0 then at_once (present_reply present hits 0 fetched.None)
+    else works (work.Fetch login set.legs set.query hits (nat_abs present.start) present.number present.syntax
     (element_of present.element))
 
 -- a Present: its checks
 abbrev pub present_due : Route → ClientState → Present → Option StoredSet → List ℕ → Result Asking Diag
 present_due route client present set hits =
-    checked (present_checks route client present hits) (Ok (fetch_work present hits set))
+    checked (present_checks route client present hits) (Ok (fetch_work client.agreed.login present hits set))
 
 -- ---- Scan
 
--- what a Scan asks of its leg
-abbrev pub leg_work : ScanAsk → Option ℕ → Result Asking Diag
-leg_work ask None = Err (bib1 CombinationOfDatabasesNotSupported [])
-leg_work ask (Some leg) = Ok (works (work.Scan None leg ask))
+-- what a Scan of a client with this login asks of its leg
+abbrev pub leg_work : Option (List ℕ) → ScanAsk → Option ℕ → Result Asking Diag
+leg_work login ask None = Err (bib1 CombinationOfDatabasesNotSupported [])
+leg_work login ask (Some leg) = Ok (works (work.Scan login leg ask))
 
 -- what a Scan asks
-abbrev pub scan_work : Asked ScanAsk → Option ℕ → Result Asking Diag
-scan_work (Bad diag) leg = Err diag
-scan_work (Good ask) leg = leg_work ask leg
+abbrev pub scan_work : Option (List ℕ) → Asked ScanAsk → Option ℕ → Result Asking Diag
+scan_work login (Bad diag) leg = Err diag
+scan_work login (Good ask) leg = leg_work login ask leg
 
--- a Scan: its checks
-abbrev pub scan_due : Route → Scan → Result Asking Diag
-scan_due route scan = checked (scan_checks route scan) (scan_work scan.ask (slice_get (legs_of route scan.dbs) 0))
+-- a Scan of a client whose Init settled this: its checks
+abbrev pub scan_due : Route → Agreement → Scan → Result Asking Diag
+scan_due route agreed scan =
+    checked (scan_checks route scan) (scan_work agreed.login scan.ask (slice_get (legs_of route scan.dbs) 0))
 
 -- ---- any request
 
--- what a request in its place is due, where the client's set of a name has these hits; a Work will have its login
+-- what a request in its place is due, where the client's set of a name has these hits; a Work has the client's login
 abbrev pub asked_with : (hits_of_set : List ℕ → List ℕ) → Route → ClientState → Request → Asking
 asked_with hits_of_set route client (request.Init init) = at_once (init_reply init)
 asked_with hits_of_set route client (request.Search search) =
@@ -117,7 +119,8 @@ asked_with hits_of_set route client (request.Search search) =
 asked_with hits_of_set route client (request.Present present) =
     unless_refused (request.Present present)
     (present_due route client present (set_named present.set_name client.sets) (hits_of_set present.set_name))
-asked_with hits_of_set route client (request.Scan scan) = unless_refused (request.Scan scan) (scan_due route scan)
+asked_with hits_of_set route client (request.Scan scan) =
+    unless_refused (request.Scan scan) (scan_due route client.agreed scan)
 asked_with hits_of_set route client (request.Close close) = at_once (close_reply close.ref_id finished)
 
 -- what a request in its place is due, where each set has the hits that the targets mean

@@ -8,8 +8,7 @@ use Rattle.route_config.specs.declared.route.Class.{Class}
 use Rattle.route_config.specs.declared.route.Route.{Route}
 use Rattle.virt_db.specs.Legs.{LegAt, leg_at}
 
--- Two addresses mean the same: a search, a record and a scan at one of them are those at the other. What an address
--- means will be taken under a login here, and under the same one at both.
+-- Two addresses mean the same: a search, a record and a scan at one of them are those at the other.
 pub record MeansAs {W : Type 0} (w : world.Ghosts W) (one other : Address) : Type 0 where
   pub search : (key : SetKey) → w.search one key ≡ w.search other key
   pub record_ : (key : SetKey) (position : ℕ) (syntax element : Option (List ℕ))

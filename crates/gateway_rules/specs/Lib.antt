@@ -15,3 +15,4 @@ pub mod Session
 pub mod Answers
 pub mod OneAnswer
 pub mod Runs
+pub mod Cut

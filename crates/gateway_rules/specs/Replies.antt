@@ -6,6 +6,7 @@ use Rattle.z_types.specs.Bounds.{most_unit_octets}
 use Rattle.z_types.specs.declared.requests.Init.{Init}
 use Rattle.z_types.specs.declared.records.Body.TheVariants as body
 use Rattle.gateway_rules.specs.Statuses as status
+use Rattle.gateway_rules.specs.declared.sizes.Sizes.{Sizes}
 use Rattle.z_types.specs.declared.replies.Reply.TheVariants as reply
 use Rattle.z_types.specs.declared.replies.Reply.{Reply}
 use Rattle.z_types.specs.declared.requests.Request.TheVariants as request
@@ -31,7 +32,12 @@ agreed init = record {
   options = bit_and init.options own_options;
   preferred = min init.preferred own_size;
   exceptional = min init.exceptional own_size;
+  login = None;
 }
+
+-- the sizes among that
+abbrev pub agreed_sizes : Init → Sizes
+agreed_sizes init = record { preferred = (agreed init).preferred; exceptional = (agreed init).exceptional }
 
 -- an Init is accepted where a version is common; here will stand also that the route does not refuse its login
 abbrev pub is_accepted : Init → Bool

@@ -1,4 +1,4 @@
--- For contracts alone: a session in parts: units that were answered, then more units or the end
+-- A session in parts: units that were answered, then more units or the end
 -- (this project's own)
 use Rattle.std.specs.Prelude.{◌≡◌, ℕ, List, [], ◌++◌, map, flat_map, Option, option_to_list}
 use Rattle.std.specs.List.{AllByRecursion}

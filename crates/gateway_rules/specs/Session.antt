@@ -11,16 +11,16 @@ use Rattle.gateway_rules.specs.Course as course
 use Rattle.gateway_rules.specs.Course.{Course}
 use Rattle.gateway_rules.specs.Marks.{Cause, Taken, IsAllowed}
 use Rattle.gateway_rules.specs.Outcomes.{outcome_of, classes_asked}
-use Rattle.gateway_rules.specs.Settling.{Settled, settled}
+use Rattle.gateway_rules.specs.Settling.{Settled, settled, settled_at_once}
 use Rattle.gateway_rules.specs.State.{ClientState, Progress}
 use Rattle.z_types.specs.declared.replies.Reply.{Reply}
 use Rattle.z_types.specs.declared.requests.Request.{Request}
 
 -- ---- one request
 
--- what a request is answered, where this is due: a reply at once leaves the client as it was
+-- what a request is answered, where this is due
 abbrev pub answer_to : {W : Type 0} → world.Ghosts W → Route → ClientState → Request → Cause → Asking → Settled
-answer_to w route client request cause (asking.at_once reply) = record { reply = reply; client = client }
+answer_to w route client request cause (asking.at_once reply) = settled_at_once client request reply
 answer_to w route client request cause (asking.works work) =
     settled client request work (outcome_of w route work cause)
 

@@ -1,13 +1,18 @@
 -- What an outcome leaves: the reply, and what is kept of the client (ANSI/NISO Z39.50-2003, 3.2.2.1, 3.2.3.1 and
 -- 3.2.8.1)
-use Rattle.std.specs.Prelude.{ℕ, ◌+◌, List, [], Option, None, Some}
+use Rattle.std.specs.Prelude.{ℕ, ◌+◌, List, [], Option, None, Some, unwrap_or, if◌then◌else◌}
 use Rattle.z_types.specs.declared.diagnostic.Diag.{Diag}
 use Rattle.z_types.specs.declared.scan.ScanAnswer.{ScanAnswer}
+use Rattle.z_types.specs.MergedOrder.{total}
+use Rattle.z_types.specs.Shown.{shown}
+use Rattle.gateway_rules.specs.Cut.{cut_of}
 use Rattle.gateway_rules.specs.Given.{search_reply, present_reply, returned}
 use Rattle.gateway_rules.specs.Marks.{marked_diag}
-use Rattle.gateway_rules.specs.Replies.{failed, init_reply, close_reply}
+use Rattle.gateway_rules.specs.Replies.{failed, init_reply, close_reply, is_accepted, agreed_sizes}
 use Rattle.z_sets.specs.Sets.{StoredSet, with_set, without_set}
 use Rattle.gateway_rules.specs.State.{ClientState}
+use Rattle.gateway_rules.specs.declared.agreement.Agreement.{Agreement}
+use Rattle.gateway_rules.specs.declared.sizes.Sizes.{Sizes}
 use Rattle.gateway_rules.specs.Statuses.{scan_success, finished}
 use Rattle.z_types.specs.declared.outcome.Fetched.TheVariants as fetched
 use Rattle.z_types.specs.declared.outcome.Fetched.{Fetched}
@@ -49,20 +54,35 @@ abbrev pub fetched_from : Work → List ℕ
 fetched_from (work.Fetch login legs query hits first count syntax element) = hits
 fetched_from other = []
 
+-- ---- the records that are given
+
+-- how many records a work asked for, of a Search with these hits those that are shown
+abbrev pub asked_of : Work → (hits : List ℕ) → ℕ
+asked_of (work.Search login legs query small large medium small_element medium_element syntax room) hits =
+    shown (total hits) small large medium
+asked_of (work.Fetch login legs query known first count syntax element) hits = count
+asked_of (work.Scan login leg ask) hits = 0
+
+-- the records that are given of those that were fetched, by the sizes that the client's Init agreed on
+abbrev pub given_of : Sizes → Work → Outcome → Fetched
+given_of sizes work got = cut_of sizes (asked_of work (found_hits got)) (fetched_of got)
+
 -- ---- the reply
 
 -- the reply to a request that did not fail; an Init and a Close have no outcome
-abbrev pub good_reply : Request → Work → Outcome → Reply
-good_reply (request.Init init) work got = init_reply init
-good_reply (request.Search search) work got = search_reply search.ref_id (found_hits got) (fetched_of got)
-good_reply (request.Present present) work got = present_reply present (fetched_from work) (fetched_of got)
-good_reply (request.Scan scan) work got = reply.Scan scan.ref_id scan_success (scanned_of got) []
-good_reply (request.Close close) work got = close_reply close.ref_id finished
+abbrev pub good_reply : Sizes → Request → Work → Outcome → Reply
+good_reply sizes (request.Init init) work got = init_reply init
+good_reply sizes (request.Search search) work got =
+    search_reply search.ref_id (found_hits got) (returned (fetched_of got)) (given_of sizes work got)
+good_reply sizes (request.Present present) work got =
+    present_reply present (fetched_from work) (returned (fetched_of got)) (given_of sizes work got)
+good_reply sizes (request.Scan scan) work got = reply.Scan scan.ref_id scan_success (scanned_of got) []
+good_reply sizes (request.Close close) work got = close_reply close.ref_id finished
 
 -- the reply to a request
-abbrev pub reply_by : Option Diag → Request → Work → Outcome → Reply
-reply_by (Some diag) request work got = failed request diag
-reply_by None request work got = good_reply request work got
+abbrev pub reply_by : Sizes → Option Diag → Request → Work → Outcome → Reply
+reply_by sizes (Some diag) request work got = failed request diag
+reply_by sizes None request work got = good_reply sizes request work got
 
 -- ---- what is kept of the client
 
@@ -75,12 +95,27 @@ sets_after (Some diag) name work sets = without_set name sets
 
 -- the client after a request: a Search is spent, and so are the records given
 abbrev pub client_after : ClientState → Request → Work → Outcome → ClientState
-client_after client (request.Search search) work got = record {
+client_after client (request.Search search) work got = record client {
   searches = client.searches + 1;
-  records = client.records + returned (fetched_of got);
+  records = client.records + returned (given_of client.agreed.sizes work got);
   sets = sets_after (why_failed got) search.set_name work client.sets;
 }
-client_after client request work got = record client { records = client.records + returned (fetched_of got) }
+client_after client request work got =
+    record client { records = client.records + returned (given_of client.agreed.sizes work got) }
+
+-- what an Init that is accepted settles: the sizes that it is answered with, and its login
+abbrev pub agreed_by : Request → Option Agreement
+agreed_by (request.Init init) =
+    if is_accepted init then Some (record { sizes = agreed_sizes init; login = init.login }) else None
+agreed_by other = None
+
+-- what is settled behind a request
+abbrev pub agreed_after : Agreement → Request → Agreement
+agreed_after agreed request = unwrap_or (agreed_by request) agreed
+
+-- the client behind a request that is answered at once
+abbrev pub client_at_once : ClientState → Request → ClientState
+client_at_once client request = record client { agreed = agreed_after client.agreed request }
 
 -- ---- both
 
@@ -92,4 +127,11 @@ pub record Settled : Type 0 where
 -- what an outcome of a request's work leaves
 abbrev pub settled : ClientState → Request → Work → Outcome → Settled
 settled client request work got =
-    record { reply = reply_by (why_failed got) request work got; client = client_after client request work got }
+    record {
+      reply = reply_by client.agreed.sizes (why_failed got) request work got;
+      client = client_after client request work got;
+    }
+
+-- what a reply at once leaves
+abbrev pub settled_at_once : ClientState → Request → Reply → Settled
+settled_at_once client request given = record { reply = given; client = client_at_once client request }

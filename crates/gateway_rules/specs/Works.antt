@@ -1,4 +1,4 @@
--- For contracts alone: which works are begun, what they may ask of targets, which outcomes fit
+-- Which works are begun, what they may ask of targets, which outcomes fit
 -- them, and under which mark (this project's own)
 use Rattle.std.specs.Prelude.{◌≡◌, ◌≢◌, ◌+◌, ◌≤◌, length, false}
 use Rattle.z_types.specs.Numbers.{ScanHasNumbers}
@@ -14,6 +14,7 @@ use Rattle.z_types.specs.declared.work.Work.TheVariants as work
 use Rattle.limit_rules.specs.Limits.{most_records}
 use Rattle.z_types.specs.Bounds.{most_legs, most_query_cost}
 use Rattle.z_sets.specs.Askable.{IsAskableQuery}
+use Rattle.unit_forms.specs.Logins.{IsLoginIf}
 use Rattle.gateway_rules.specs.Checks.{is_too_long}
 use Rattle.gateway_rules.specs.Given.{returned}
 
@@ -33,14 +34,14 @@ pub record IsAskableScan (ask : ScanAsk) : Type 0 where
   pub cheap : leaf_cost ask.attrs ask.term ≤ most_query_cost
 
 -- Each leg of a work may be asked for it: its query has no operand that is a result set, its numbers are within their
--- range, query and scan within the bounds of queries, and no name of an element set too long. The databases of a leg, 1 to
--- 16 short names, are the route's; which set a session is asked about is no part of a work.
+-- range, query and scan within the bounds of queries, no name of an element set too long, and its login is one. The
+-- databases of a leg, 1 to 16 short names, are the route's; which set a session is asked about is no part of a work.
 abbrev pub IsAskable : Work → Type 0
 IsAskable (work.Search login legs query small large medium small_element medium_element syntax room) =
-    IsAskableQuery query × (is_too_long small_element ≡ false) × (is_too_long medium_element ≡ false)
+    IsAskableQuery query × (is_too_long small_element ≡ false) × (is_too_long medium_element ≡ false) × IsLoginIf login
 IsAskable (work.Fetch login legs query hits first count syntax element) =
-    IsAskableQuery query × (is_too_long element ≡ false)
-IsAskable (work.Scan login leg ask) = IsAskableScan ask
+    IsAskableQuery query × (is_too_long element ≡ false) × IsLoginIf login
+IsAskable (work.Scan login leg ask) = IsAskableScan ask × IsLoginIf login
 
 -- an outcome fits its work: it is of the same kind, with the hits of each leg and no more records than there is room for
 -- or were asked for; or it is a diagnostic, or a mark other than Plain

@@ -6,7 +6,7 @@ ghost use Rattle.gateway_rules.specs.Given.{body_of, next_position, place_or_zer
 ghost use Rattle.gateway_rules.specs.Statuses.{scan_success};
 ghost use Rattle.limit_rules.specs.Limits.{most_records};
 
-use crate::statuses::{PRESENT_FAILURE, PRESENT_SUCCESS, SCAN_SUCCESS};
+use crate::statuses::{PRESENT_FAILURE, PRESENT_PARTIAL_2, PRESENT_SUCCESS, SCAN_SUCCESS};
 use multi_merge::total;
 use std::alloc::Global;
 use z_types::{Body, Fetched, List, Memory, Present, Reply, Scan, ScanAnswer, Search, copy};
@@ -49,23 +49,32 @@ fn next_position(count: u32, from: u64, fetched: &Fetched) -> u32
     }
 }
 
-/// Whether the records could be given.
-fn present_status(fetched: &Fetched) -> u32
-    ensures { result ≡ present_status fetched.now }
+/// Whether the records that were fetched, so many, are given: all of them, some, or none.
+fn present_status(all: u32, fetched: &Fetched) -> u32
+    requires few { returned fetched.now ≤ most_records }
+    ensures { result ≡ present_status all fetched.now }
 {
     match fetched {
-        Fetched::None | Fetched::Records(_) => PRESENT_SUCCESS,
+        Fetched::None => PRESENT_SUCCESS,
+        Fetched::Records(_) => {
+            if count_returned(fetched) == all {
+                PRESENT_SUCCESS
+            } else {
+                PRESENT_PARTIAL_2
+            }
+        }
         Fetched::Whole(_) => PRESENT_FAILURE,
     }
 }
 
 /// The same of a Search, which has no such status where no record was to be shown.
-fn search_status(fetched: &Fetched) -> Option<u32>
-    ensures { result ≡ search_status fetched.now }
+fn search_status(all: u32, fetched: &Fetched) -> Option<u32>
+    requires few { returned fetched.now ≤ most_records }
+    ensures { result ≡ search_status all fetched.now }
 {
     match fetched {
         Fetched::None => None,
-        Fetched::Records(_) | Fetched::Whole(_) => Some(present_status(fetched)),
+        Fetched::Records(_) | Fetched::Whole(_) => Some(present_status(all, fetched)),
     }
 }
 
@@ -80,11 +89,17 @@ fn body_of(fetched: Fetched) -> Body
     }
 }
 
-/// The reply to a Search whose legs have these hits, with what was fetched of them; what it shows begins
-/// at place 1. Only want of memory fails.
-pub fn search_reply(search: &Search, hits: &List<u32>, fetched: Fetched) -> Result<Reply, Memory>
+/// The reply to a Search whose legs have these hits, with what is given of the records that were fetched
+/// of them, `all` of which there were; what it shows begins at place 1. Only want of memory fails.
+pub fn search_reply(
+    search: &Search,
+    hits: &List<u32>,
+    all: u32,
+    fetched: Fetched,
+) -> Result<Reply, Memory>
     requires few { returned fetched ≤ most_records }
-    ensures { IfOk result (λ reply. reply ≡ given.search_reply search.now.ref_id hits.now fetched) }
+    ensures { IfOk result
+        (λ reply. reply ≡ given.search_reply search.now.ref_id hits.now all fetched) }
 {
     let count = total(hits.as_slice());
     Ok(Reply::Search {
@@ -93,23 +108,28 @@ pub fn search_reply(search: &Search, hits: &List<u32>, fetched: Fetched) -> Resu
         returned: count_returned(&fetched),
         next: next_position(count, 1, &fetched),
         ok: true,
-        status: search_status(&fetched),
+        status: search_status(all, &fetched),
         body: body_of(fetched),
     })
 }
 
-/// The reply to a Present of a set whose legs have these hits, with what was fetched of them. Only want
-/// of memory fails.
-pub fn present_reply(present: &Present, hits: &[u32], fetched: Fetched) -> Result<Reply, Memory>
+/// The reply to a Present of a set whose legs have these hits, with what is given of the records that were
+/// fetched of them, `all` of which there were. Only want of memory fails.
+pub fn present_reply(
+    present: &Present,
+    hits: &[u32],
+    all: u32,
+    fetched: Fetched,
+) -> Result<Reply, Memory>
     requires few { returned fetched ≤ most_records }
-    ensures { IfOk result (λ reply. reply ≡ given.present_reply present.now hits.now fetched) }
+    ensures { IfOk result (λ reply. reply ≡ given.present_reply present.now hits.now all fetched) }
 {
     let count = total(hits);
     Ok(Reply::Present {
         ref_id: copy(&present.ref_id)?,
         returned: count_returned(&fetched),
         next: next_position(count, present.start.unsigned_abs(), &fetched),
-        status: present_status(&fetched),
+        status: present_status(all, &fetched),
         body: body_of(fetched),
     })
 }

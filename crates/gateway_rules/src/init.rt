@@ -6,7 +6,7 @@ ghost use Rattle.gateway_rules.specs.Replies.{init_reply, is_accepted};
 use z_types::{Init, MOST_UNIT_OCTETS, Memory, OWN_OPTIONS, OWN_VERSIONS, Reply, copy};
 
 /// The most octets of a message and of a record.
-const OWN_SIZE: u32 = MOST_UNIT_OCTETS;
+pub(crate) const OWN_SIZE: u32 = MOST_UNIT_OCTETS;
 
 /// The reply to an Init.
 pub fn init_reply(init: &Init) -> Result<Reply, Memory>
@@ -19,6 +19,7 @@ pub fn init_reply(init: &Init) -> Result<Reply, Memory>
             options: init.options & OWN_OPTIONS,
             preferred: init.preferred.min(OWN_SIZE),
             exceptional: init.exceptional.min(OWN_SIZE),
+            login: None,
         },
         result: is_accepted(init),
     })

@@ -4,6 +4,9 @@
 /// PresentStatus: success.
 pub(crate) const PRESENT_SUCCESS: u32 = 0;
 
+/// PresentStatus: partial-2, some records are not given, since they do not fit the message.
+pub(crate) const PRESENT_PARTIAL_2: u32 = 2;
+
 /// PresentStatus: failure.
 pub(crate) const PRESENT_FAILURE: u32 = 5;
 

@@ -30,7 +30,7 @@ pub fn top<W: World, N: Wire<W> + Events, F: Files, K: Sink>(
     wire: &mut N,
 ) -> Status
     // At Ok the page of one report is printed, of the answers that a route with private sessions gives,
-    // of sums that the wire counted, and of marks that have their counted cause.
+    // of sums that an exact wire counted, and of marks that have their counted cause.
     ensures headline { IsReplayHeadline W.World
         (wire_calls N.Watched ⟦<ZSession<W, N::Link> as Sitting<W>>⟧ wire.old wire.new) words.now
         (file_reads F.Files files.old files.new) (sink_writes K.Sink out.old out.new) result }

@@ -33,6 +33,6 @@ fn is_test(address: &Address) -> bool
 {
     match address {
         Address::Test(_) => true,
-        Address::Tcp(_, _) => false,
+        Address::Tcp(_, _) | Address::Login(_, _) => false,
     }
 }

@@ -2,7 +2,8 @@
 use Rattle.std.proofs.Common.{◌≡◌, ◌∙◌, ℕ, ◌≤◌, ◌==◌, Bool, true, false, List, Option, None, Some, refl, ap, subst, arith}
 use Rattle.std.proofs.lemmas.Bool.{eqb-true, eqb-false}
 use Rattle.z_types.specs.declared.address.Address.{Address}
-use Rattle.z_types.specs.declared.address.Address.TheVariants.{Test, Tcp}
+use Rattle.z_types.specs.declared.address.Address.TheVariants.{Test, Tcp, Login}
+use Rattle.z_types.specs.declared.address.Site.TheVariants as site
 use Rattle.z_types.specs.declared.requests.Request.{Request}
 use Rattle.z_types.specs.declared.requests.Request.TheVariants as request
 use Rattle.gw_outside.specs.declared.happenings.Happening.{Happening}
@@ -50,18 +51,25 @@ asked_at true own other req old new e q m =
     ap new.of_target (eqb-true other own e) ∙ m.own ∙ ap (λ happening. happening_after happening req) (q.nothing own) ∙ nothing_after req
 asked_at false own other req old new e q m = m.others other (eqb-false other own e) ∙ q.nothing other
 
-pub asked_stays : (address : Address) (req : Request) → StaysQuiet (IsAsked address req)
-asked_stays (Test own) req old new q m = record {
+made_stays : (own : ℕ) (req : Request) → StaysQuiet (IsMade own (λ happening. happening_after happening req))
+made_stays own req old new q m = record {
   steady = m.steady ∙ q.steady;
   nothing = λ target. asked_at (target == own) own target req old new refl q m;
 }
+
+pub asked_stays : (address : Address) (req : Request) → StaysQuiet (IsAsked address req)
+asked_stays (Test own) req old new q m = made_stays own req old new q m
 asked_stays (Tcp host port) req old new q s = same_stays old new q s
+asked_stays (Login (site.Test own) login) req old new q m = made_stays own req old new q m
+asked_stays (Login (site.Tcp host port) login) req old new q s = same_stays old new q s
 
 -- ---- it does nothing
 
 pub nothing_at : (h : Happened) (address : Address) → AreQuiet h → at_address h address ≡ nothing_happens
 nothing_at h (Test target) q = q.nothing target
 nothing_at h (Tcp host port) q = refl
+nothing_at h (Login (site.Test target) login) q = q.nothing target
+nothing_at h (Login (site.Tcp host port) login) q = refl
 
 pub nothing_to : (h : Happened) (peer : Option Peer) → AreQuiet h → to_peer h peer ≡ nothing_happens
 nothing_to h None q = refl

@@ -1,7 +1,9 @@
 -- What is made to happen to the links with test targets (this project's own)
 use Rattle.std.specs.Prelude.{◌≡◌, ◌≢◌, ℕ, ◌-◌, ◌≤◌, nat_lt, nat_le, Bool, true, List, [], Option, None, Some, if◌then◌else◌}
 use Rattle.z_types.specs.declared.address.Address.{Address}
-use Rattle.z_types.specs.declared.address.Address.TheVariants.{Test, Tcp}
+use Rattle.z_types.specs.declared.address.Address.TheVariants.{Test, Tcp, Login}
+use Rattle.z_types.specs.declared.address.Site.{Site}
+use Rattle.z_types.specs.declared.address.Site.TheVariants as site
 use Rattle.z_types.specs.declared.requests.Request.{Request}
 use Rattle.z_types.specs.declared.requests.Request.TheVariants as request
 use Rattle.gw_outside.specs.declared.happenings.Happening.{Happening}
@@ -49,10 +51,16 @@ pub record AreLess (old new : Happened) : Type 0 where
 
 -- ---- what they do
 
--- what was made to happen at an address, and to the peer of a link
+-- what was made to happen at a site
+abbrev pub at_site : Happened → Site → Happening
+at_site h (site.Test target) = h.of_target target
+at_site h (site.Tcp host port) = nothing_happens
+
+-- what was made to happen at an address, which inside a login is that at its site; and to the peer of a link
 abbrev pub at_address : Happened → Address → Happening
 at_address h (Test target) = h.of_target target
 at_address h (Tcp host port) = nothing_happens
+at_address h (Login at login) = at_site h at
 
 abbrev pub to_peer : Happened → Option Peer → Happening
 to_peer h None = nothing_happens
@@ -78,10 +86,16 @@ happening_after happening (request.Search search) = happening
 happening_after happening (request.Scan scan) = happening
 happening_after happening (request.Close close) = happening
 
+-- what is left to happen after a request at a site
+abbrev pub IsAskedAt : Site → Request → Happened → Happened → Type 0
+IsAskedAt (site.Test target) request old new = IsMade target (λ happening. happening_after happening request) old new
+IsAskedAt (site.Tcp host port) request old new = AreSame old new
+
 -- what is left to happen after a request at an address
 abbrev pub IsAsked : Address → Request → Happened → Happened → Type 0
 IsAsked (Test target) request old new = IsMade target (λ happening. happening_after happening request) old new
 IsAsked (Tcp host port) request old new = AreSame old new
+IsAsked (Login at login) request old new = IsAskedAt at request old new
 
 -- nothing does: nothing was made to happen to any target
 pub record AreQuiet (h : Happened) : Type 0 where

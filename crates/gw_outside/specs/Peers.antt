@@ -3,6 +3,7 @@ use Rattle.z_types.specs.Same.{is_same}
 use Rattle.std.specs.Prelude.{◌≡◌, Bool, ◌⊎◌, ℕ, ◌+◌, ◌≤◌, pos, true, false, List, [], ◌∷◌, ◌++◌, length, Option, None, Some, IfSome, Result, Ok, Err, if◌then◌else◌}
 use Rattle.std.specs.List.{AllByRecursion}
 use Rattle.z_types.specs.Bib1.{bib1}
+use Rattle.z_types.specs.Logins.{inside}
 use Rattle.z_types.specs.Tree.{Tree, leaf, operand, and, or, and_not}
 use Rattle.z_types.specs.declared.address.Address.{Address}
 use Rattle.z_types.specs.declared.conditions.Condition.TheVariants.{ResultSetDoesNotExist}
@@ -21,7 +22,7 @@ use Rattle.z_types.specs.declared.scan.ScanAsk.{ScanAsk}
 use Rattle.z_types.specs.declared.world.World as world
 use Rattle.gw_outside.specs.Asks.{IsShort}
 use Rattle.z_types.specs.Services.{has_named_result_sets}
-use Rattle.gw_outside.specs.Replies.{accepts, search_said, present_said, scan_said}
+use Rattle.gw_outside.specs.Replies.{accepts, is_accepted, search_said, present_said, scan_said}
 
 -- a result set: its name, and its databases and query
 abbrev pub NamedSet : Type 0
@@ -122,15 +123,25 @@ module _ {W : Type 0} (w : world.Ghosts W) (address : Address) where
 
 -- ---- the end of a link
 
--- the address that was dialled, the sets that are held, and the replies that have not arrived, in their order
+-- the address that was dialled, the login of the last Init that was accepted, if that had one, the sets that are held, and the replies that have not arrived, in their order
 pub record Peer : Type 0 where
   pub address : Address
+  pub login : Option (List ℕ)
   pub sets : List NamedSet
   pub owed : List Reply
 
 -- the peer of a new link
 abbrev pub new_peer : Address → Peer
-new_peer address = record { address = address; sets = []; owed = [] }
+new_peer address = record { address = address; login = None; sets = []; owed = [] }
+
+-- the address by which it answers
+abbrev pub answers_at : Peer → Address
+answers_at peer = inside peer.login peer.address
+
+-- the login behind a request: an Init that is accepted sets its own, or none
+abbrev pub login_after : Option (List ℕ) → Request → Reply → Option (List ℕ)
+login_after login (request.Init init) answer = if is_accepted answer then init.login else login
+login_after login other answer = login
 
 -- a peer takes a request: some of its sets are left when it comes, in a steady world those that it is to find, and the reply is owed
 pub record TakesRequest {W : Type 0} (w : world.Ghosts W) (steady : Bool) (found : List NamedSet) (request : Request) (old new : Peer) : Type 0 where
@@ -138,9 +149,10 @@ pub record TakesRequest {W : Type 0} (w : world.Ghosts W) (steady : Bool) (found
   pub answer : Reply
   pub are_left : AreLeft old.sets left
   pub are_found : steady ≡ true → StayHeld found left
-  pub step : IsPeerStep w old.address request left new.sets answer
+  pub step : IsPeerStep w (answers_at old) request left new.sets answer
   pub owed : new.owed ≡ old.owed ++ answer ∷ []
   pub address : new.address ≡ old.address
+  pub login : new.login ≡ login_after old.login request answer
 
 -- ---- requests whose replies are units
 

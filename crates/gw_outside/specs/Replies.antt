@@ -10,6 +10,14 @@ use Rattle.z_types.specs.declared.replies.Reply.{Reply}
 use Rattle.z_types.specs.declared.replies.Reply.TheVariants as reply
 use Rattle.z_types.specs.declared.scan.ScanAnswer.{ScanAnswer}
 
+-- whether an Init is accepted
+abbrev pub is_accepted : Reply → Bool
+is_accepted (reply.Init init result) = result
+is_accepted (reply.Search ref_id count returned next ok status body) = false
+is_accepted (reply.Present ref_id returned next status body) = false
+is_accepted (reply.Scan ref_id status answer diags) = false
+is_accepted (reply.Close close) = false
+
 -- whether an Init is accepted, and named result sets with it
 abbrev pub accepts : Reply → Bool
 accepts (reply.Init init result) = result && has_named_result_sets init.options

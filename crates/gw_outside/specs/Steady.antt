@@ -3,7 +3,8 @@ use Rattle.std.specs.Prelude.{◌≡◌, ℕ, ◌-◌, Bool, true, false, List, 
 use Rattle.z_types.specs.Links.{LinkView}
 use Rattle.z_types.specs.Same.{is_same}
 use Rattle.z_types.specs.declared.address.Address.{Address}
-use Rattle.z_types.specs.declared.address.Address.TheVariants.{Test}
+use Rattle.z_types.specs.declared.address.Address.TheVariants.{Test, Login}
+use Rattle.z_types.specs.declared.address.Site.TheVariants as site
 use Rattle.z_types.specs.declared.ask.Ask.{Ask}
 use Rattle.z_types.specs.declared.ask.Ask.TheVariants.{Search, Present, Scan}
 use Rattle.z_types.specs.declared.diagnostic.Diag.{Diag}
@@ -59,6 +60,8 @@ IsGoneWhere ask happening holds gone = Unit {0}
 -- a Present less is left to find none
 abbrev pub AskHappens : Ask → Address → Happened → Happened → Type 0
 AskHappens (Present name first count syntax element) (Test target) old new =
+    IsMade target (λ happening. record happening { presents = happening.presents - 1 }) old new
+AskHappens (Present name first count syntax element) (Login (site.Test target) login) old new =
     IsMade target (λ happening. record happening { presents = happening.presents - 1 }) old new
 AskHappens ask address old new = AreSame old new
 

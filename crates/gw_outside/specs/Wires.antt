@@ -3,6 +3,7 @@ use Rattle.std.specs.Prelude.{◌≡◌, ℕ, ◌-◌, ◌≤◌, ◌<◌, Bool,
 use Rattle.z_ber.specs.Element.{Forest}
 use Rattle.z_ber.specs.Frames.{IsFrame}
 use Rattle.z_ber.specs.Place.{IsUnit}
+use Rattle.z_types.specs.Logins.{inside, login_of}
 use Rattle.z_types.specs.declared.address.Address.{Address}
 use Rattle.z_types.specs.declared.replies.Reply.{Reply}
 use Rattle.z_types.specs.declared.requests.Request.{Request}
@@ -47,11 +48,16 @@ pub record IsNewPeer (told : Type 0) (address : Address) (peer : Option Peer) : 
   pub where_told : told → IsSome peer
   pub new : IfSome peer (λ p. p ≡ new_peer address)
 
--- a new link; one that is exact is of a told address, and an exact wire numbers its links by its dials
+-- an address is told, by itself and inside any login
+abbrev pub IsToldInside : {W : Type 0} → world.Ghosts W → Address → Type 0
+IsToldInside w address = (login : Option (List ℕ)) → w.told (inside login address)
+
+-- a new link: no address inside a login is dialled; one that is exact is of an address that is told, inside any login too, and an exact wire numbers its links by its dials
 pub record IsNewLink {W L : Type 0} (w : world.Ghosts W) (l : linked.Ghosts L) (exact : Bool) (address : Address) (counts : Counts) (link : L) : Type 0 where
+  pub by_itself : login_of address ≡ None
   pub arrived : l.arrived link ≡ []
   pub peer : IsNewPeer (w.told address) address (l.peer link)
-  pub told : l.exact ≡ true → w.told address
+  pub told : l.exact ≡ true → IsToldInside w address
   pub number : exact ≡ true → l.number link ≡ counts.dials
   pub delays : l.delays link ≡ []
 

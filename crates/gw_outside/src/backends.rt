@@ -2,6 +2,7 @@
 
 ghost use Rattle.std.specs.Prelude.{◌≡◌, List, ℕ, true};
 ghost use Rattle.z_types.specs.Pending.{IsPending, resting};
+ghost use Rattle.unit_forms.specs.Logins.{HasLogin};
 ghost use Rattle.gw_outside.specs.Asks.{MayAsk};
 ghost use Rattle.gw_outside.specs.Counts.{BackendCounts};
 ghost use Rattle.gw_outside.specs.Happened.{AreSame, AreLess, at_address};
@@ -69,8 +70,10 @@ pub trait Backend<W: World>: Watched {
     /// One session.
     type Session: Sitting<W>;
 
-    /// Makes a link to an address and sends an Init over it.
+    /// Makes a link to an address and sends an Init over it. Inside a login it is the inner address that
+    /// the link is made to, and the Init has the login.
     fn open_(&mut self, alloc: Global, address: &Address) -> Opening<Self::Session>
+        requires login { HasLogin address.now }
         ensures session { IfSession result (IsNewSession Self.Session.Sitting address.now) }
         ensures happened { OpenHappens result (Self.happened self.old) (Self.happened self.new) }
         ensures steady { W.told address.now → (Self.happened self.old).steady ≡ true

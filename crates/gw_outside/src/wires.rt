@@ -1,6 +1,7 @@
 //! Links with targets, over which octets go both ways.
 
-ghost use Rattle.std.specs.Prelude.{◌≡◌, ◌≤◌, length, drop, true};
+ghost use Rattle.std.specs.Prelude.{◌≡◌, ◌≤◌, length, drop, true, None};
+ghost use Rattle.z_types.specs.Logins.{login_of};
 ghost use Rattle.gw_outside.specs.Counts.{WireCounts};
 ghost use Rattle.gw_outside.specs.Happened.{AreSame};
 ghost use Rattle.gw_outside.specs.Wires.{IfLink, IsNewLink, IsSameLink, SendFits, LookFits, SendsSteadily, LooksSteadily, SendCounts, dial_counted, look_counted};
@@ -52,12 +53,14 @@ pub trait Wire<W: World>: Watched {
     /// One link.
     type Link: Linked;
 
-    /// Makes a link to an address. A steady wire fails at no address that is told.
+    /// Makes a link to an address. It fails at one inside a login, and a steady wire fails at no other that
+    /// is told.
     fn dial(&mut self, alloc: Global, address: &Address) -> Dialled<Self::Link>
         ensures link { IfLink result (IsNewLink W.World Self.Link.Linked
             Self.exact address.now (Self.counts self.new)) }
         ensures fails { result ≡ Dialled.Failed
-            → (Self.happened self.old).steady ≡ true → ¬ W.told address.now }
+            → (Self.happened self.old).steady ≡ true → login_of address.now ≡ None
+            → ¬ W.told address.now }
         ensures happened { AreSame (Self.happened self.old) (Self.happened self.new) }
         ensures counts { WireCounts Self.exact
             (dial_counted result) (Self.counts self.old) (Self.counts self.new) };

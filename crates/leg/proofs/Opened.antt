@@ -4,9 +4,11 @@ use Rattle.std.proofs.lemmas.List.Elements.{Contains-get_or}
 use Rattle.std.specs.List.{IsDistinct}
 use Rattle.z_types.specs.declared.key.SetKey.{SetKey}
 use Rattle.z_types.specs.declared.address.Address.{Address}
-use Rattle.z_types.specs.declared.address.Address.TheVariants.{Test}
+use Rattle.z_types.specs.declared.address.Address.TheVariants.{Test, Tcp, Login}
+use Rattle.z_types.specs.Members.{IsMember}
 use Rattle.z_types.specs.declared.sitting.Sitting as sitting
 use Rattle.z_types.specs.declared.world.World as world
+use Rattle.unit_forms.specs.Logins.{HasLogin}
 use Rattle.pool_sets.specs.Kept.{TableKept}
 use Rattle.leg.specs.declared.phases.Held.{Held}
 use Rattle.leg.specs.declared.tasks.Task.{Task}
@@ -48,3 +50,9 @@ module _ {W S : Type 0} (w : world.Ghosts W) (t : sitting.Ghosts S W) where
   no_items (Records key first count syntax element) held m = (let some = m.1.some in omega arith, λ told. tt)
   no_items (Hits key) held m = refl
   no_items (Scan scan) held m = refl
+
+-- the address of a member is inside no login
+pub member_login : (address : Address) → IsMember address → HasLogin address
+member_login (Test number) m = tt
+member_login (Tcp host port) m = tt
+member_login (Login at login) m = absurd m

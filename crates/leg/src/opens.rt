@@ -1,7 +1,9 @@
 //! How a leg opens a session.
 
 ghost use Rattle.std.specs.Prelude.{◌≡◌, ◌<◌, ℕ, length, Contains, Option, IfOk};
+ghost use Rattle.z_types.specs.Members.{AreMembers};
 ghost use Rattle.z_types.specs.declared.key.SetKey.{SetKey};
+ghost use Rattle.unit_forms.specs.Logins.{HasLogin};
 ghost use Rattle.pool_sets.specs.Table.{empty_table};
 ghost use Rattle.leg.specs.Deeds as deed;
 ghost use Rattle.leg.specs.Deeds.{rises_of};
@@ -33,6 +35,7 @@ pub(crate) fn dial<W: World, S: Sitting<W>, B: Backend<W, Session = S>>(
     seat: Seat,
     member: u32,
 ) -> (Phase<S>, Turned)
+    requires members { AreMembers (lent_terms terms.now).at }
     requires within { member < length (lent_terms terms.now).at }
     requires kept { LegKept W.World S.Sitting task.now (Dialling seat member) account.old }
     requires counts { MayCount S (lent_terms terms.now) task.now
@@ -52,14 +55,17 @@ pub(crate) fn dial<W: World, S: Sitting<W>, B: Backend<W, Session = S>>(
 }
 
 /// The address that is opened for a member, and a table without sets.
+#[tactic(auto, using(crate::proofs::Opened::member_login))]
 fn place_for(
     alloc: Global,
     terms: &LentTerms<'_>,
     member: u32,
 ) -> Result<(Address, SetTable), Memory>
+    requires members { AreMembers (lent_terms terms.now).at }
     requires within { member < length (lent_terms terms.now).at }
     requires pool { ArePoolNumbers (lent_terms terms.now).pool }
     ensures address { IfOk result (λ place. place.0 ≡ opened_at (lent_terms terms.now) member) }
+    ensures login { IfOk result (λ place. HasLogin place.0) }
     ensures table { IfOk result (λ place. place.1
         ≡ empty_table (lent_terms terms.now).pool.sets_max) }
 {

@@ -87,6 +87,7 @@ fn open_or_ask<W: World, S: Sitting<W>, B: Backend<W, Session = S>>(
     account: &mut Account,
     backend: &mut B,
 ) -> (Phase<S>, Turned)
+    requires members { AreMembers (lent_terms terms.now).at }
     requires asks { IsAsking W.World S.Sitting (lent_terms terms.now) phase }
     requires dbs { AreFewShort (lent_terms terms.now).dbs }
     requires kept { LegKept W.World S.Sitting task.now phase account.old }

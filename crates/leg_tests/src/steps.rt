@@ -44,14 +44,19 @@ fn step_of(words: &[&str]) -> Step {
     match *words {
         ["begin", "hits", letter] => Step::Begin(Asked::Hits(octet_of(letter))),
         ["begin", "hits", "of", "none", letter] => Step::Begin(Asked::HitsOfNone(octet_of(letter))),
-        ["begin", "records", letter, first, count] => {
-            let [first, count] = [number_of(first), number_of(count)];
-            Step::Begin(Asked::Records(octet_of(letter), first, count))
-        }
+        ["begin", "records", letter, first, count] => records_step(letter, first, count),
         ["begin", "scan"] => Step::Begin(Asked::Scan),
         ["give", "up"] => Step::GiveUp,
         [word] => bare_step(word),
-        [word, number] => counted_step(word, number_of(number)),
+        [word, number] => counted_step(word, number.parse().ok()),
+        _ => Step::Unknown,
+    }
+}
+
+/// The step that begins a leg for this number of records, from a position on.
+fn records_step(letter: &str, first: &str, count: &str) -> Step {
+    match (first.parse(), count.parse()) {
+        (Ok(first), Ok(count)) => Step::Begin(Asked::Records(octet_of(letter), first, count)),
         _ => Step::Unknown,
     }
 }
@@ -68,11 +73,11 @@ fn bare_step(word: &str) -> Step {
 }
 
 /// The step of a word with a number.
-fn counted_step(word: &str, number: u32) -> Step {
-    match word {
-        "now" => Step::Now(u64::from(number)),
-        "gone" => Step::Happen(Event::Gone(number)),
-        "slow" => Step::Happen(Event::Slow(number)),
+fn counted_step(word: &str, number: Option<u32>) -> Step {
+    match (word, number) {
+        ("now", Some(seconds)) => Step::Now(u64::from(seconds)),
+        ("gone", Some(presents)) => Step::Happen(Event::Gone(presents)),
+        ("slow", Some(looks)) => Step::Happen(Event::Slow(looks)),
         _ => Step::Unknown,
     }
 }
@@ -80,9 +85,4 @@ fn counted_step(word: &str, number: u32) -> Step {
 /// The first octet of a word.
 fn octet_of(word: &str) -> u8 {
     word.bytes().next().unwrap_or(0)
-}
-
-/// The number of a word; 0 where it is none.
-pub(crate) fn number_of(word: &str) -> u32 {
-    word.parse().unwrap_or(0)
 }

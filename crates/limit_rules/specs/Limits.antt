@@ -1,4 +1,4 @@
--- What one connection may use (this project's own)
+-- What one connection of Z39.50 may use (this project's own)
 use Rattle.std.specs.Prelude.{ℕ, ◌+◌, ◌-◌, ◌==◌, ◌||◌, Bool, min, nat_lt, if◌then◌else◌}
 use Rattle.z_types.specs.declared.limits.Limits.{Limits}
 use Rattle.limit_rules.specs.declared.spent.Spent.{Spent}

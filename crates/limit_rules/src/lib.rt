@@ -1,4 +1,4 @@
-//! The limits of a connection (this project's own): what a client that has used so much may still
+//! The limits of a connection of Z39.50 (this project's own): what a client that has used so much may still
 //! have. What follows from a refusal is for others to say.
 #![tactic(auto)]
 

@@ -3,6 +3,7 @@
 ghost use Rattle.std.specs.Prelude.{◌≡◌, true};
 ghost use Rattle.z_types.specs.Counts.{one_more};
 
+use crate::octets::put_digits;
 use bytes::BytesMut;
 use gw_outside::{Dialled, Events, Linked, Looked, Sent, Watched, Wire};
 use std::alloc::Global;
@@ -78,7 +79,7 @@ impl PlayedWire {
         Ok(())
     }
 
-    /// All octets that were sent, over whichever link.
+    /// The units that were sent, over whichever link, in hexadecimal digits and with a space behind each.
     pub(crate) fn sent(&self) -> &Text {
         &self.sent
     }
@@ -92,6 +93,15 @@ impl PlayedWire {
             return None;
         }
         Some(self.finds.remove(0))
+    }
+
+    /// Keeps a unit that is sent.
+    fn keep(&mut self, alloc: Global, unit: &[u8]) -> Result<(), Memory>
+        ensures faults { self.new.faults ≡ self.old.faults }
+        ensures waits { self.new.waits ≡ self.old.waits }
+    {
+        put_digits(alloc, &mut self.sent, unit)?;
+        self.sent.push(b' ')
     }
 
     /// A look that finds nothing is counted.
@@ -133,12 +143,12 @@ impl Wire<TestWorld> for PlayedWire {
         })
     }
 
-    fn send(&mut self, _: Global, link: &mut PlayedLink, unit: &[u8]) -> Sent {
+    fn send(&mut self, alloc: Global, link: &mut PlayedLink, unit: &[u8]) -> Sent {
         if self.is_cut {
             self.faults = self.faults.saturating_add(1);
             return Sent::Failed;
         }
-        let Ok(()) = self.sent.append(unit) else {
+        let Ok(()) = self.keep(alloc, unit) else {
             return Sent::Memory;
         };
         match link.delays.push(0) {

@@ -2,6 +2,7 @@
 //! not be taken is told and left out.
 
 ghost use Rattle.std.specs.Prelude.{◌≡◌};
+ghost use Rattle.unit_forms.specs.Logins.{HasLogin};
 ghost use Rattle.links_tests.specs.Stories.{IsStage, Awaits, IsAtRest, MayAskOf, found_after, hits_after, stage_after};
 
 use crate::asks::{present, scan, search};
@@ -40,7 +41,9 @@ pub(crate) fn answers_to<W: World, B: Backend<W> + Events>(
     backend: &mut B,
     address: &Address,
     steps: &[Step],
-) -> Result<Text, Memory> {
+) -> Result<Text, Memory>
+    requires { HasLogin address.now }
+{
     let mut play = Play {
         stage: Stage::None,
         hits: 0,
@@ -59,7 +62,8 @@ fn take_steps<W: World, B: Backend<W> + Events>(
     play: &mut Play<B::Session>,
     steps: &[Step],
 ) -> Result<(), Memory>
-    requires { IsStage B.Session.Sitting play.old.stage play.old.hits }
+    requires login { HasLogin address.now }
+    requires stage { IsStage B.Session.Sitting play.old.stage play.old.hits }
 {
     for step in steps {
         take_step(alloc, backend, address, play, *step)?;
@@ -76,7 +80,8 @@ fn take_step<W: World, B: Backend<W> + Events>(
     play: &mut Play<B::Session>,
     step: Step,
 ) -> Result<(), Memory>
-    requires { IsStage B.Session.Sitting play.old.stage play.old.hits }
+    requires login { HasLogin address.now }
+    requires stage { IsStage B.Session.Sitting play.old.stage play.old.hits }
     ensures { IsStage B.Session.Sitting play.new.stage play.new.hits }
 {
     match step {
@@ -105,6 +110,7 @@ fn open<W: World, B: Backend<W>>(
     address: &Address,
     play: &mut Play<B::Session>,
 ) -> Result<(), Memory>
+    requires { HasLogin address.now }
     ensures { IsStage B.Session.Sitting play.new.stage play.new.hits }
 {
     play.stage = Stage::None;

@@ -2,11 +2,15 @@
 //!
 //! Steps are those of `steps`. Before them all, the wire is told what it finds: `arrives OCTETS` at one look,
 //! `pieces N OCTETS` in pieces of N octets with a look that finds nothing between two. At the end
-//! `kept OCTETS` asks whether these are the octets that the session kept, and `sent OCTETS` whether just
-//! these were sent; what else it was is the answer. The setting `address` says with whom sessions are.
+//! `kept OCTETS` asks whether these are the octets that the session kept, and `sent UNIT ..` whether just
+//! these units were sent, each by one call; what else it was is the answer. The setting `address` says with
+//! whom sessions are, and `login` inside which login, by an Init that has it.
+
+ghost use Rattle.std.specs.Prelude.{IfOk};
+ghost use Rattle.unit_forms.specs.Logins.{HasLogin};
 
 use crate::addresses::address_of;
-use crate::octets::{octets_of, put_digits};
+use crate::octets::{digits_of, octets_of, put_digits};
 use crate::played::PlayedWire;
 use crate::plays::answers_to;
 use crate::steps::{Step, steps_of};
@@ -24,7 +28,7 @@ pub(crate) struct OverTargets;
 /// Plays sessions with a target whose octets the case says.
 pub(crate) struct OverPlayed;
 
-/// What came of a session: its answers, the octets that are kept, and the wire.
+/// What came of a session: its answers, the octets that are kept, in hexadecimal digits, and the wire.
 #[derive(Drop)]
 struct Ended<N> {
     answers: Text,
@@ -32,7 +36,7 @@ struct Ended<N> {
     wire: N,
 }
 
-/// What a session is played with: an address and the steps.
+/// What a session is played with: an address, inside a login or by itself, and the steps.
 #[derive(Drop)]
 struct Plan {
     address: Address,
@@ -57,9 +61,11 @@ impl Player for OverPlayed {
 }
 
 /// What a case is played with.
-fn plan_of(alloc: Global, case: &Case<'_>) -> Result<Plan, Memory> {
+fn plan_of(alloc: Global, case: &Case<'_>) -> Result<Plan, Memory>
+    ensures { IfOk result (λ plan. HasLogin plan.address) }
+{
     let steps = steps_of(alloc, case)?;
-    let address = address_of(alloc, case.setting("address").unwrap_or(""))?;
+    let address = address_of(alloc, case, case.setting("address").unwrap_or(""))?;
     Ok(Plan { address, steps })
 }
 
@@ -68,7 +74,9 @@ fn play_over<N: Wire<TestWorld> + Events + Drop>(
     alloc: Global,
     wire: N,
     plan: &Plan,
-) -> Result<Ended<N>, Memory> {
+) -> Result<Ended<N>, Memory>
+    requires { HasLogin plan.now.address }
+{
     let mut backend = ZBackend::new(alloc, wire);
     let answers = answers_to::<TestWorld, _>(
         alloc,
@@ -76,7 +84,8 @@ fn play_over<N: Wire<TestWorld> + Events + Drop>(
         &plan.address,
         plan.steps.as_slice(),
     )?;
-    let kept = Text::copy_of(alloc, backend.last())?;
+    let mut kept = Text::new(alloc);
+    put_digits(alloc, &mut kept, backend.last())?;
     Ok(Ended {
         answers,
         kept,
@@ -94,7 +103,7 @@ fn wire_of(alloc: Global, case: &Case<'_>) -> Result<PlayedWire, Memory> {
     Ok(wire)
 }
 
-/// Tells a wire what the words of a line say of it.
+/// Tells a wire what the words of a line say of it. What is neither digits nor the name of such never arrives.
 fn tell_wire(
     alloc: Global,
     case: &Case<'_>,
@@ -102,10 +111,15 @@ fn tell_wire(
     words: &[&str],
 ) -> Result<(), Memory> {
     match words {
-        ["arrives", octets @ ..] => wire.bring(alloc, octets_of(alloc, case, octets)?.as_slice()),
+        ["arrives", octets @ ..] => match octets_of(alloc, case, octets)? {
+            Some(octets) => wire.bring(alloc, octets.as_slice()),
+            None => Ok(()),
+        },
         ["pieces", size, octets @ ..] => {
-            let octets = octets_of(alloc, case, octets)?;
-            wire.bring_pieces(alloc, octets.as_slice(), size.parse().unwrap_or(1))
+            match (octets_of(alloc, case, octets)?, size.parse::<usize>()) {
+                (Some(octets), Ok(size)) => wire.bring_pieces(alloc, octets.as_slice(), size),
+                _ => Ok(()),
+            }
         }
         _ => Ok(()),
     }
@@ -121,22 +135,24 @@ fn put_ends(
     for line in case.lines.lines() {
         let words = step_words(alloc, line)?;
         match words.as_slice() {
-            ["kept", octets @ ..] => {
-                put_end(alloc, answers, &octets_of(alloc, case, octets)?, kept)?
-            }
-            ["sent", octets @ ..] => {
-                put_end(alloc, answers, &octets_of(alloc, case, octets)?, sent)?
-            }
+            ["kept", octets @ ..] => put_end(answers, digits_of(alloc, case, octets, b"")?, kept)?,
+            ["sent", units @ ..] => put_end(answers, digits_of(alloc, case, units, b" ")?, sent)?,
             _ => {}
         }
     }
     Ok(())
 }
 
-/// Puts a line: empty where octets are those that are wanted, else the octets.
-fn put_end(alloc: Global, answers: &mut Text, wanted: &Text, octets: &Text) -> Result<(), Memory> {
-    if wanted != octets {
-        put_digits(alloc, answers, octets.as_slice())?;
+/// Puts a line: empty where just what is wanted was found, else what was; both in hexadecimal digits.
+fn put_end(answers: &mut Text, wanted: Option<Text>, found: &Text) -> Result<(), Memory> {
+    match wanted {
+        Some(wanted) => {
+            if wanted != *found {
+                answers.append(b"others: ")?;
+                answers.append(found.as_slice())?;
+            }
+        }
+        None => answers.append(b"no such octets")?,
     }
     answers.push(b'\n')
 }

@@ -47,7 +47,7 @@ fn step_of(words: &[&str]) -> Option<Step> {
         [] | ["kept", ..] | ["sent", ..] => None,
         ["arrives", ..] | ["pieces", ..] => Some(Step::Arrives),
         [word] => Some(bare_step(word)),
-        [word, number] => Some(counted_step(word, number.parse().unwrap_or(0))),
+        [word, number] => Some(counted_step(word, number.parse().ok())),
         _ => Some(Step::Unknown),
     }
 }
@@ -65,12 +65,12 @@ fn bare_step(word: &str) -> Step {
 }
 
 /// The step of a word with a number.
-fn counted_step(word: &str, number: u32) -> Step {
-    match word {
-        "present" => Step::Present(number),
-        "look" => Step::Look(number),
-        "gone" => Step::Gone(number),
-        "slow" => Step::Slow(number),
+fn counted_step(word: &str, number: Option<u32>) -> Step {
+    match (word, number) {
+        ("present", Some(count)) => Step::Present(count),
+        ("look", Some(most)) => Step::Look(most),
+        ("gone", Some(presents)) => Step::Gone(presents),
+        ("slow", Some(looks)) => Step::Slow(looks),
         _ => Step::Unknown,
     }
 }

@@ -1,5 +1,6 @@
 -- The octets of a client of a load are four units, each of which is read as the request that it was
 use Rattle.std.proofs.Common.{◌≡◌, ◌∙◌, ◌≤◌, ◌<◌, ◌^◌, ℕ, if◌then◌else◌, nat_lt, List, [], ◌∷◌, ◌++◌, length, slice_index_or, None, length-append, refl, sym, ap, ap₂, subst, arith}
+use Rattle.std.proofs.lemmas.List.{append-nil}
 use Rattle.std.proofs.lemmas.Int.Digits.{digits_of_step}
 use Rattle.z_types.specs.Bounds.{most_levels, most_unit_octets}
 use Rattle.z_types.specs.declared.requests.Init.{Init}
@@ -10,7 +11,7 @@ use Rattle.z_ber.specs.Laws.{WrittenElementsAreFrames}
 use Rattle.z_ber.specs.Written.{bits_octets, bool_octets, element, int_octets, length_octets, mirror, natural_octets, oid_octets, septets, tag_octets, unused_bits}
 use Rattle.unit_forms.specs.Fields.{bits_field, constructed, number_field, primitive, tree_field}
 use Rattle.unit_forms.specs.Query.{attr_fields, leaf_octets, query_octets, tree_octets}
-use Rattle.unit_forms.specs.Requests.{close_fields, init_fields, present_fields, search_fields, spell_request}
+use Rattle.unit_forms.specs.Requests.{close_fields, init_fields, init_request_fields, present_fields, search_fields, spell_request}
 use Rattle.unit_forms.specs.Tags as tag
 use Rattle.z_laws.specs.Laws.{WrittenRequestsAreRead, WrittenRequestsAreUnits}
 use Rattle.z_laws.specs.Readable.{IsReadable}
@@ -44,7 +45,7 @@ size-field number = ap (element (primitive number)) size-octets
 
 -- the fields of the Init
 abbrev own_init : Init
-own_init = record { ref_id = None; versions = 7; options = 32767; preferred = most_unit_octets; exceptional = most_unit_octets }
+own_init = record { ref_id = None; versions = 7; options = 32767; preferred = most_unit_octets; exceptional = most_unit_octets; login = None }
 
 init-sizes : init_fields own_init
     ≡ bits_field tag.protocol_version 7 ++ bits_field tag.options 32767 ++ element (primitive tag.preferred_message_size) (16 ∷ 0 ∷ 0 ∷ [])
@@ -60,7 +61,9 @@ unfolding element tag_octets length_octets bits_octets unused_bits mirror
 length-written = refl
 
 length-init : length (spell_request init_request) ≡ 21
-length-init = ap (λ (fields : List ℕ). length (tree_field tag.init_request fields)) init-sizes ∙ length-written
+unfolding init_request_fields
+length-init =
+    ap (λ (fields : List ℕ). length (tree_field tag.init_request fields)) (append-nil (init_fields own_init) ∙ init-sizes) ∙ length-written
 
 length-search : (letter : ℕ) → length (spell_request (search_request letter)) ≡ 64
 unfolding element tag_octets length_octets septets int_octets natural_octets bool_octets oid_octets search_fields query_octets tree_octets leaf_octets attr_fields
@@ -100,7 +103,7 @@ module _ (laws : UnitLaws) where
   init-received =
       let size = length-init in
       is-received init_request tag.init_request _ refl (omega arith)
-      (record { versions = omega arith; options = omega arith; preferred = omega arith; exceptional = omega arith }) tt (omega (arith, size))
+      (record { versions = omega arith; options = omega arith; preferred = omega arith; exceptional = omega arith }, tt) tt (omega (arith, size))
 
   search-received : (letter : ℕ) → IsReceived (received (search_request letter))
   search-received letter =

@@ -80,11 +80,11 @@ no-set : (letter : ℕ) (answer : Result ℕ Diag) (records : List ℕ → Fetch
 no-set letter (Ok hits) records e = absurd cc
 no-set letter (Err diag) records e = refl
 
-unset-asks : (asks : Request) (checks : List (Option Diag)) (present : Present) (hits : List ℕ) (set : Option StoredSet) → set ≡ None
-    → work_in (unless_refused asks (checked checks (Ok (fetch_work present hits set)))) ≡ []
-unset-asks asks checks present hits set e =
-    ap (λ (own : Option StoredSet). work_in (unless_refused asks (checked checks (Ok (fetch_work present hits own))))) e
-    ∙ at-once asks checks (present_reply present hits fetched.None)
+unset-asks : (asks : Request) (checks : List (Option Diag)) (present : Present) (login : Option (List ℕ)) (hits : List ℕ) (set : Option StoredSet) → set ≡ None
+    → work_in (unless_refused asks (checked checks (Ok (fetch_work login present hits set)))) ≡ []
+unset-asks asks checks present login hits set e =
+    ap (λ (own : Option StoredSet). work_in (unless_refused asks (checked checks (Ok (fetch_work login present hits own))))) e
+    ∙ at-once asks checks (present_reply present hits 0 fetched.None)
 
 pub refused-uses : {W : Type 0} (w : world.Ghosts W) (letter : ℕ) → refuses w letter ≡ true → later_uses w letter ≡ []
 refused-uses w letter e =
@@ -92,5 +92,5 @@ refused-uses w letter e =
     let none : set ≡ None = no-set letter (w.search (Test 0) (key_for letter)) _ e in
     let hits = hits_meant w smallest_route set in
     let asks : work_of w smallest_route (behind_search w letter) (request.Present first_record) ≡ [] =
-    unset-asks (request.Present first_record) (present_checks smallest_route (behind_search w letter) first_record hits) first_record hits set none in
+    unset-asks (request.Present first_record) (present_checks smallest_route (behind_search w letter) first_record hits) first_record (behind_search w letter).agreed.login hits set none in
     ap (λ (works : List Work). uses_of smallest_route (map (dated 0) (works ++ []))) asks

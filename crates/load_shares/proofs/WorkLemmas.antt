@@ -20,11 +20,11 @@ use Rattle.gateway_rules.specs.Given.{present_reply}
 use Rattle.gateway_rules.specs.Marks.{plain}
 use Rattle.gateway_rules.specs.Outcomes.{outcome_of}
 use Rattle.gateway_rules.specs.Session.{answered}
-use Rattle.gateway_rules.specs.Settling.{sets_after, why_failed}
+use Rattle.gateway_rules.specs.Settling.{client_at_once, sets_after, why_failed}
 use Rattle.gateway_rules.specs.State.{ClientState, new_client}
 use Rattle.conn_works.specs.Works.{work_in, work_of}
 use Rattle.sample_maker.specs.Load.{letter_of}
-use Rattle.sample_maker.specs.Requests.{search_request, xml}
+use Rattle.sample_maker.specs.Requests.{init_request, search_request, xml}
 use Rattle.sharing_rules.specs.Uses.{DatedWork, query_of}
 use Rattle.replay_shares.specs.Orderly.{IsApart, Turn, asked_before, classes_at, dated, dated_after, dated_works, legs_in, works_added}
 use Rattle.replay_shares.proofs.CountLemmas.{all-both}
@@ -54,12 +54,12 @@ if-fetched query false said fetch h = (h, tt)
 abbrev IsSetOf : RpnQuery → StoredSet → Type 0
 IsSetOf query set = (set.legs ≡ 0 ∷ []) × (set.query ≡ query)
 
-fetch-of : (query : RpnQuery) (present : Present) (hits : List ℕ) (set : Option StoredSet) → IfSome set (IsSetOf query)
-    → AllByRecursion (IsOf query) (work_in (fetch_work present hits set))
-fetch-of query present hits None h = tt
-fetch-of query present hits (Some set) h =
-    if-fetched query (present.number == 0) (present_reply present hits fetched.None)
-    (work.Fetch None set.legs set.query hits (nat_abs present.start) present.number present.syntax (element_of present.element))
+fetch-of : (query : RpnQuery) (login : Option (List ℕ)) (present : Present) (hits : List ℕ) (set : Option StoredSet) → IfSome set (IsSetOf query)
+    → AllByRecursion (IsOf query) (work_in (fetch_work login present hits set))
+fetch-of query login present hits None h = tt
+fetch-of query login present hits (Some set) h =
+    if-fetched query (present.number == 0) (present_reply present hits 0 fetched.None)
+    (work.Fetch login set.legs set.query hits (nat_abs present.start) present.number present.syntax (element_of present.element))
     (h.0, ap Some h.1)
 
 -- so a Present asks of the set that it names alone
@@ -69,8 +69,8 @@ present-of : {W : Type 0} (w : world.Ghosts W) (query : RpnQuery) (client : Clie
 present-of w query client present h =
     let set = set_named present.set_name client.sets in
     let hits = hits_meant w smallest_route set in
-    as-checked query (request.Present present) (present_checks smallest_route client present hits) (fetch_work present hits set)
-    (fetch-of query present hits set h)
+    as-checked query (request.Present present) (present_checks smallest_route client present hits) (fetch_work client.agreed.login present hits set)
+    (fetch-of query client.agreed.login present hits set h)
 
 -- ---- the works of a client
 
@@ -82,9 +82,12 @@ search_for letter = work.Search None (0 ∷ []) (query_for letter) 0 1 0 None No
 abbrev pub first_record : Present
 first_record = record { ref_id = None; set_name = codes "1"; start = pos 1; number = 1; element = Good None; syntax = Some xml }
 
--- the client behind its Search
+-- the client behind its Init, and behind its Search
+abbrev pub behind_init : ClientState
+behind_init = client_at_once new_client init_request
+
 abbrev pub behind_search : {W : Type 0} → world.Ghosts W → ℕ → ClientState
-behind_search w letter = (answered w smallest_route new_client (search_request letter) plain).client
+behind_search w letter = (answered w smallest_route behind_init (search_request letter) plain).client
 
 -- whether the Search failed or not, the set that there may be is its own
 set-of : (letter : ℕ) (why : Option Diag) → IfSome (set_named (codes "1") (sets_after why (codes "1") (search_for letter) [])) (IsSetOf (query_for letter))

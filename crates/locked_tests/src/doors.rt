@@ -20,15 +20,18 @@ pub(crate) enum Side {
     Right,
 }
 
+/// A turn, at which of two doors and in which class it happens.
+pub(crate) type Row = (Side, u32, Turn);
+
 /// The place of the first turn that goes otherwise at one door, counted from 0.
 pub(crate) fn first_other<D: Door<Quiet, Holder>>(
     alloc: Global,
     desk: &Desk,
     door: &mut D,
-    turns: &[(Side, Turn)],
+    turns: &[Row],
 ) -> Result<Option<usize>, Memory> {
-    for (place, (_, turn)) in turns.iter().enumerate() {
-        if !goes(alloc, desk, door, *turn)? {
+    for (place, (_, class, turn)) in turns.iter().enumerate() {
+        if !goes(alloc, desk, door, *class, *turn)? {
             return Ok(Some(place));
         }
     }
@@ -41,12 +44,12 @@ fn first_other_of_two<D: Door<Quiet, Holder>>(
     desk: &Desk,
     left: &mut D,
     right: &mut D,
-    turns: &[(Side, Turn)],
+    turns: &[Row],
 ) -> Result<Option<usize>, Memory> {
-    for (place, (side, turn)) in turns.iter().enumerate() {
+    for (place, (side, class, turn)) in turns.iter().enumerate() {
         let went = match side {
-            Side::Left => goes(alloc, desk, left, *turn)?,
-            Side::Right => goes(alloc, desk, right, *turn)?,
+            Side::Left => goes(alloc, desk, left, *class, *turn)?,
+            Side::Right => goes(alloc, desk, right, *class, *turn)?,
         };
         if !went {
             return Ok(Some(place));
@@ -71,7 +74,7 @@ fn first_other_over<
     pool: &Mutex<Counted<Quiet, Holder, P, L, M, O, Q>>,
     tells: (u32, u32),
     three: &mut Three<L, M, O>,
-    turns: &[(Side, Turn)],
+    turns: &[Row],
 ) -> Result<Option<usize>, Memory>
     requires booked { (three.old.booked.parts ≡ 2) × (three.old.booked.amount ≡ 0) }
     requires fulls { (three.old.fulls.parts ≡ 2) × (three.old.fulls.amount ≡ 0) }
@@ -104,7 +107,7 @@ pub(crate) fn first_other_behind<
     max_sessions: u32,
     tells: (u32, u32),
     blanks: Blanks,
-    turns: &[(Side, Turn)],
+    turns: &[Row],
 ) -> Result<Option<usize>, Memory>
     requires told { is_some (P.pool pool) ≡ true }
     requires new { P.counts pool ≡ counts_of max_sessions 0 0 0 }

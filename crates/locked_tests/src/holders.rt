@@ -16,6 +16,8 @@ pub(crate) struct Quiet;
 impl World for Quiet {
     ghost told = { λ _. ⊥ };
 
+    ghost inner_is_told = { λ _ h. h };
+
     ghost search = { λ _ _. no_hits };
 
     ghost record_ = { λ _ _ _ _ _. no_record };
@@ -54,7 +56,7 @@ pub(crate) fn key_for(alloc: Global, number: i64) -> Result<SetKey, Memory> {
     })
 }
 
-/// A session at the first test target, with a set of the key, used at a moment.
+/// A session at the test target 1, with a set of the key, used at a moment.
 pub(crate) fn holder_of(
     alloc: Global,
     key: &SetKey,
@@ -63,12 +65,12 @@ pub(crate) fn holder_of(
     let mut table = SetTable::new(alloc, 10)?;
     table.record_(0, copy(key)?, 3, now)?;
     let session = Holder {
-        address: Address::Test(0),
+        address: Address::Test(1),
         key: copy(key)?,
     };
     Ok(Pooled::join(Parts {
         session,
         table,
-        address: Address::Test(0),
+        address: Address::Test(1),
     }))
 }

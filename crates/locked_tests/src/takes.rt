@@ -2,12 +2,12 @@
 
 ghost use Rattle.std.specs.Prelude.{◌≡◌};
 
-use crate::doors::Side::{self, Left, Right};
-use crate::doors::{first_other, first_other_behind};
+use crate::doors::Side::{Left, Right};
+use crate::doors::{Row, first_other, first_other_behind};
 use crate::holders::{Holder, Quiet};
 use crate::ledgers::blanks_of;
 use crate::turns::Given::{Dialled, Full, Idle, Reused};
-use crate::turns::Turn::{self, Expire, Lose, Put, Redial, TakeAny, TakeFor, TakeForOther};
+use crate::turns::Turn::{Expire, Lose, Put, Redial, TakeAny, TakeFor, TakeForOther};
 use crate::turns::desk_of;
 use pool_core::Pool;
 use route_config::PoolNumbers;
@@ -35,7 +35,7 @@ fn numbers_of(max_sessions: u32) -> PoolNumbers
 fn first_other_alone(
     alloc: Global,
     max_sessions: u32,
-    turns: &[(Side, Turn)],
+    turns: &[Row],
 ) -> Result<Option<usize>, Memory> {
     let desk = desk_of(alloc)?;
     let mut pool: Pool<Quiet, Holder> = Pool::after(alloc, numbers_of(max_sessions), 0);
@@ -48,7 +48,7 @@ fn first_other_locked<R: Wait + Sync>(
     alloc: Global,
     max_sessions: u32,
     tells: (u32, u32),
-    turns: &[(Side, Turn)],
+    turns: &[Row],
 ) -> Result<Option<usize>, Memory> {
     let desk = desk_of(alloc)?;
     let pool: Pool<Quiet, Holder> = Pool::after(alloc, numbers_of(max_sessions), 0);
@@ -66,48 +66,70 @@ fn first_other_locked<R: Wait + Sync>(
 
 /// Each door gives what the pool has, whichever door it came by: sessions that were dialled, put
 /// back and given up, and sets that were kept or forgotten.
-const TURNS: &[(Side, Turn)] = &[
-    (Left, TakeAny(Dialled(1, 0))),
-    (Right, TakeFor(0, Dialled(2, 1))),
-    (Left, TakeFor(0, Full(2))),
-    (Right, Redial(2, 1)),
-    (Left, Put(1, 0)),
-    (Right, TakeFor(0, Reused(1))),
-    (Left, TakeAny(Full(2))),
-    (Left, Lose(2)),
-    (Right, TakeFor(0, Dialled(3, 1))),
-    (Left, Put(1, 0)),
-    (Right, TakeForOther(Idle(1))),
-    (Right, Put(1, 0)),
-    (Left, TakeFor(59, Reused(1))),
-    (Right, Put(1, 59)),
-    (Left, TakeFor(119, Idle(1))),
-    (Left, Put(1, 119)),
-    (Right, TakeFor(418, Idle(1))),
-    (Right, Put(1, 418)),
-    (Left, Expire(477)),
-    (Right, TakeFor(0, Reused(1))),
-    (Right, Put(1, 418)),
-    (Left, Expire(478)),
-    (Right, TakeFor(0, Idle(1))),
+const TURNS: &[Row] = &[
+    (Left, 0, TakeAny(Dialled(1, 0))),
+    (Right, 0, TakeFor(0, Dialled(2, 1))),
+    (Left, 0, TakeFor(0, Full(2))),
+    (Right, 0, Redial(2, 1)),
+    (Left, 0, Put(1, 0)),
+    (Right, 0, TakeFor(0, Reused(1))),
+    (Left, 0, TakeAny(Full(2))),
+    (Left, 0, Lose(2)),
+    (Right, 0, TakeFor(0, Dialled(3, 1))),
+    (Left, 0, Put(1, 0)),
+    (Right, 0, TakeForOther(Idle(1))),
+    (Right, 0, Put(1, 0)),
+    (Left, 0, TakeFor(59, Reused(1))),
+    (Right, 0, Put(1, 59)),
+    (Left, 0, TakeFor(119, Idle(1))),
+    (Left, 0, Put(1, 119)),
+    (Right, 0, TakeFor(418, Idle(1))),
+    (Right, 0, Put(1, 418)),
+    (Left, 0, Expire(477)),
+    (Right, 0, TakeFor(0, Reused(1))),
+    (Right, 0, Put(1, 418)),
+    (Left, 0, Expire(478)),
+    (Right, 0, TakeFor(0, Idle(1))),
+];
+
+/// The same in two classes, of which none is given a session of the other, though both have its address, and
+/// each dials all its members in turn: sessions and sets are as old as the moments say.
+const CLASSES: &[Row] = &[
+    (Left, 0, TakeAny(Dialled(1, 0))),
+    (Right, 1, TakeAny(Dialled(2, 0))),
+    (Left, 0, Put(1, 0)),
+    (Right, 1, TakeFor(0, Dialled(3, 1))),
+    (Right, 1, TakeAny(Dialled(4, 2))),
+    (Left, 1, TakeAny(Full(3))),
+    (Left, 1, Redial(4, 2)),
+    (Right, 0, TakeFor(59, Reused(1))),
+    (Right, 1, Put(2, 100)),
+    (Left, 0, TakeFor(100, Dialled(5, 1))),
+    (Left, 1, TakeFor(159, Reused(2))),
+    (Left, 1, Put(2, 159)),
+    (Right, 1, TakeFor(219, Idle(2))),
+    (Right, 1, Put(2, 219)),
+    (Left, 1, TakeFor(519, Dialled(6, 0))),
+    (Left, 1, Lose(3)),
+    (Right, 1, TakeFor(519, Dialled(7, 1))),
 ];
 
 #[test]
 fn two_doors_over_a_pool_answer_as_the_pool(rt: HostRuntime) -> Result<(), Fail> {
-    assert_eq!(rt; first_other_alone(rt.alloc(), 2, TURNS)?, None);
-    assert_eq!(rt;
-        first_other_locked(&rt, rt.alloc(), 2, (2, 2), TURNS)?,
-        None
-    );
+    for (most, turns) in [(2, TURNS), (3, CLASSES)] {
+        assert_eq!(rt; first_other_alone(rt.alloc(), most, turns)?, None);
+        let other = first_other_locked(&rt, rt.alloc(), most, (most, most), turns)?;
+        assert_eq!(rt; other, None);
+    }
     Ok(())
 }
 
 /// A full pool is full under the number of the door.
-const FULL: &[(Side, Turn)] = &[
-    (Left, TakeAny(Dialled(1, 0))),
-    (Left, TakeAny(Full(1))),
-    (Right, TakeAny(Full(7))),
-    (Right, TakeFor(0, Full(7))),
+const FULL: &[Row] = &[
+    (Left, 0, TakeAny(Dialled(1, 0))),
+    (Left, 0, TakeAny(Full(1))),
+    (Right, 0, TakeAny(Full(7))),
+    (Right, 0, TakeFor(0, Full(7))),
 ];
 
 #[test]

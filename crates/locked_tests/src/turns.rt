@@ -16,7 +16,7 @@ pub(crate) enum Given {
     Nothing,
 }
 
-/// What happens at a door, and what comes of it.
+/// What happens at a door in a class, and what comes of it.
 #[derive(Clone, Copy)]
 pub(crate) enum Turn {
     /// Any session is taken.
@@ -35,21 +35,38 @@ pub(crate) enum Turn {
     Expire(u64),
 }
 
-/// What the turns of a class need: the addresses of its two members, and two keys.
+/// What the turns of two classes need: the addresses of the members of class 0 and of class 1, and two keys.
 #[derive(Drop)]
 pub(crate) struct Desk {
-    pub members: Members,
-    pub key: SetKey,
-    pub other: SetKey,
+    first: Members,
+    second: Members,
+    key: SetKey,
+    other: SetKey,
 }
 
-/// A desk for two test targets.
+impl Desk {
+    /// The members of a class.
+    fn members(&self, class: u32) -> &Members {
+        if class == 0 {
+            &self.first
+        } else {
+            &self.second
+        }
+    }
+}
+
+/// A desk for a class of the test targets 0 and 1, and one of 1, 2 and 3.
 pub(crate) fn desk_of(alloc: Global) -> Result<Desk, Memory> {
-    let mut addresses = List::new(alloc);
-    addresses.push(Address::Test(0))?;
-    addresses.push(Address::Test(1))?;
+    let mut first = List::new(alloc);
+    first.push(Address::Test(0))?;
+    first.push(Address::Test(1))?;
+    let mut second = List::new(alloc);
+    second.push(Address::Test(1))?;
+    second.push(Address::Test(2))?;
+    second.push(Address::Test(3))?;
     Ok(Desk {
-        members: Members::new(addresses),
+        first: Members::new(first),
+        second: Members::new(second),
         key: key_for(alloc, 3)?,
         other: key_for(alloc, 4)?,
     })
@@ -66,55 +83,61 @@ fn what_was_given(taken: &Taken<Holder>) -> Given {
     }
 }
 
-/// Takes a session.
+/// Takes a session of a class.
 fn take<D: Door<Quiet, Holder>>(
     alloc: Global,
     desk: &Desk,
     door: &mut D,
+    class: u32,
     want: Option<&SetKey>,
     now: u64,
 ) -> Given {
-    what_was_given(&door.take(alloc, 0, desk.members.as_slice(), want, now))
+    what_was_given(&door.take(alloc, class, desk.members(class).as_slice(), want, now))
 }
 
-/// Puts the session of a number back.
+/// Puts the session of a seat back, at the address that both classes have.
 fn put<D: Door<Quiet, Holder>>(
     alloc: Global,
     desk: &Desk,
     door: &mut D,
-    number: u64,
+    seat: Seat,
     now: u64,
 ) -> Result<(), Memory> {
     let parts = holder_of(alloc, &desk.key, now)?.apart();
-    door.put(Seat { class: 0, number }, parts, now);
+    door.put(seat, parts, now);
     Ok(())
 }
 
-/// The member to dial in place of a session.
-fn redial<D: Door<Quiet, Holder>>(desk: &Desk, door: &mut D, number: u64) -> u32 {
-    door.redial(&mut Seat { class: 0, number }, desk.members.as_slice())
+/// The member of a class to dial in place of a session.
+fn redial<D: Door<Quiet, Holder>>(desk: &Desk, door: &mut D, class: u32, number: u64) -> u32 {
+    door.redial(&mut Seat { class, number }, desk.members(class).as_slice())
 }
 
-/// Whether a turn goes so.
+/// Whether a turn of a class goes so.
 pub(crate) fn goes<D: Door<Quiet, Holder>>(
     alloc: Global,
     desk: &Desk,
     door: &mut D,
+    class: u32,
     turn: Turn,
 ) -> Result<bool, Memory> {
     match turn {
-        Turn::TakeAny(given) => Ok(take(alloc, desk, door, None, 0) == given),
-        Turn::TakeFor(now, given) => Ok(take(alloc, desk, door, Some(&desk.key), now) == given),
-        Turn::TakeForOther(given) => Ok(take(alloc, desk, door, Some(&desk.other), 0) == given),
+        Turn::TakeAny(given) => Ok(take(alloc, desk, door, class, None, 0) == given),
+        Turn::TakeFor(now, given) => {
+            Ok(take(alloc, desk, door, class, Some(&desk.key), now) == given)
+        }
+        Turn::TakeForOther(given) => {
+            Ok(take(alloc, desk, door, class, Some(&desk.other), 0) == given)
+        }
         Turn::Put(number, now) => {
-            put(alloc, desk, door, number, now)?;
+            put(alloc, desk, door, Seat { class, number }, now)?;
             Ok(true)
         }
         Turn::Lose(number) => {
-            door.lost(Seat { class: 0, number });
+            door.lost(Seat { class, number });
             Ok(true)
         }
-        Turn::Redial(number, member) => Ok(redial(desk, door, number) == member),
+        Turn::Redial(number, member) => Ok(redial(desk, door, class, number) == member),
         Turn::Expire(now) => {
             door.expire(now);
             Ok(true)

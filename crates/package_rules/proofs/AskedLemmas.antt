@@ -141,4 +141,4 @@ scans_of dbs ask few may = record {
 
 pub scans : ScansMayBeAsked
 scans route login place ask leg made sound asks there =
-    scans_of leg.dbs ask (dbs_short route place leg sound there) asks
+    scans_of leg.dbs ask (dbs_short route place leg sound there) asks.0

@@ -1,7 +1,7 @@
 //! The pool.
 
 ghost use Rattle.std.specs.Prelude.{◌≡◌, ◌<◌, ◌≤◌, [], Some, None, length, IfOk, filter, map, OnOk, OnErr, ◌++◌, ◌∷◌, All};
-ghost use Rattle.z_types.specs.Members.{HasShortHost};
+ghost use Rattle.z_types.specs.Members.{IsMember};
 ghost use Rattle.z_types.specs.Pending.{resting};
 ghost use Rattle.pool_sets.specs.Plain.{stays_open, with_fresh_sets, fresh_sessions, expire, take_with, take_any, open_one, lost, without_seat, put, redial_member};
 ghost use Rattle.pool_sets.specs.Counts.{after_take};
@@ -335,7 +335,7 @@ impl<W: World, S: Sitting<W>> Pool<W, S> {
     pub(crate) fn dial_again(&mut self, seat: &Seat, at: &[Address]) -> u32
         requires some { 0 < length at.now }
         requires few { length at.now ≤ 16 }
-        requires short { All HasShortHost at.now }
+        requires short { All IsMember at.now }
         ensures member { result ≡ redial_member seat.now at.now self.old.pool }
         ensures within { result < length at.now }
         ensures plain { self.new ≡ after_redial seat.now at.now self.old }

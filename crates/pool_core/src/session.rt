@@ -2,7 +2,7 @@
 //! grows old.
 
 ghost use Rattle.std.specs.Prelude.{◌≡◌, is_some, option_copied, true, IfSome};
-ghost use Rattle.z_types.specs.Members.{HasShortHost};
+ghost use Rattle.z_types.specs.Members.{IsMember};
 ghost use Rattle.pool_sets.specs.declared.sessions.Stand.TheVariants.{Idle, Out};
 ghost use Rattle.pool_sets.specs.Sessions.{is_among, in_class, idle_in, idle_with, is_out, idle_parts, with_stand};
 ghost use Rattle.pool_sets.specs.Plain.{is_seat, stays_open, with_fresh_sets};
@@ -140,7 +140,7 @@ pub fn move_to<W: World, S: Sitting<W>>(
     member: u32,
     to: &Address,
 )
-    requires short { HasShortHost to.now }
+    requires short { IsMember to.now }
     ensures { is_out session.old.stand ≡ true → session.new ≡ at_member member to.now session.old }
 {
     if let Stand::Out { address } = &mut session.stand {

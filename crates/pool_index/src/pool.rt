@@ -1,7 +1,7 @@
 //! The pool.
 
 ghost use Rattle.std.specs.Prelude.{◌≡◌, ◌<◌, ◌≤◌, Some, None, length, IfOk, All};
-ghost use Rattle.z_types.specs.Members.{HasShortHost};
+ghost use Rattle.z_types.specs.Members.{IsMember};
 ghost use Rattle.z_types.specs.Pending.{resting};
 ghost use Rattle.pool_sets.specs.Plain.{expire, take_with, take_any, open_one, lost, put, redial_member};
 ghost use Rattle.pool_sets.specs.Counts.{after_take};
@@ -277,7 +277,7 @@ impl<W: World, S: Sitting<W>, D: Digest> IndexedPool<W, S, D> {
     pub(crate) fn dial_again(&mut self, seat: &Seat, at: &[Address]) -> u32
         requires some { 0 < length at.now }
         requires few { length at.now ≤ 16 }
-        requires short { All HasShortHost at.now }
+        requires short { All IsMember at.now }
         ensures member { result ≡ redial_member seat.now at.now self.old.pool }
         ensures within { result < length at.now }
         ensures plain { self.new ≡ after_redial seat.now at.now self.old }

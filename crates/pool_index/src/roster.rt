@@ -2,7 +2,7 @@
 
 ghost use Rattle.std.specs.Prelude.{◌≡◌, ◌≤◌, ◌<◌, ◌^◌, ◌-◌, ◌++◌, ◌∷◌, [], true, length, position, filter, IfSome, OnOk, OnErr, option_copied};
 ghost use Rattle.std.specs.List.{HoldsAt};
-ghost use Rattle.z_types.specs.Members.{HasShortHost};
+ghost use Rattle.z_types.specs.Members.{IsMember};
 ghost use Rattle.pool_sets.specs.declared.sessions.Stand.TheVariants.{Idle, Out};
 ghost use Rattle.pool_sets.specs.Sessions.{idle_parts, is_out, with_stand, open_of, member_for};
 ghost use Rattle.pool_sets.specs.Plain.{fresh_sessions, is_seat, without_seat};
@@ -263,7 +263,7 @@ impl<W: World, S: Sitting<W>, D: Digest> Roster<W, S, D> {
     pub fn move_to(&mut self, place: usize, member: u32, to: &Address)
         requires within { place < length self.old.sessions }
         requires out { HoldsAt (λ o. is_out o.stand ≡ true) self.old.sessions place }
-        requires short { HasShortHost to.now }
+        requires short { IsMember to.now }
         ensures moved { Changes (at_member member to.now) place self.old self.new }
     {
         move_to(&mut self.berths[place].session, member, to);

@@ -1,4 +1,4 @@
--- For contracts alone: what a door counts (this project's own). No count falls, and each stands
+-- What a door counts (this project's own). No count falls, and each stands
 -- still at the last value of 64 bits.
 use Rattle.std.specs.Prelude.{ℕ, Bool, true, false, is_some, Option}
 use Rattle.z_types.specs.Counts.{one_more}

@@ -1,4 +1,4 @@
-//! The table of a session's sets, and the pool of one thread over sessions in memory. All of it is
+//! The table of a session's sets, and the pools of one thread over sessions in memory. All of it is
 //! tests, which stand apart so that the crates below are proved once.
 #![tactic(auto)]
 

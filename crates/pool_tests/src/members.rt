@@ -1,7 +1,7 @@
 //! The member of fewest sessions, and the address of a session that is out.
 
 ghost use Rattle.std.specs.Prelude.{IfOk};
-ghost use Rattle.z_types.specs.Members.{HasShortHost};
+ghost use Rattle.z_types.specs.Members.{IsMember};
 ghost use Rattle.gw_outside.specs.Asks.{MaySearch};
 ghost use Rattle.pool_sets.specs.Kept.{slot_name};
 
@@ -36,7 +36,7 @@ enum At {
 
 /// The address there.
 fn address(alloc: Global, at: At) -> Result<Address, Memory>
-    ensures { IfOk result HasShortHost }
+    ensures { IfOk result IsMember }
 {
     match at {
         At::Test(number) => Ok(Address::Test(number)),

@@ -4,6 +4,7 @@ ghost use Rattle.std.specs.Prelude.{◌≡◌, ◌≤◌, Some, Ok, IfOk};
 ghost use Rattle.z_types.specs.Bounds.{most_number};
 ghost use Rattle.z_types.specs.Pending.{resting};
 ghost use Rattle.z_types.specs.declared.ask.Ask.TheVariants.{Search};
+ghost use Rattle.unit_forms.specs.Logins.{HasLogin};
 ghost use Rattle.gw_outside.specs.Asks.{MaySearch};
 ghost use Rattle.pool_sets.specs.Kept.{slot_name};
 
@@ -30,6 +31,7 @@ fn open_at<W: World, B: Backend<W>>(
     backend: &mut B,
     address: &Address,
 ) -> Result<B::Session, Memory>
+    requires login { HasLogin address.now }
     ensures rests { IfOk result (λ session. B.Session.pending session ≡ resting) }
     ensures address { IfOk result (λ session. B.Session.address session ≡ address.now) }
 {
@@ -89,6 +91,7 @@ pub(crate) fn session_holding<W: World, B: Backend<W>>(
     key: &SetKey,
     now: u64,
 ) -> Result<Pooled<W, B::Session>, Memory>
+    requires login { HasLogin address.now }
     requires may { MaySearch (slot_name 0) key.now }
     ensures rests { IfOk result (λ pooled. B.Session.pending pooled.session ≡ resting) }
 {

@@ -14,6 +14,8 @@ pub(crate) struct Steady;
 impl World for Steady {
     ghost told = { λ _. Unit {0} };
 
+    ghost inner_is_told = { λ _ h. h };
+
     ghost search = { λ _ _. three_hits };
 
     ghost record_ = { λ _ _ _ _ _. no_record };

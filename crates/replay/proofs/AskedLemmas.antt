@@ -146,25 +146,26 @@ module _ (route : Route) where
         | false ↦ found-few test sets all.1
       ]
 
-  fetch-few : (present : Present) (hits : List ℕ) (set : Option StoredSet) → IfSome set IsFewSet → AsksFew (fetch_work present hits set)
-  fetch-few present hits None few = tt
-  fetch-few present hits (Some set) few =
+  fetch-few : (login : Option (List ℕ)) (present : Present) (hits : List ℕ) (set : Option StoredSet) → IfSome set IsFewSet
+      → AsksFew (fetch_work login present hits set)
+  fetch-few login present hits None few = tt
+  fetch-few login present hits (Some set) few =
       elim (present.number == 0) as (λ (none : Bool).
-      AsksFew (if none then at_once (present_reply present hits fetched.None)
-      else works (work.Fetch None set.legs set.query hits (nat_abs present.start) present.number present.syntax (element_of present.element)))) [
+      AsksFew (if none then at_once (present_reply present hits 0 fetched.None)
+      else works (work.Fetch login set.legs set.query hits (nat_abs present.start) present.number present.syntax (element_of present.element)))) [
         | true ↦ tt
         | false ↦ few
       ]
 
   -- ---- a Scan
 
-  leg-few : (ask : ScanAsk) (legs : List ℕ) → length legs ≤ leg_count route → MayAskFew (leg_work ask (slice_get legs 0))
-  leg-few ask [] few = tt
-  leg-few ask (leg ∷ legs) few = omega (arith, few)
+  leg-few : (login : Option (List ℕ)) (ask : ScanAsk) (legs : List ℕ) → length legs ≤ leg_count route → MayAskFew (leg_work login ask (slice_get legs 0))
+  leg-few login ask [] few = tt
+  leg-few login ask (leg ∷ legs) few = omega (arith, few)
 
-  scan-few : (ask : Form ScanAsk) (legs : List ℕ) → length legs ≤ leg_count route → MayAskFew (scan_work ask (slice_get legs 0))
-  scan-few (Good ask) legs few = leg-few ask legs few
-  scan-few (Bad diag) legs few = tt
+  scan-few : (login : Option (List ℕ)) (ask : Form ScanAsk) (legs : List ℕ) → length legs ≤ leg_count route → MayAskFew (scan_work login ask (slice_get legs 0))
+  scan-few login (Good ask) legs few = leg-few login ask legs few
+  scan-few login (Bad diag) legs few = tt
 
   -- ---- any request
 
@@ -175,10 +176,10 @@ module _ (route : Route) where
       unless-few (request.Search search) _ (checked-few (search_checks route client search) _ (query-few client search search.query))
   asked-few hits client (request.Present present) sets =
       unless-few (request.Present present) _ (checked-few (present_checks route client present (hits present.set_name)) _
-      (fetch-few present (hits present.set_name) (set_named present.set_name client.sets) (found-few _ client.sets sets)))
+      (fetch-few client.agreed.login present (hits present.set_name) (set_named present.set_name client.sets) (found-few _ client.sets sets)))
   asked-few hits client (request.Scan scan) sets =
       unless-few (request.Scan scan) _ (checked-few (scan_checks route scan) _
-      (scan-few scan.ask (legs_of route scan.dbs) (legs_of-few route scan.dbs)))
+      (scan-few client.agreed.login scan.ask (legs_of route scan.dbs) (legs_of-few route scan.dbs)))
   asked-few hits client (request.Close close) sets = tt
 
   -- sets that are kept with their hits

@@ -5,7 +5,7 @@ use Prim.Native.Nat.{zero, suc}
 use Rattle.std.specs.List.{flat_map}
 use Rattle.std.specs.Option.{option_and_then}
 use Rattle.z_types.specs.declared.address.Address.{Address}
-use Rattle.z_types.specs.declared.address.Address.TheVariants.{Test, Tcp}
+use Rattle.z_types.specs.declared.address.Address.TheVariants.{Test, Tcp, Login}
 use Rattle.z_types.specs.declared.sitting.Sitting as sitting
 use Rattle.z_types.specs.declared.world.World as world
 use Rattle.gw_outside.specs.Happened.{AreCut, IsMade}
@@ -102,6 +102,7 @@ module _ {W S : Type 0} (w : world.Ghosts W) (t : sitting.Ghosts S W) (exact : B
 abbrev pub number_in : Address → Option ℕ
 number_in (Test number) = Some number
 number_in (Tcp host port) = None
+number_in (Login at login) = None
 
 -- the number of the test target at a place of the route
 abbrev pub test_number : Route → ℕ → Option ℕ

@@ -198,6 +198,6 @@ fn test_number(route: &Route, place: u32) -> Option<u32>
 {
     match &route.parts().targets.get(place as usize)?.address {
         Address::Test(number) => Some(*number),
-        Address::Tcp(_, _) => None,
+        Address::Tcp(_, _) | Address::Login(_, _) => None,
     }
 }

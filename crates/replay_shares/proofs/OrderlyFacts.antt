@@ -51,7 +51,7 @@ abbrev tests : world.Ghosts TestWorld
 tests = test_world.ghosts
 
 abbrev init : Request
-init = request.Init (record { ref_id = None; versions = 7; options = 32767; preferred = 1048576; exceptional = 1048576 })
+init = request.Init (record { ref_id = None; versions = 7; options = 32767; preferred = 1048576; exceptional = 1048576; login = None })
 
 -- a term of one letter, by a Use attribute
 abbrev by : ℕ → ℕ → Tree

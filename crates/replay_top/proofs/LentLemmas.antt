@@ -2,7 +2,8 @@
 use Rattle.std.proofs.Common.{◌≡◌, ◌∙◌, ℕ, Bool, List, [], ◌∷◌, ◌++◌, Option, None, Some, Result, Ok, Err, refl, sym, ap, subst}
 use Rattle.std.specs.Prelude.{OnErr, OnOk}
 use Rattle.z_types.specs.declared.address.Address.{Address}
-use Rattle.z_types.specs.declared.address.Address.TheVariants.{Test, Tcp}
+use Rattle.z_types.specs.declared.address.Address.TheVariants.{Test, Tcp, Login}
+use Rattle.z_types.specs.declared.address.Site.TheVariants as site
 use Rattle.z_types.specs.declared.requests.Request.{Request}
 use Rattle.z_types.specs.declared.world.World as world
 use Rattle.gw_outside.specs.declared.happenings.Happening.{Happening}
@@ -30,6 +31,8 @@ module _ (m n : ℕ) (e : n ≡ m) (old new : Happened) where
   lent_asked : (address : Address) (request : Request) → IsAsked address request old new → IsAsked address request (lent_by m old) (lent_by n new)
   lent_asked (Test target) request h = lent_made target _ h
   lent_asked (Tcp host port) request h = lent_same h
+  lent_asked (Login (site.Test target) login) request h = lent_made target _ h
+  lent_asked (Login (site.Tcp host port) login) request h = lent_same h
 
   lent_sent : (peer : Option Peer) (request : Request) → IsSentTo peer request old new → IsSentTo peer request (lent_by m old) (lent_by n new)
   lent_sent None request h = lent_same h
@@ -65,6 +68,8 @@ module _ (m : ℕ) (h : Happened) where
   lent_at : (address : Address) → at_address (lent_by m h) address ≡ at_address h address
   lent_at (Test target) = refl
   lent_at (Tcp host port) = refl
+  lent_at (Login (site.Test target) login) = refl
+  lent_at (Login (site.Tcp host port) login) = refl
 
   lent_to : (peer : Option Peer) → to_peer (lent_by m h) peer ≡ to_peer h peer
   lent_to None = refl

@@ -32,7 +32,7 @@ pub fn run<W: World, N: Wire<W> + Events>(
     // Each client was answered to the octets that it was fed.
     ensures report { IfOk result (IsReportOf W.World route.now events.now) }
 
-    // The sums are what the wire counted, and the marks have their counted cause.
+    // The sums are what an exact wire counted, and the marks have their counted cause.
     ensures counted { IfOk result (IsCountedBy W.World N.exact route.now
         (N.counts wire.old) (N.counts wire.new)) }
 

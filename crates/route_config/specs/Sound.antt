@@ -3,7 +3,7 @@
 use Rattle.std.specs.Prelude.{ℕ, ◌<◌, ◌≤◌, List, length, All, IsTrue}
 use Rattle.z_types.specs.Bounds.{most_number}
 use Rattle.z_types.specs.declared.address.Address.{Address}
-use Rattle.z_types.specs.declared.address.Address.TheVariants.{Test, Tcp}
+use Rattle.z_types.specs.declared.address.Address.TheVariants.{Test, Tcp, Login}
 use Rattle.z_types.specs.declared.limits.Limits.{Limits}
 use Rattle.route_config.specs.declared.route.PoolNumbers.{PoolNumbers}
 use Rattle.z_types.specs.declared.schemas.Schema.{Schema}
@@ -55,10 +55,11 @@ pub record KeepsSizes (route : RouteParts) : Type 0 where
   pub indexes : HasFrom 0 64 route.indexes
   pub schemas : HasFrom 1 16 route.schemas
 
--- the number of a test target, or a host and a port
+-- the number of a test target, or a host and a port, inside no login
 abbrev pub IsAddress : Address → Type 0
 IsAddress (Test number) = number ≤ 999999
 IsAddress (Tcp host port) = HasFrom 1 64 host × IsFrom 1 65535 port
+IsAddress (Login at login) = ⊥
 
 abbrev pub IsTarget : Target → Type 0
 IsTarget target = IsTrue (is_name target.name) × IsAddress target.address

@@ -38,6 +38,7 @@ fn is_address(address: &Address) -> bool
     match address {
         Address::Test(number) => *number <= 999_999,
         Address::Tcp(host, port) => is_from(1, 64, host.len()) && is_from(1, 65535, *port as usize),
+        Address::Login(_, _) => false,
     }
 }
 

@@ -6,8 +6,8 @@ use Rattle.std.proofs.lemmas.List.{length-map, length-append}
 use Rattle.std.proofs.lemmas.List.Elements.{All-cons, All-nil}
 use Rattle.toml.specs.Data.{Data, Items, no_items, item, get, array, as_array}
 use Rattle.z_types.specs.declared.address.Address.{Address}
-use Rattle.z_types.specs.declared.address.Address.TheVariants.{Test, Tcp}
-use Rattle.z_types.specs.Members.{HasShortHost, AreMembers}
+use Rattle.z_types.specs.declared.address.Address.TheVariants.{Test, Tcp, Login}
+use Rattle.z_types.specs.Members.{IsMember, AreMembers}
 use Rattle.route_config.specs.declared.route.Target.{Target}
 use Rattle.route_text.specs.declared.values.GroupValues.{GroupValues}
 use Rattle.route_text.specs.declared.values.DatabaseValues.{DatabaseValues}
@@ -111,10 +111,11 @@ named : (targets : List Target) (name : List ℕ) → AllByRecursion (λ target.
 named [] name all = nought
 named (target ∷ targets) name all = picked (is_same name target.name) target (find (λ target. is_same name target.name) targets) all.0 (named targets name all.1)
 
--- and so its host is short
-short : (address : Address) → IsAddress address → HasShortHost address
-short (Test number) h = tt
-short (Tcp host port) h = h.0.1
+-- and so it is one that a class may have
+member : (address : Address) → IsAddress address → IsMember address
+member (Test number) h = tt
+member (Tcp host port) h = h.0.1
+member (Login at login) h = absurd h
 
 picked_group : (b : Bool) (group : GroupValues) (rest : Option GroupValues) (name : List ℕ) → HasFrom 1 16 group.targets → HasFrom 1 16 (unwrap_or (option_map (λ group. group.targets) rest) (name ∷ []))
     → HasFrom 1 16 (unwrap_or (option_map (λ group. group.targets) (cond b (Some group) rest)) (name ∷ []))
@@ -137,7 +138,7 @@ members-named values name sizes =
     record {
       some = rw same size.0;
       few = rw same size.1;
-      short = all_of_each HasShortHost (address_named values.targets) (λ name. short (address_named values.targets name) (named values.targets name sizes.addresses)) (members_of values.groups name);
+      each = all_of_each IsMember (address_named values.targets) (λ name. member (address_named values.targets name) (named values.targets name sizes.addresses)) (members_of values.groups name);
     }
 
 -- a class's addresses are in their ranges

@@ -1,7 +1,6 @@
 //! Names of databases of a small route, one letter each.
 
-use crate::words::number_of;
-use case_files::{Answer, NoAnswer};
+use case_files::{Answer, NoAnswer, number_of};
 use route_config::{Database, Route, RouteLeg, RouteParts};
 use std::alloc::Global;
 use virt_db::{DbFault, LentLeg, leg_at, legs_of};
@@ -17,7 +16,7 @@ pub(crate) fn is_answered(
     match call {
         "legs_of" => put_legs(alloc, out, words)?,
         "leg_at" => put_leg_at(alloc, out, words)?,
-        "db_fault" => put_number(out, words),
+        "db_fault" => out.print(&fault_of(words)?.number()),
         _ => return Ok(false),
     }
     Ok(true)
@@ -49,14 +48,13 @@ fn put_fault(out: &mut Answer, fault: &DbFault) {
     }
 }
 
-/// The number of a fault.
-fn put_number(out: &mut Answer, words: &str) {
-    let fault = if words == "memory" {
-        DbFault::Memory
-    } else {
-        DbFault::TooMany(17)
-    };
-    out.print(&fault.number());
+/// A fault of this name.
+fn fault_of(name: &str) -> Result<DbFault, NoAnswer> {
+    match name {
+        "memory" => Ok(DbFault::Memory),
+        "too many" => Ok(DbFault::TooMany(17)),
+        _ => Err(NoAnswer::Misspelt),
+    }
 }
 
 /// The leg at a place, if there is one.
@@ -88,6 +86,7 @@ pub(crate) fn put_address(out: &mut Answer, address: &Address) {
             out.print(number);
         }
         Address::Tcp(..) => out.put("tcp"),
+        Address::Login(..) => out.put("login"),
     }
 }
 

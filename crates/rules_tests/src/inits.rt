@@ -1,10 +1,13 @@
 //! Inits and what they are answered. A subject is the versions and options that are asked for, in hexadecimal
-//! digits, and the size; each has the referenceId `ab` and the exceptional size 7.
+//! digits, and the size; each has the referenceId `ab`, the exceptional size 7 and a login.
 
 use case_files::{Answer, NoAnswer};
 use gateway_rules::{init_reply, is_accepted};
 use std::alloc::Global;
 use z_types::{Init, Reply, Text};
+
+/// The login of each Init: an open idAuthentication, the VisibleString `a`.
+const LOGIN: &[u8] = b"\x1a\x01a";
 
 /// Whether a call is one of these. Its answer is put at the end.
 pub(crate) fn is_answered(
@@ -35,6 +38,7 @@ fn init_of(alloc: Global, words: &str) -> Result<Init, NoAnswer> {
         options: bits_of(options)?,
         preferred: size.parse().or(Err(NoAnswer::Misspelt))?,
         exceptional: 7,
+        login: Some(Text::copy_of(alloc, LOGIN)?),
     })
 }
 
@@ -69,4 +73,8 @@ fn put_init(out: &mut Answer, init: &Init) {
     out.print(&init.preferred);
     out.put(" exceptional ");
     out.print(&init.exceptional);
+    if let Some(login) = &init.login {
+        out.put(" login ");
+        out.put_quoted(login.as_slice());
+    }
 }

@@ -17,6 +17,8 @@ struct EmptyWorld {}
 impl World for EmptyWorld {
     ghost told = { λ _. Unit {0} };
 
+    ghost inner_is_told = { λ _ h. h };
+
     ghost search = { λ _ _. Ok 0 };
 
     ghost record_ = { λ _ _ _ _ _. Err (record { set = 1 ∷ 2 ∷ []; condition = 13; addinfo = [] }) };

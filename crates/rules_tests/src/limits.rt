@@ -1,8 +1,7 @@
-//! The limits of a connection: 3 units, 2 searches, 1500 records and 1 set. A subject of `allow` tells what was
+//! The limits of a connection of Z39.50: 3 units, 2 searches, 1500 records and 1 set. A subject of `allow` tells what was
 //! used, and what is wanted.
 
-use crate::words::number_of;
-use case_files::{Answer, NoAnswer};
+use case_files::{Answer, NoAnswer, number_of};
 use limit_rules::{Spent, Want, allow, room};
 use z_types::Limits;
 

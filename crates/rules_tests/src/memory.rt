@@ -25,7 +25,7 @@ pub(crate) fn is_answered(
         "files" => put_files(alloc, out, calls_of(alloc, words)?)?,
         "clock" => put_moments(out, MemoryClock::new(calls_of(alloc, words)?)),
         "connections" => put_connections(alloc, out, calls_of(alloc, words)?)?,
-        "refused" => put_refused(alloc, out, words),
+        "refused" => put_refused(out, diag_of(alloc, words)?),
         _ => return Ok(false),
     }
     Ok(true)
@@ -154,12 +154,20 @@ fn next_octet(accept: &mut MemoryAccept<MemorySource, MemorySink>) -> &'static s
     }
 }
 
+/// A diagnostic by its number, or that no memory was had for one.
+fn diag_of(alloc: Global, words: &str) -> Result<Result<Diag, Memory>, NoAnswer> {
+    match words {
+        "memory" => Ok(Err(Memory)),
+        "114" => {
+            let condition = Condition::UnsupportedUseAttribute;
+            Ok(Diag::bib1(alloc, condition, Text::new(alloc)))
+        }
+        _ => Err(NoAnswer::Misspelt),
+    }
+}
+
 /// What the answer is by a diagnostic, or where it had no memory.
-fn put_refused(alloc: Global, out: &mut Answer, words: &str) {
-    let diag = match words {
-        "memory" => Err(Memory),
-        _ => Diag::bib1(alloc, Condition::UnsupportedUseAttribute, Text::new(alloc)),
-    };
+fn put_refused(out: &mut Answer, diag: Result<Diag, Memory>) {
     let answer: TargetAnswer<u32> = TargetAnswer::refused(diag);
     match answer {
         TargetAnswer::Memory => out.put("memory"),

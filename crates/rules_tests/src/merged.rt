@@ -1,7 +1,7 @@
 //! The records of several legs as one result set. Its subjects are the hits of each leg.
 
-use crate::words::{number_of, numbers_of};
-use case_files::{Answer, NoAnswer};
+use crate::words::numbers_of;
+use case_files::{Answer, NoAnswer, number_of};
 use multi_merge::{locate, total};
 use std::alloc::Global;
 use z_types::MOST_LEGS;

@@ -1,8 +1,8 @@
 //! The smallest route, and parts that make no route.
 
 use crate::databases::put_address;
-use crate::words::{number_of, numbers_of};
-use case_files::{Answer, NoAnswer};
+use crate::words::numbers_of;
+use case_files::{Answer, NoAnswer, number_of};
 use route_config::{Group, Route, RouteParts, database_named, first_address};
 use std::alloc::Global;
 use z_types::{List, Memory, Text};
@@ -71,7 +71,10 @@ fn with_group(alloc: Global, words: &str) -> Result<RouteParts, NoAnswer> {
     let Some((places, name)) = words.split_once(" named ") else {
         return Err(NoAnswer::Misspelt);
     };
-    let targets = numbers_of(alloc, places.strip_prefix("of").unwrap_or(""))?;
+    let Some(places) = places.strip_prefix("of") else {
+        return Err(NoAnswer::Misspelt);
+    };
+    let targets = numbers_of(alloc, places)?;
     let mut parts = RouteParts::smallest(alloc)?;
     parts.groups.push(Group {
         name: Text::copy_of(alloc, name.trim_matches('\'').as_bytes())?,

@@ -1,13 +1,8 @@
 //! Numbers as words.
 
-use case_files::NoAnswer;
+use case_files::{NoAnswer, number_of};
 use std::alloc::Global;
 use z_types::List;
-
-/// A number.
-pub(crate) fn number_of(word: &str) -> Result<u32, NoAnswer> {
-    word.parse().or(Err(NoAnswer::Misspelt))
-}
 
 /// Numbers, a space between each two.
 pub(crate) fn numbers_of(alloc: Global, words: &str) -> Result<List<u32>, NoAnswer> {

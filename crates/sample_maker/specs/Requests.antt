@@ -17,7 +17,7 @@ bib1_attributes = 1 ∷ 2 ∷ 840 ∷ 10003 ∷ 3 ∷ 1 ∷ []
 abbrev pub xml : List ℕ
 xml = 1 ∷ 2 ∷ 840 ∷ 10003 ∷ 5 ∷ 109 ∷ 10 ∷ []
 
--- versions 1 to 3, the options 0 to 14, and the largest units
+-- versions 1 to 3, the options 0 to 14, the largest units, and no login
 abbrev pub init_request : Request
 init_request = Init (record {
   ref_id = None;
@@ -25,6 +25,7 @@ init_request = Init (record {
   options = 32767;
   preferred = most_unit_octets;
   exceptional = most_unit_octets;
+  login = None;
 })
 
 -- Use of bib-1 with the value 4, title (ANSI/NISO Z39.50-2003, Appendix ATR)

@@ -38,6 +38,7 @@ pub(crate) fn init_request() -> Request
         options: OPTIONS,
         preferred: MOST_UNIT_OCTETS,
         exceptional: MOST_UNIT_OCTETS,
+        login: None,
     })
 }
 

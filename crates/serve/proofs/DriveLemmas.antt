@@ -20,10 +20,10 @@ use Rattle.front_conn.specs.steps.States.{ConnectionState}
 use Rattle.front_conn.specs.steps.Steps.{StepsFrom, answering_of}
 use Rattle.conn_costs.specs.steps.Conns.{dues_on}
 use Rattle.conn_costs.specs.steps.Laws.{CostsNothing, PaysOn, StepsMeet, StepsOweFew, StepsPay}
-use Rattle.serve.specs.steps.Rounds.{GoesSo}
-use Rattle.serve.proofs.LeftLemmas.{IsLeftBy, over-left}
-use Rattle.serve.proofs.RoundLemmas.{goes-nowhere, so-on, step-so}
-use Rattle.serve.proofs.ServingLemmas.{EndsSo, step-memory, step-went}
+use Rattle.conn_served.specs.steps.Rounds.{GoesSo}
+use Rattle.conn_served.proofs.LeftLemmas.{IsLeftBy, over-left}
+use Rattle.conn_served.proofs.RoundLemmas.{goes-nowhere, so-on, step-so}
+use Rattle.conn_served.proofs.ServingLemmas.{EndsSo, step-memory, step-went}
 
 -- ---- a step behind which the request is still in work
 

@@ -1,9 +1,3 @@
-mod WrittenLemmas
-mod ServingLemmas
-mod LeftLemmas
-mod MarkLemmas
-mod RoundLemmas
 mod DriveLemmas
-mod SeatLemmas
 mod WorkedCosts
 pub mod WorkingLemmas

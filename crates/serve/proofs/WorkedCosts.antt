@@ -6,9 +6,9 @@ use Rattle.route_config.specs.declared.route.PoolNumbers.{PoolNumbers}
 use Rattle.conn_costs.specs.steps.Growth.{RisesEnough}
 use Rattle.conn_costs.specs.steps.Ledgers.{Cost}
 use Rattle.conn_costs.proofs.GrowthLemmas.{as-both, enough-both}
-use Rattle.serve.specs.Costs.{AreMarksOf, ArePaid, HaveCauses, Tally, needed, tallied, undialled}
+use Rattle.conn_served.specs.Costs.{AreMarksOf, ArePaid, HaveCauses, Tally, needed, tallied, undialled}
 use Rattle.serve.specs.Working.{HaveCost, needed_by, undialled_by}
-use Rattle.serve.specs.declared.serving.Served.{Served}
+use Rattle.conn_served.specs.declared.served.Served.{Served}
 
 abbrev no_cost : Cost
 no_cost = record { dials = 0; searches = 0; gones = 0; faults = 0; booked = 0; opens = 0 }

@@ -9,8 +9,8 @@ use Rattle.gw_outside.specs.declared.accepts.Accepted.TheVariants.{Connection, E
 use Rattle.gw_outside.specs.declared.sinks.Sink as to
 use Rattle.gw_outside.specs.declared.sources.Source as from
 use Rattle.gw_outside.specs.Accepts.{AcceptFits, IsNewConnection}
-use Rattle.serve.specs.Serving.{IsServed, streams}
-use Rattle.serve.specs.declared.serving.Served.{Served}
+use Rattle.conn_served.specs.Serving.{IsServed, streams}
+use Rattle.conn_served.specs.declared.served.Served.{Served}
 use Rattle.serve.specs.Working.{AreTaken, HasWorked, IsListed, WorkerView}
 
 -- ---- lists

@@ -10,9 +10,9 @@ use Rattle.gw_outside.specs.declared.sinks.Sink as to
 use Rattle.gw_outside.specs.declared.sources.Source as from
 use Rattle.gw_outside.specs.Accepts.{IsNewConnection}
 use Rattle.conn_costs.specs.steps.Numbers.{Caused}
-use Rattle.serve.specs.Costs.{AreMarksOf, AreMet, ArePaid, Tally, needed, undialled}
-use Rattle.serve.specs.Serving.{IsServed, streams}
-use Rattle.serve.specs.declared.serving.Served.{Served}
+use Rattle.conn_served.specs.Costs.{AreMarksOf, AreMet, ArePaid, Tally, needed, undialled}
+use Rattle.conn_served.specs.Serving.{IsServed, streams}
+use Rattle.conn_served.specs.declared.served.Served.{Served}
 
 -- what came of a worker's connections so far; and of its acceptor, where it tells them, how many connections are left, those that
 -- were handed back, and how many are out

@@ -2,10 +2,9 @@
 //! after another and serves each, over a door to the pool that all workers share.
 #![tactic(auto)]
 
-mod clocks;
 mod rounds;
 mod serving;
 mod working;
 
-pub use serving::{Served, serve_connection};
+pub use serving::serve_connection;
 pub use working::{Worked, Worker, work};

@@ -3,10 +3,10 @@
 
 ghost use Rattle.std.specs.Prelude.{◌≡◌, ℕ, None};
 ghost use Rattle.route_config.specs.declared.route.Route.{Route};
-ghost use Rattle.serve.specs.Serving.{SinkView, SourceView, Streams, sink_view, source_view, streams};
-ghost use Rattle.serve.specs.Runs.{IsCalm};
-ghost use Rattle.serve.specs.steps.Rounds.{IsRound, IsWritten};
-ghost use Rattle.serve.specs.steps.Serving.{GoesOn, IsIdle, IsServing, IsWrittenOut};
+ghost use Rattle.conn_served.specs.Serving.{SinkView, SourceView, Streams, sink_view, source_view, streams};
+ghost use Rattle.conn_served.specs.Runs.{IsCalm};
+ghost use Rattle.conn_served.specs.steps.Rounds.{IsRound, IsWritten};
+ghost use Rattle.conn_served.specs.steps.Serving.{GoesOn, IsIdle, IsServing, IsWrittenOut};
 ghost use Rattle.front_conn.specs.steps.Drives.{IsInWork, conn_at};
 ghost use Rattle.front_conn.specs.steps.States.{IsConnOf};
 ghost use Rattle.front_conn.specs.steps.Steps.{NothingWaits};

@@ -2,34 +2,25 @@
 
 ghost use Rattle.std.specs.Prelude.{◌≡◌};
 ghost use Rattle.front_session.specs.Sessions.{new_session};
-ghost use Rattle.serve.specs.Costs.{AreMarksOf, ArePaid, HaveCauses, tally_of, undialled};
-ghost use Rattle.serve.specs.Serving.{IsServed, streams};
-ghost use Rattle.serve.specs.Runs.{IsRun};
-ghost use Rattle.serve.specs.Seats.{AreGivenBack};
-ghost use Rattle.serve.specs.steps.Rounds.{ComesTo};
+ghost use Rattle.conn_served.specs.Costs.{AreMarksOf, ArePaid, HaveCauses, tally_of, undialled};
+ghost use Rattle.conn_served.specs.Serving.{IsServed, streams};
+ghost use Rattle.conn_served.specs.Runs.{IsRun};
+ghost use Rattle.conn_served.specs.Seats.{AreGivenBack};
+ghost use Rattle.conn_served.specs.steps.Rounds.{ComesTo};
 ghost use Rattle.front_conn.specs.steps.Drives.{conn_at, outside_of};
 ghost use Rattle.front_conn.specs.steps.States.{nothing_yet};
 
-use crate::clocks::Ascending;
 use crate::rounds::go_on;
 use conn_costs::{costs_nothing, marks_are_met, pays_on, starts_costless};
 use conn_seats::{connections_give_back, steps_keep_seats};
+use conn_served::{Ascending, Served};
 use front_conn::{Conn, stands_at_start};
 use gw_outside::{Backend, Clock, Sink, Source};
 use pool_sets::Door;
 use route_config::Route;
 use std::alloc::Global;
 use std::sync::Wait;
-use z_types::{End, List, Mark, Sitting, World};
-
-/// What came of a connection.
-#[derive(Debug, Drop)]
-pub struct Served {
-    /// Under which mark each request was answered, in their order.
-    pub marks: List<Mark>,
-    /// How it ended.
-    pub end: End,
-}
+use z_types::{End, Sitting, World};
 
 /// Serves a connection until it ends: reads what the client sends, and writes each reply whole before
 /// it reads on. A request is begun by a step, and then driven until it is answered, with all its legs in

@@ -2,11 +2,12 @@
 
 ghost use Rattle.std.specs.Prelude.{◌≡◌, ◌≤◌};
 ghost use Rattle.z_types.specs.Counts.{Rose};
-ghost use Rattle.serve.specs.Costs.{tally_of};
-ghost use Rattle.serve.specs.Seats.{AreGivenBack};
+ghost use Rattle.conn_served.specs.Costs.{tally_of};
+ghost use Rattle.conn_served.specs.Seats.{AreGivenBack};
 ghost use Rattle.serve.specs.Working.{HasWorked, HaveCost, IsNoneLeft, worker_view};
 
-use crate::{Served, serve_connection};
+use crate::serve_connection;
+use conn_served::Served;
 use gw_outside::{Accept, Accepted, Backend, Clock};
 use pool_sets::Door;
 use route_config::Route;

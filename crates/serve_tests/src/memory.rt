@@ -24,6 +24,8 @@ struct Scarce {
 impl World for Scarce {
     ghost told = { ⟦<TestWorld as World>⟧.told };
 
+    ghost inner_is_told = { ⟦<TestWorld as World>⟧.inner_is_told };
+
     ghost search = { ⟦<TestWorld as World>⟧.search };
 
     ghost record_ = { ⟦<TestWorld as World>⟧.record_ };

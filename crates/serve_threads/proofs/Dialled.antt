@@ -10,8 +10,8 @@ use Rattle.conn_costs.specs.steps.Growth.{last64}
 use Rattle.conn_costs.specs.steps.Numbers.{full, gone, link, silent}
 use Rattle.pool_locked.specs.Books.{FullOpens, counted}
 use Rattle.serve.specs.Working.{AreAllMarksOf, HaveCost, needed_by, undialled_by}
-use Rattle.serve.specs.Costs.{Tally, needed, undialled}
-use Rattle.serve.specs.declared.serving.Served.{Served}
+use Rattle.conn_served.specs.Costs.{Tally, needed, undialled}
+use Rattle.conn_served.specs.declared.served.Served.{Served}
 use Rattle.serve.specs.declared.working.Worker.{Worker}
 use Rattle.serve_threads.specs.Serving.{AreDialsBelowEnd, HaveBackendCauses, IsFullCaused, dialled_by, fulls_in}
 use Rattle.serve_threads.specs.steps.Jobs.{Amounts, amounts, tally_with}

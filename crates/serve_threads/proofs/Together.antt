@@ -12,7 +12,7 @@ use Rattle.conn_costs.specs.steps.Growth.{last64}
 use Rattle.pool_locked.specs.Books.{FullOpens, counted}
 use Rattle.std.proofs.lemmas.List.{append_cancel_left}
 use Rattle.serve.specs.Working.{AreAllMarksOf}
-use Rattle.serve.specs.declared.serving.Served.{Served}
+use Rattle.conn_served.specs.declared.served.Served.{Served}
 use Rattle.serve.specs.declared.working.Worked.{Worked}
 use Rattle.serve.specs.declared.working.Worked.TheVariants.{Ended, Failed, Memory}
 use Rattle.serve.specs.declared.working.Worker.{Worker}

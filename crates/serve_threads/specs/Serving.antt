@@ -14,7 +14,7 @@ use Rattle.conn_costs.specs.steps.Conns.{marks_of}
 use Rattle.conn_costs.specs.steps.Growth.{RisesEnough, last64}
 use Rattle.conn_costs.specs.steps.Numbers.{full, gone, link, silent}
 use Rattle.serve.specs.Working.{AreAllMarksOf, HasWorked, IsNoneLeft, WorkerView, needed_by, undialled_by, worker_view}
-use Rattle.serve.specs.declared.serving.Served.{Served}
+use Rattle.conn_served.specs.declared.served.Served.{Served}
 use Rattle.serve.specs.declared.working.Worked.{Worked}
 use Rattle.serve.specs.declared.working.Worked.TheVariants.{Ended, Failed}
 use Rattle.serve.specs.declared.working.Worker.{Worker}

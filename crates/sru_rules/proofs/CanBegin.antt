@@ -170,7 +170,7 @@ get_is_retrieval = of_reading
 -- ---- the works
 
 pub search_can_begin : SearchCanBegin
-search_can_begin retrieval is = ((is.few_legs, omega arith), (is.askable, refl, refl))
+search_can_begin retrieval is = ((is.few_legs, omega arith), (is.askable, refl, refl, tt))
 
 -- a fetch follows where neither answer comes first
 follows : (behind nothing : Bool) (a b : SruAnswer) (hits : List ℕ) (x y : Work)
@@ -208,5 +208,5 @@ fetch_can_begin route retrieval hits sound is each has =
     let inside = ltb-false (max (total hits) 1) asked.start neither.0 in
     let counts = within_count asked.start asked.maximum (total hits) inside is.from_one neither.1 in (
       (is.few_legs, each, is.from_one, counts.0, omega (arith, is.few_records, min-le_left asked.maximum (total hits + 1 - asked.start)), counts.1),
-      (is.askable, schema_short route.schemas asked (slice_get route.schemas asked.schema) refl sound.items.schemas),
+      (is.askable, schema_short route.schemas asked (slice_get route.schemas asked.schema) refl sound.items.schemas, tt),
     )

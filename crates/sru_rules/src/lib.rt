@@ -1,6 +1,6 @@
 //! What an HTTP client is answered (SRU 1.2, searchRetrieve by GET), as definitions: by the octets that
 //! it sends, the route and what the targets mean alone. The answers to a client of either kind, with
-//! the laws that octets have an answer, one answer and one end.
+//! the laws that no octets are without an answer, and that they have one answer and one end.
 #![tactic(auto)]
 
 mod laws;

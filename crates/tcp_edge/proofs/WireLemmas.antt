@@ -1,7 +1,8 @@
 -- A wire to test targets within one whose links may fail at any time (this project's own)
 use Rattle.std.proofs.Common.{◌≡◌, ◌∙◌, ℕ, Bool, false, List, Option, None, Some, refl, sym, subst, arith}
 use Rattle.z_types.specs.declared.address.Address.{Address}
-use Rattle.z_types.specs.declared.address.Address.TheVariants.{Test, Tcp}
+use Rattle.z_types.specs.declared.address.Address.TheVariants.{Test, Tcp, Login}
+use Rattle.z_types.specs.declared.address.Site.TheVariants as site
 use Rattle.z_types.specs.declared.requests.Request.{Request}
 use Rattle.z_types.specs.declared.world.World as world
 use Rattle.gw_outside.specs.declared.links.Linked as linked
@@ -36,6 +37,8 @@ happens_untold unit h sent.Memory = tt
 at_unsteady : (h : Happened) (address : Address) → at_address (unsteady h) address ≡ at_address h address
 at_unsteady h (Test target) = refl
 at_unsteady h (Tcp host port) = refl
+at_unsteady h (Login (site.Test target) login) = refl
+at_unsteady h (Login (site.Tcp host port) login) = refl
 
 module _ {W : Type 0} (w : world.Ghosts W) where
   takes_unsteady : (h : Happened) (found : List NamedSet) (request : Request) (old new : Peer) → TakesRequest w h.steady found request old new
@@ -48,6 +51,7 @@ module _ {W : Type 0} (w : world.Ghosts W) where
     step = t.step;
     owed = t.owed;
     address = t.address;
+    login = t.login;
   }
 
   peer_unsteady : (unit : List ℕ) (h : Happened) (old new : Option Peer) → PeerTakes w unit h old new → PeerTakes w unit (unsteady h) old new
@@ -93,6 +97,7 @@ module _ {K L : Type 0} (k : linked.Ghosts K) (l : linked.Ghosts L) where
       → IsNewLink w k exact address counts old → IsNewLink w l false address others new
   new_unsteady w exact address counts others old new a p d e s = record {
     arrived = a ∙ s.arrived;
+    by_itself = s.by_itself;
     peer = subst (λ peer. IsNewPeer (w.told address) address peer) (sym p) s.peer;
     told = λ t. absurd cc;
     number = λ t. absurd cc;

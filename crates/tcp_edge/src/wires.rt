@@ -214,7 +214,7 @@ impl<R: Net<Stream = TcpStream> + time::Clock, L: Log> Wire<TestWorld> for EdgeW
     #[tactic(auto, using(crate::proofs::WireLemmas::same_self))]
     fn dial(&mut self, alloc: Global, address: &Address) -> Dialled<EdgeLink> {
         match address {
-            Address::Test(_) => self.dial_test(alloc, address),
+            Address::Test(_) | Address::Login(_, _) => self.dial_test(alloc, address),
             Address::Tcp(host, port) => self.dial_host(alloc, host, *port),
         }
     }

@@ -32,9 +32,4 @@ impl<'a> Case<'a> {
             .or(value_in(self.head, name))
             .or(value_in(self.shared, name))
     }
-
-    /// A word, or what it stands for.
-    pub fn meaning(&self, word: &'a str) -> &'a str {
-        if word == "it" { self.it } else { word }
-    }
 }

@@ -3,6 +3,9 @@ use Rattle.std.proofs.Common.{◌≡◌, ℕ, List, [], ◌∷◌, Some, None, O
 use Rattle.std.specs.Prelude.{codes}
 use Rattle.std.specs.Fmt.{digits}
 use Rattle.z_types.specs.Tree.{leaf}
+use Rattle.z_types.specs.declared.address.Address.{Address}
+use Rattle.z_types.specs.declared.address.Address.TheVariants.{Login}
+use Rattle.z_types.specs.declared.address.Site.TheVariants as site
 use Rattle.z_types.specs.declared.key.SetKey.{SetKey}
 use Rattle.z_types.specs.declared.query.Term.TheVariants.{General}
 use Rattle.z_types.specs.declared.records.Item.TheVariants.{Record, Surrogate}
@@ -10,6 +13,7 @@ use Rattle.z_types.specs.declared.records.Form.TheVariants.{Single, Octets}
 use Rattle.z_types.specs.declared.scan.ScanAsk.{ScanAsk}
 use Rattle.z_types.specs.Bib1.{bib1}
 use Rattle.z_types.specs.declared.conditions.Condition.TheVariants.{TemporarySystemError, ElementSetNameNotValid, RecordSyntaxNotSupported}
+use Rattle.test_target.specs.World.{record_of, search_of}
 use Rattle.test_target.specs.Searches.{search_at}
 use Rattle.test_target.specs.Records.{record_at}
 use Rattle.test_target.specs.Syntaxes.{xml, sutrs}
@@ -69,3 +73,15 @@ first_at_the_front = refl
 past_the_end : position_among (scan_for (codes "zz")) 1 ≡ None
 unfolding scan_for
 past_the_end = refl
+
+-- with the login of a VisibleString `a`, whose octets sum to 124, the target 0 answers as the target 5
+with_login : Address
+with_login = Login (site.Test 0) (26 ∷ 1 ∷ 97 ∷ [])
+
+found_with_login : search_of with_login (title (codes "a")) ≡ Ok 3
+unfolding title with_login
+found_with_login = refl
+
+first_with_login : record_of with_login (title (codes "a")) 1 None None ≡ Ok (Record xml Octets (codes "<r>5.Default.7</r>"))
+unfolding title with_login digits
+first_with_login = refl

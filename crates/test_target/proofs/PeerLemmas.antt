@@ -1,4 +1,7 @@
 -- The peer of a test target answers as its world says (this project's own)
+use Rattle.z_types.specs.Logins.{inside}
+use Rattle.z_types.specs.declared.address.Address.TheVariants.{Test}
+use Rattle.test_target.specs.World.{number_inside, search_of, record_of, scan_of}
 use Rattle.std.proofs.Common.{◌≡◌, ◌∙◌, ℕ, zero, suc, ℤ, pos, ◌+◌, ◌-◌, ◌≤◌, ◌<◌, ◌==◌, ◌&&◌, Bool, true, false, cond, not, List, [], ◌∷◌, ◌++◌, append_assoc, length, map, Option, None, Some, Result, Ok, Err, refl, sym, ap, subst, arith, min}
 use Rattle.std.specs.Prelude.{bit_and, nat_le, IfOk, OnOk}
 use Rattle.std.proofs.lemmas.Nat.{and_assoc}
@@ -180,6 +183,20 @@ search_answer ref_id (Err diag) = refl
 scan_answer : (ref_id : Option (List ℕ)) (answer : Result ScanAnswer Diag) → scan_said (scanned ref_id answer) ≡ Some answer
 scan_answer ref_id (Ok answer) = refl
 scan_answer ref_id (Err diag) = refl
+
+-- what the world says of a target inside a login is what the target of that number answers
+pub search_inside : (login : Option (List ℕ)) (n : ℕ) (key : SetKey) → search_of (inside login (Test n)) key ≡ search_at (number_inside login n) key
+search_inside None n key = refl
+search_inside (Some login) n key = refl
+
+pub record_inside : (login : Option (List ℕ)) (n : ℕ) (key : SetKey) (position : ℕ) (syntax element : Option (List ℕ))
+    → record_of (inside login (Test n)) key position syntax element ≡ record_at (number_inside login n) key position syntax element
+record_inside None n key position syntax element = refl
+record_inside (Some login) n key position syntax element = refl
+
+pub scan_inside : (login : Option (List ℕ)) (n : ℕ) (dbs : List (List ℕ)) (ask : ScanAsk) → scan_of (inside login (Test n)) dbs ask ≡ scan_at (number_inside login n) dbs ask
+scan_inside None n dbs ask = refl
+scan_inside (Some login) n dbs ask = refl
 
 -- the sets of other names stay at every Search
 search_others : (n : ℕ) (search : Search) (query : Asked RpnQuery) (sets : List NamedSet)

@@ -39,6 +39,7 @@ agreed init = record {
   options = bit_and init.options own_options;
   preferred = min init.preferred most_unit_octets;
   exceptional = min init.exceptional most_unit_octets;
+  login = None;
 }
 
 -- ---- Search

@@ -76,7 +76,7 @@ pub(crate) fn letter_modulus(letter: u8) -> u32
 }
 
 /// The sum of octets modulo 7.
-fn sum_mod7(octets: &[u8]) -> u32
+pub(crate) fn sum_mod7(octets: &[u8]) -> u32
     ensures value { result ≡ sum octets.now % 7 }
     ensures bound { result < 7 }
 {

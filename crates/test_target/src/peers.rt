@@ -1,27 +1,32 @@
 //! The target's end of a link.
 
-ghost use Rattle.std.specs.Prelude.{◌≡◌, [], IfOk, OnOk, true};
+ghost use Rattle.std.specs.Prelude.{◌≡◌, [], None, IfOk, OnOk, true};
+ghost use Rattle.z_types.specs.Logins.{inside};
+ghost use Rattle.test_target.specs.World.{number_inside};
 ghost use Rattle.z_types.specs.declared.replies.Reply.TheVariants as GivenReply;
 ghost use Rattle.z_types.specs.declared.address.Address.TheVariants as At;
-ghost use Rattle.gw_outside.specs.Peers.{IsPeerStep, held};
+ghost use Rattle.gw_outside.specs.Peers.{IsPeerStep, held, login_after};
 ghost use Rattle.std.specs.Option.{option_copied};
 ghost use Rattle.test_target.specs.Peer.{agreed, without, reply_to, sets_after, close_reply};
 
 use crate::presents::present_reply;
 use crate::scan_replies::scan_reply;
 use crate::searches::search_reply;
-use crate::worlds::TestWorld;
+use crate::worlds::{TestWorld, number_inside};
 use std::alloc::Global;
 use z_types::{
     Close, Init, MOST_UNIT_OCTETS, Memory, OWN_OPTIONS, OWN_VERSIONS, Reply, Request, SetKey, Text,
     World, copy,
 };
 
-/// The peer of a test target: its number, and the result sets that it holds.
+/// The peer of a test target: its number, the login of the last Init, if that had one, and the result sets
+/// that it holds.
 #[derive(Drop)]
 pub struct Peer {
     /// The target's number.
     pub target: u32,
+    /// The login by which it answers.
+    pub login: Option<Text>,
     /// The sets, each under its name.
     pub sets: Vec<(Text, SetKey)>,
 }
@@ -30,10 +35,12 @@ impl Peer {
     /// The peer of a target that holds no set.
     pub fn new(alloc: Global, target: u32) -> Peer
         ensures target { result.target ≡ target }
+        ensures login { result.login ≡ None }
         ensures sets { result.sets.items ≡ [] }
     {
         Peer {
             target,
+            login: None,
             sets: Vec::new(alloc),
         }
     }
@@ -53,6 +60,7 @@ impl Peer {
     /// Forgets the set of a name.
     pub(crate) fn remove(&mut self, name: &Text)
         ensures target { self.new.target ≡ self.old.target }
+        ensures login { self.new.login ≡ self.old.login }
         ensures sets { self.new.sets.items ≡ without name.now self.old.sets.items }
     {
         self.sets.retain(|set| set.0 != *name);
@@ -62,32 +70,51 @@ impl Peer {
 /// The reply of a peer to a request, and what it holds then: a step of a target that answers as the world
 /// of the test targets says.
 pub fn peer_step(alloc: Global, peer: &mut Peer, request: &Request) -> Result<Reply, Memory>
-    ensures reply { IfOk result
-        (λ reply. reply ≡ reply_to peer.old.target peer.old.sets.items request.now) }
+    ensures reply { IfOk result (λ reply. reply
+        ≡ reply_to (number_inside peer.old.login peer.old.target) peer.old.sets.items request.now) }
     ensures sets { OnOk result (peer.new.sets.items
-        ≡ sets_after peer.old.target peer.old.sets.items request.now) }
+        ≡ sets_after (number_inside peer.old.login peer.old.target)
+        peer.old.sets.items request.now) }
     ensures step { IfOk result (λ reply. IsPeerStep ⟦<TestWorld as World>⟧
-        (At.Test peer.old.target) request.now peer.old.sets.items peer.new.sets.items reply) }
+        (inside peer.old.login (At.Test peer.old.target))
+        request.now peer.old.sets.items peer.new.sets.items reply) }
+    ensures login { IfOk result
+        (λ reply. peer.new.login ≡ login_after peer.old.login request.now reply) }
     ensures target { peer.new.target ≡ peer.old.target }
 {
-    answer(alloc, peer, request)
+    let number = number_inside(peer.target, &peer.login)?;
+    answer(alloc, peer, number, request)
 }
 
-/// The reply by the kind of the request.
-fn answer(alloc: Global, peer: &mut Peer, request: &Request) -> Result<Reply, Memory>
+/// The reply by the kind of the request, of a target that answers as that of this number.
+fn answer(alloc: Global, peer: &mut Peer, number: u32, request: &Request) -> Result<Reply, Memory>
     ensures reply { IfOk result
-        (λ reply. reply ≡ reply_to peer.old.target peer.old.sets.items request.now) }
+        (λ reply. reply ≡ reply_to number peer.old.sets.items request.now) }
     ensures sets { OnOk result (peer.new.sets.items
-        ≡ sets_after peer.old.target peer.old.sets.items request.now) }
+        ≡ sets_after number peer.old.sets.items request.now) }
+    ensures login { IfOk result
+        (λ reply. peer.new.login ≡ login_after peer.old.login request.now reply) }
     ensures target { peer.new.target ≡ peer.old.target }
 {
     match request {
-        Request::Init(init) => init_reply(init),
-        Request::Search(search) => search_reply(alloc, peer, search),
-        Request::Present(present) => present_reply(alloc, peer, present),
-        Request::Scan(scan) => scan_reply(alloc, peer.target, scan),
+        Request::Init(init) => init_taken(peer, init),
+        Request::Search(search) => search_reply(alloc, peer, number, search),
+        Request::Present(present) => present_reply(alloc, peer, number, present),
+        Request::Scan(scan) => scan_reply(alloc, number, scan),
         Request::Close(close) => close_reply(close),
     }
+}
+
+/// The reply to an Init, by whose login the peer answers from now on.
+fn init_taken(peer: &mut Peer, init: &Init) -> Result<Reply, Memory>
+    ensures reply { IfOk result (λ reply. reply ≡ GivenReply.Init (agreed init.now) true) }
+    ensures login { OnOk result (peer.new.login ≡ init.now.login) }
+    ensures target { peer.new.target ≡ peer.old.target }
+    ensures sets { peer.new.sets ≡ peer.old.sets }
+{
+    let reply = init_reply(init)?;
+    peer.login = copy(&init.login)?;
+    Ok(reply)
 }
 
 /// The reply to an Init, which is accepted.
@@ -101,6 +128,7 @@ fn init_reply(init: &Init) -> Result<Reply, Memory>
             options: init.options & OWN_OPTIONS,
             preferred: init.preferred.min(MOST_UNIT_OCTETS as u32),
             exceptional: init.exceptional.min(MOST_UNIT_OCTETS as u32),
+            login: None,
         },
         result: true,
     })

@@ -21,15 +21,20 @@ use z_types::{
 /// The most records of a reply.
 const MOST_GIVEN: u32 = 5;
 
-/// The reply to a Present.
-pub(crate) fn present_reply(alloc: Global, peer: &Peer, present: &Present) -> Result<Reply, Memory>
+/// The reply to a Present of a target that answers as that of this number.
+pub(crate) fn present_reply(
+    alloc: Global,
+    peer: &Peer,
+    number: u32,
+    present: &Present,
+) -> Result<Reply, Memory>
     ensures { IfOk result (λ reply. reply
-        ≡ present_reply peer.now.target peer.now.sets.items present.now present.now.element) }
+        ≡ present_reply number peer.now.sets.items present.now present.now.element) }
 {
     match &present.element {
         Asked::Bad(diag) => Ok(present_failed(copy(&present.ref_id)?, copy(diag)?)),
         Asked::Good(element) => match peer.held(&present.set_name) {
-            Some(key) => set_reply(alloc, peer.target, present, element.as_ref(), key),
+            Some(key) => set_reply(alloc, number, present, element.as_ref(), key),
             None => not_held(alloc, present),
         },
     }

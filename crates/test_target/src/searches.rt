@@ -9,19 +9,25 @@ use gw_outside::TargetAnswer;
 use std::alloc::Global;
 use z_types::{Asked, Body, Diag, Memory, Reply, RpnQuery, Search, SetKey, Text, copy};
 
-/// The reply to a Search, which puts its name or removes it.
-pub(crate) fn search_reply(alloc: Global, peer: &mut Peer, search: &Search) -> Result<Reply, Memory>
+/// The reply to a Search of a target that answers as that of this number; it puts its name or removes it.
+pub(crate) fn search_reply(
+    alloc: Global,
+    peer: &mut Peer,
+    number: u32,
+    search: &Search,
+) -> Result<Reply, Memory>
     ensures reply { IfOk result
-        (λ reply. reply ≡ search_reply peer.old.target search.now search.now.query) }
+        (λ reply. reply ≡ search_reply number search.now search.now.query) }
     ensures sets { OnOk result (peer.new.sets.items ≡ sets_after_search
-        peer.old.target search.now search.now.query peer.old.sets.items) }
+        number search.now search.now.query peer.old.sets.items) }
     ensures target { peer.new.target ≡ peer.old.target }
+    ensures login { peer.new.login ≡ peer.old.login }
 {
     let ref_id = copy(&search.ref_id)?;
     peer.remove(&search.set_name);
     match &search.query {
         Asked::Bad(diag) => Ok(search_failed(ref_id, copy(diag)?)),
-        Asked::Good(query) => match search_at(alloc, peer.target, &search.dbs, query) {
+        Asked::Good(query) => match search_at(alloc, number, &search.dbs, query) {
             TargetAnswer::Good(hits) => {
                 hold(peer, search, query)?;
                 Ok(found(ref_id, hits))
@@ -39,6 +45,7 @@ fn hold(peer: &mut Peer, search: &Search, query: &RpnQuery) -> Result<(), Memory
       record { dbs = search.now.dbs; query = query.now },
     ) ∷ peer.old.sets.items) }
     ensures target { peer.new.target ≡ peer.old.target }
+    ensures login { peer.new.login ≡ peer.old.login }
 {
     let key = SetKey {
         dbs: copy(&search.dbs)?,

@@ -1,6 +1,7 @@
 //! The built-in test targets as a world that can be asked directly.
 
-ghost use Rattle.std.specs.Prelude.{◌≡◌, IfOk, []};
+ghost use Rattle.std.specs.Prelude.{◌≡◌, IfOk, [], Some};
+ghost use Rattle.test_target.specs.World.{number_at, number_inside};
 ghost use Rattle.std.specs.Option.{option_or};
 ghost use Rattle.z_types.specs.Bib1.{bib1};
 ghost use Rattle.z_types.specs.declared.conditions.Condition.TheVariants.{DatabaseUnavailable};
@@ -11,14 +12,14 @@ ghost use Rattle.test_target.specs.Scans.{scan_at};
 
 use crate::databases::database_fault;
 use crate::hits::{find_fault, hits, use_fault};
-use crate::operands::use_of;
+use crate::operands::{sum_mod7, use_of};
 use crate::records::record_at;
 use crate::scans::scan_answer;
 use gw_outside::{TargetAnswer, Targets};
 use std::alloc::Global;
 use z_types::{
     Address, Attr, Condition, Diag, Item, List, Memory, Oid, Rpn, RpnQuery, ScanAnswer, ScanAsk,
-    Text, World,
+    Site, Text, World,
 };
 
 /// The built-in test targets, each an unchanging database. No other target can be asked here: its
@@ -28,9 +29,11 @@ pub struct TestWorld;
 
 impl World for TestWorld {
     ghost use Rattle.test_target.specs.World.{told_of, search_of, record_of, scan_of};
-    ghost use Rattle.test_target.specs.WorldLaws.{hits_are_counts, whole_is_not_gone};
+    ghost use Rattle.test_target.specs.WorldLaws.{hits_are_counts, inner_is_told, whole_is_not_gone};
 
     ghost told = { told_of };
+
+    ghost inner_is_told = { inner_is_told };
 
     ghost search = { search_of };
 
@@ -51,9 +54,10 @@ impl Targets for TestWorld {
         dbs: &List<Text>,
         query: &RpnQuery,
     ) -> TargetAnswer<u32> {
-        match address {
-            Address::Test(target) => search_at(alloc, *target, dbs, query),
-            Address::Tcp(_, _) => TargetAnswer::refused(unavailable(alloc)),
+        match number_at(address) {
+            Ok(Some(target)) => search_at(alloc, target, dbs, query),
+            Ok(None) => TargetAnswer::refused(unavailable(alloc)),
+            Err(_) => TargetAnswer::Memory,
         }
     }
 
@@ -67,11 +71,10 @@ impl Targets for TestWorld {
         syntax: Option<&Oid>,
         element: Option<&Text>,
     ) -> TargetAnswer<Item> {
-        match address {
-            Address::Test(target) => {
-                record_at(alloc, *target, dbs, query, position, syntax, element)
-            }
-            Address::Tcp(_, _) => TargetAnswer::refused(unavailable(alloc)),
+        match number_at(address) {
+            Ok(Some(target)) => record_at(alloc, target, dbs, query, position, syntax, element),
+            Ok(None) => TargetAnswer::refused(unavailable(alloc)),
+            Err(_) => TargetAnswer::Memory,
         }
     }
 
@@ -82,10 +85,44 @@ impl Targets for TestWorld {
         dbs: &List<Text>,
         ask: &ScanAsk,
     ) -> TargetAnswer<ScanAnswer> {
-        match address {
-            Address::Test(target) => scan_at(alloc, *target, dbs, ask),
-            Address::Tcp(_, _) => TargetAnswer::refused(unavailable(alloc)),
+        match number_at(address) {
+            Ok(Some(target)) => scan_at(alloc, target, dbs, ask),
+            Ok(None) => TargetAnswer::refused(unavailable(alloc)),
+            Err(_) => TargetAnswer::Memory,
         }
+    }
+}
+
+/// The number as which a target answers, where it is a built-in one. For one past the numbers of 32 bits
+/// there is no memory.
+fn number_at(address: &Address) -> Result<Option<u32>, Memory>
+    ensures { IfOk result (λ number. number ≡ number_at address.now) }
+{
+    match address {
+        Address::Test(target) => Ok(Some(*target)),
+        Address::Tcp(_, _) => Ok(None),
+        Address::Login(Site::Test(target), login) => Ok(Some(number_with(*target, login)?)),
+        Address::Login(Site::Tcp(_, _), _) => Ok(None),
+    }
+}
+
+/// The number as which a target answers inside a login.
+fn number_with(target: u32, login: &Text) -> Result<u32, Memory>
+    ensures { IfOk result (λ number. number ≡ number_inside (Some login.now) target) }
+{
+    match target.checked_add(sum_mod7(login.as_slice())) {
+        Some(number) => Ok(number),
+        None => Err(Memory),
+    }
+}
+
+/// The number as which a target answers, by itself or inside a login.
+pub(crate) fn number_inside(target: u32, login: &Option<Text>) -> Result<u32, Memory>
+    ensures { IfOk result (λ number. number ≡ number_inside login.now target) }
+{
+    match login {
+        Some(login) => number_with(target, login),
+        None => Ok(target),
     }
 }
 

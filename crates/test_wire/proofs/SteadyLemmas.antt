@@ -1,7 +1,8 @@
 -- A wire that is as steady as it is said to be (this project's own)
 use Rattle.std.proofs.Common.{◌≡◌, ◌++◌, ◌∷◌, ℕ, Bool, true, List, [], Option, None, Some, refl, sym, subst}
 use Rattle.z_types.specs.declared.address.Address.{Address}
-use Rattle.z_types.specs.declared.address.Address.TheVariants.{Test, Tcp}
+use Rattle.z_types.specs.declared.address.Address.TheVariants.{Test, Tcp, Login}
+use Rattle.z_types.specs.declared.address.Site.TheVariants as site
 use Rattle.z_types.specs.declared.requests.Request.{Request}
 use Rattle.gw_outside.specs.declared.happenings.Happening.{Happening}
 use Rattle.gw_outside.specs.declared.links.Linked as linked
@@ -27,6 +28,8 @@ module _ (s : Bool) (a b : Happened) where
   asked : (address : Address) (request : Request) → IsAsked address request a b → IsAsked address request (steadily s a) (steadily s b)
   asked (Test target) request m = made target _ m
   asked (Tcp host port) request e = same e
+  asked (Login (site.Test target) login) request m = made target _ m
+  asked (Login (site.Tcp host port) login) request e = same e
 
   sent_to : (peer : Option Peer) (request : Request) → IsSentTo peer request a b → IsSentTo peer request (steadily s a) (steadily s b)
   sent_to None request e = same e
@@ -43,6 +46,8 @@ module _ (s : Bool) (a b : Happened) where
 at_steadily : (s : Bool) (h : Happened) (address : Address) → at_address (steadily s h) address ≡ at_address h address
 at_steadily s h (Test target) = refl
 at_steadily s h (Tcp host port) = refl
+at_steadily s h (Login (site.Test target) login) = refl
+at_steadily s h (Login (site.Tcp host port) login) = refl
 
 to_steadily : (s : Bool) (h : Happened) (peer : Option Peer) → to_peer (steadily s h) peer ≡ to_peer h peer
 to_steadily s h None = refl

@@ -1,5 +1,5 @@
 -- How a link with a test target goes on (this project's own)
-use Rattle.std.proofs.Common.{◌≡◌, inl, inr, ◌∙◌, ℕ, ◌^◌, ◌<◌, ◌≤◌, ◌==◌, Bool, true, false, cond, List, [], ◌∷◌, ◌++◌, map, None, Some, Result, Ok, Err, refl, sym, ap, subst, arith}
+use Rattle.std.proofs.Common.{◌≡◌, inl, inr, ◌∙◌, ℕ, ◌^◌, ◌<◌, ◌≤◌, ◌==◌, Bool, true, false, cond, List, [], ◌∷◌, ◌++◌, map, Option, None, Some, Result, Ok, Err, refl, sym, ap, subst, arith}
 use Rattle.std.specs.Prelude.{nat_lt, unwrap_or, OnOk}
 use Rattle.std.proofs.lemmas.Bool.{eqb-true, eqb-false}
 use Rattle.std.specs.BTreeMap.{is_at}
@@ -16,7 +16,7 @@ use Rattle.gw_outside.specs.declared.happenings.Happening.{Happening}
 use Rattle.gw_outside.specs.declared.links.Linked as linked
 use Rattle.gw_outside.specs.Counts.{Counts, Counted, WireCounts, after}
 use Rattle.gw_outside.specs.Happened.{Happened, AreSame, AreLess, AreCut, AreQuiet, IsMade, happening_after, nothing_happens, sets_found, at_address, is_cut, to_peer}
-use Rattle.gw_outside.specs.Peers.{NamedSet, AreLeft, IsPeerStep, TakesRequest, held}
+use Rattle.gw_outside.specs.Peers.{NamedSet, AreLeft, IsPeerStep, TakesRequest, held, login_after}
 use Rattle.gw_outside.specs.Wires.{IsRequestUnit, IsReplyUnit, HandsOver, IsSentTo, SendFits, SendsSteadily, SendCounts, LookFits, LooksSteadily, send_counted}
 use Rattle.gw_outside.specs.Peers as peers
 use Rattle.gw_outside.specs.declared.wires.Looked.{Looked}
@@ -25,6 +25,8 @@ use Rattle.gw_outside.specs.declared.wires.Sent.{Sent}
 use Rattle.gw_outside.specs.declared.wires.Sent.TheVariants as sent
 use Rattle.test_target.specs.declared.peers.Peer.{Peer}
 use Rattle.test_target.specs.Peer.{reply_to, sets_after}
+use Rattle.test_target.specs.World.{number_inside, told_of}
+use Rattle.z_types.specs.Logins.{inside}
 use Rattle.test_wire.specs.Happened.{Table, IsPut, happening_of, happened_in}
 use Rattle.test_wire.specs.Owed.{OwedReply, IsNextOwed}
 use Rattle.test_wire.specs.Links.{peer_of, delays_of, HasTaken, SendTakes, HasArrived, has_not_sent}
@@ -53,35 +55,49 @@ are_left happening (request.Search search) sets = λ name. inl refl
 are_left happening (request.Scan scan) sets = λ name. inl refl
 are_left happening (request.Close close) sets = λ name. inl refl
 
+-- a test target is told inside any login
+pub told_inside : (n : ℕ) (login : Option (List ℕ)) → told_of (inside login (at.Test n))
+told_inside n None = tt
+told_inside n (Some login) = tt
+
 -- one more is owed
 owed_more : (before : List OwedReply) (last : OwedReply) → map (λ o. o.reply) (before ++ last ∷ []) ≡ map (λ o. o.reply) before ++ last.reply ∷ []
 owed_more [] last = refl
 owed_more (first ∷ rest) last = ap (λ owed. first.reply ∷ owed) (owed_more rest last)
 
-module _ (happening : Happening) (req : Request) (old mid new : Peer) (before after : List OwedReply) (last : OwedReply) (answer : Reply) (t : mid.target ≡ old.target) (s : mid.sets.items ≡ sets_found happening req old.sets.items) (n : new.target ≡ mid.target) (e : last.reply ≡ answer) (a : after ≡ before ++ last ∷ []) where
+module _ (happening : Happening) (req : Request) (old mid new : Peer) (before after : List OwedReply) (last : OwedReply) (answer : Reply) (t : mid.target ≡ old.target) (k : mid.login ≡ old.login) (s : mid.sets.items ≡ sets_found happening req old.sets.items) (n : new.target ≡ mid.target) (i : new.login ≡ login_after mid.login req answer) (e : last.reply ≡ answer) (a : after ≡ before ++ last ∷ []) where
   -- a step of the peer with the sets that are found, and its reply behind those that are owed
-  pub takes : {W : Type 0} (w : world.Ghosts W) → IsPeerStep w (at.Test mid.target) req mid.sets.items new.sets.items answer
+  login_is : new.login ≡ login_after old.login req last.reply
+  login_is = i ∙ ap (λ login. login_after login req answer) k ∙ ap (login_after old.login req) (sym e)
+
+  pub takes : {W : Type 0} (w : world.Ghosts W) → IsPeerStep w (inside mid.login (at.Test mid.target)) req mid.sets.items new.sets.items answer
       → TakesRequest w true (sets_found happening req old.sets.items) req (peer_of old before) (peer_of new after)
   takes w step = record {
     left = mid.sets.items;
     answer = last.reply;
     are_left = subst (λ sets. AreLeft old.sets.items sets) (sym s) (are_left happening req old.sets.items);
     are_found = λ steady name. ap (λ sets. held sets name) s;
-    step = subst (λ given. IsPeerStep w (at.Test old.target) req mid.sets.items new.sets.items given) (sym e)
-        (subst (λ target. IsPeerStep w (at.Test target) req mid.sets.items new.sets.items answer) t step);
+    step = subst (λ given. IsPeerStep w (inside old.login (at.Test old.target)) req mid.sets.items new.sets.items given) (sym e)
+        (subst (λ login. IsPeerStep w (inside login (at.Test old.target)) req mid.sets.items new.sets.items answer) k
+        (subst (λ target. IsPeerStep w (inside mid.login (at.Test target)) req mid.sets.items new.sets.items answer) t step));
     owed = ap (λ owed. map (λ o. o.reply) owed) a ∙ owed_more before last;
     address = ap at.Test (n ∙ t);
+    login = login_is;
   }
 
+  number_is : number_inside mid.login mid.target ≡ number_inside old.login old.target
+  number_is = ap (λ login. number_inside login mid.target) k ∙ ap (number_inside old.login) t
+
   -- the same step as what a target answers
-  pub taken : new.sets.items ≡ sets_after mid.target mid.sets.items req → answer ≡ reply_to mid.target mid.sets.items req
+  pub taken : new.sets.items ≡ sets_after (number_inside mid.login mid.target) mid.sets.items req → answer ≡ reply_to (number_inside mid.login mid.target) mid.sets.items req
       → last.looks ≡ happening.delay → HasTaken happening req old new before after
   taken f r l = record {
     target = n ∙ t;
-    sets = f ∙ ap (λ target. sets_after target mid.sets.items req) t ∙ ap (λ sets. sets_after old.target sets req) s;
+    sets = f ∙ ap (λ number. sets_after number mid.sets.items req) number_is ∙ ap (λ sets. sets_after (number_inside old.login old.target) sets req) s;
+    login = login_is;
     last = last;
     owed = a;
-    reply = e ∙ r ∙ ap (λ target. reply_to target mid.sets.items req) t ∙ ap (λ sets. reply_to old.target sets req) s;
+    reply = e ∙ r ∙ ap (λ number. reply_to number mid.sets.items req) number_is ∙ ap (λ sets. reply_to (number_inside old.login old.target) sets req) s;
     looks = l;
   }
 
@@ -319,7 +335,7 @@ none_next [] new h = ap (λ owed. map (λ o. o.reply) owed) h
 none_next (first ∷ rest) new h = ap (λ owed. map (λ o. o.reply) owed) h.1
 
 pub not_yet : (peer : Peer) (old new : List OwedReply) → IsNextOwed old new None → peer_of peer new ≡ peer_of peer old
-not_yet peer old new h = ap (λ owed. record { address = at.Test peer.target; sets = peer.sets.items; owed = owed }) (none_next old new h)
+not_yet peer old new h = ap (λ owed. record { address = at.Test peer.target; login = peer.login; sets = peer.sets.items; owed = owed }) (none_next old new h)
 
 -- the first reply comes whole
 pub comes : (peer : Peer) (old new : List OwedReply) (found : OwedReply) → IsNextOwed old new (Some found) → IsReplyUnit found.octets found.reply

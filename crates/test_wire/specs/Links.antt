@@ -12,6 +12,8 @@ use Rattle.gw_outside.specs.declared.wires.Looked.{Looked}
 use Rattle.gw_outside.specs.declared.wires.Looked.TheVariants as looked
 use Rattle.test_target.specs.declared.peers.Peer.{Peer}
 use Rattle.test_target.specs.Peer.{reply_to, sets_after}
+use Rattle.test_target.specs.World.{number_inside}
+use Rattle.gw_outside.specs.Peers.{login_after}
 use Rattle.gw_outside.specs.declared.happenings.Happening.{Happening}
 use Rattle.gw_outside.specs.Happened.{sets_found}
 use Rattle.test_wire.specs.Owed.{OwedReply, IsNextOwed}
@@ -20,6 +22,7 @@ use Rattle.test_wire.specs.Owed.{OwedReply, IsNextOwed}
 abbrev pub peer_of : Peer → List OwedReply → peers.Peer
 peer_of peer owed = record {
   address = at.Test peer.target;
+  login = peer.login;
   sets = peer.sets.items;
   owed = map (λ o. o.reply) owed;
 }
@@ -31,10 +34,11 @@ delays_of owed = map (λ o. o.looks) owed
 -- a target's end takes a request: it answers with the sets that the request finds, and its reply is owed behind those before it, after as many looks as is stated now
 pub record HasTaken (happening : Happening) (request : Request) (old new : Peer) (before after : List OwedReply) : Type 0 where
   pub target : new.target ≡ old.target
-  pub sets : new.sets.items ≡ sets_after old.target (sets_found happening request old.sets.items) request
+  pub sets : new.sets.items ≡ sets_after (number_inside old.login old.target) (sets_found happening request old.sets.items) request
   pub last : OwedReply
   pub owed : after ≡ before ++ last ∷ []
-  pub reply : last.reply ≡ reply_to old.target (sets_found happening request old.sets.items) request
+  pub login : new.login ≡ login_after old.login request last.reply
+  pub reply : last.reply ≡ reply_to (number_inside old.login old.target) (sets_found happening request old.sets.items) request
   pub looks : last.looks ≡ happening.delay
 
 -- so does it take what was sent, where that is a request

@@ -80,6 +80,7 @@ fn find_sets(
 ) -> Result<(), Memory>
     requires { happening ≡ happening_of happenings.old.table peer.old.target }
     ensures target { peer.new.target ≡ peer.old.target }
+    ensures login { peer.new.login ≡ peer.old.login }
     ensures sets { OnOk result
         (peer.new.sets.items ≡ sets_found happening request.now peer.old.sets.items) }
     ensures happened { OnOk result (IsMade peer.old.target

@@ -1,5 +1,7 @@
 //! A steady wire to the test targets: links fail where they are cut, and nowhere else.
 
+ghost use Rattle.std.specs.Prelude.{None};
+ghost use Rattle.z_types.specs.Logins.{login_of};
 ghost use Rattle.std.specs.Prelude.{◌≡◌, ◌≤◌, false, true, drop, length, OnOk, OnErr};
 ghost use Rattle.z_types.specs.declared.address.Address.TheVariants as At;
 ghost use Rattle.z_types.specs.Counts.{one_more};
@@ -133,10 +135,12 @@ impl Watched for SteadyWire {
 impl Wire<TestWorld> for SteadyWire {
     type Link = TestLink;
 
+    #[tactic(auto, using(crate::proofs::WireLemmas::told_inside))]
     fn dial(&mut self, alloc: Global, address: &Address) -> Dialled<TestLink>
         ensures link { IfLink result (IsNewLink ⟦<TestWorld as World>⟧ ⟦<TestLink as Linked>⟧
             true address.now (counts_in self.new)) }
-        ensures fails { result ≡ Dialled.Failed → ¬ ⟦<TestWorld as World>⟧.told address.now }
+        ensures fails { result ≡ Dialled.Failed → login_of address.now ≡ None
+            → ¬ ⟦<TestWorld as World>⟧.told address.now }
         ensures happened { AreSame (happened_in_all self.old) (happened_in_all self.new) }
         ensures counts { WireCounts true
             (dial_counted result) (counts_in self.old) (counts_in self.new) }

@@ -1,6 +1,7 @@
 //! The wire to the test targets.
 
-ghost use Rattle.std.specs.Prelude.{◌≡◌, ◌≤◌, ◌||◌, true, drop, length, OnOk, OnErr};
+ghost use Rattle.std.specs.Prelude.{◌≡◌, ◌≤◌, ◌||◌, true, drop, length, None, OnOk, OnErr};
+ghost use Rattle.z_types.specs.Logins.{login_of};
 ghost use Rattle.planned_calls.specs.Planned.{after_call, fails_next, new_calls};
 ghost use Rattle.gw_outside.specs.Counts.{WireCounts, no_counts};
 ghost use Rattle.gw_outside.specs.Happened.{AreSame, AreCut, IsMade, IsQuietWire, is_cut};
@@ -66,7 +67,8 @@ impl Wire<TestWorld> for TestWire {
         ensures link { IfLink result (IsNewLink ⟦<TestWorld as World>⟧ ⟦<TestLink as Linked>⟧
             true address.now (counts_of self.new)) }
         ensures fails { result ≡ Dialled.Failed
-            → (happened_of self.old).steady ≡ true → ¬ ⟦<TestWorld as World>⟧.told address.now }
+            → (happened_of self.old).steady ≡ true → login_of address.now ≡ None
+            → ¬ ⟦<TestWorld as World>⟧.told address.now }
         ensures happened { AreSame (happened_of self.old) (happened_of self.new) }
         ensures counts { WireCounts true
             (dial_counted result) (counts_of self.old) (counts_of self.new) }

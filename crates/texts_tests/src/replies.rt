@@ -3,7 +3,7 @@
 //! number and details) and the one in place of all (`refused`, its number and details). It has three hits and
 //! the schema of Dublin Core.
 
-use case_files::{Answer, NoAnswer};
+use case_files::{Answer, NoAnswer, number_of};
 use sru_reply::{Refusal, bare_text, reply_text};
 use std::alloc::Global;
 use z_types::{List, SruAnswer, SruDiag, SruItem, Text};
@@ -60,7 +60,7 @@ fn empty_answer(alloc: Global, words: &str) -> Result<SruAnswer, NoAnswer> {
     };
     Ok(SruAnswer {
         version: Text::copy_of(alloc, version.as_bytes())?,
-        escaped: packing == "string",
+        escaped: is_escaped(packing)?,
         count: 3,
         start: number_of(start)?,
         uri: Text::copy_of(alloc, b"info:srw/schema/1/dc-v1.1")?,
@@ -69,9 +69,13 @@ fn empty_answer(alloc: Global, words: &str) -> Result<SruAnswer, NoAnswer> {
     })
 }
 
-/// A number.
-fn number_of(word: &str) -> Result<u32, NoAnswer> {
-    word.parse().or(Err(NoAnswer::Misspelt))
+/// Whether records are escaped under a packing.
+fn is_escaped(packing: &str) -> Result<bool, NoAnswer> {
+    match packing {
+        "xml" => Ok(false),
+        "string" => Ok(true),
+        _ => Err(NoAnswer::Misspelt),
+    }
 }
 
 /// Puts a record or a diagnostic into an answer.

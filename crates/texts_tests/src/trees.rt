@@ -16,12 +16,12 @@ pub(crate) fn is_answered(
     match call {
         "tokens" => put_tokens(alloc, out, text)?,
         "cut" => put_cut(alloc, out, text)?,
-        "lex_fault" => put_lex_fault(alloc, out, text)?,
-        "lex_number" => put_lex_number(alloc, out, text)?,
+        "lex_fault" => out.print(&lex_fault_of(alloc, text)?),
+        "lex_number" => out.print(&lex_fault_of(alloc, text)?.number()),
         "parse" => put_parsed(alloc, out, text)?,
         "write" => put_written(alloc, out, text)?,
-        "parse_fault" => put_parse_fault(alloc, out, text)?,
-        "parse_number" => put_parse_number(alloc, out, text)?,
+        "parse_fault" => out.print(&parse_fault_of(alloc, text)?),
+        "parse_number" => out.print(&parse_fault_of(alloc, text)?.number()),
         _ => return Ok(false),
     }
     Ok(true)
@@ -74,25 +74,11 @@ pub(crate) fn tokens_of(alloc: Global, text: &[u8]) -> Result<List<Token>, NoAns
     }
 }
 
-/// What is printed where a text has no tokens.
-fn put_lex_fault(alloc: Global, out: &mut Answer, text: &[u8]) -> Result<(), NoAnswer> {
+/// Why a text has no tokens.
+fn lex_fault_of(alloc: Global, text: &[u8]) -> Result<LexFault, NoAnswer> {
     match tokens(alloc, text) {
         Ok(_) => Err(NoAnswer::Misspelt),
-        Err(fault) => {
-            out.print(&fault);
-            Ok(())
-        }
-    }
-}
-
-/// The number of why a text has no tokens.
-fn put_lex_number(alloc: Global, out: &mut Answer, text: &[u8]) -> Result<(), NoAnswer> {
-    match tokens(alloc, text) {
-        Ok(_) => Err(NoAnswer::Misspelt),
-        Err(fault) => {
-            out.print(&fault.number());
-            Ok(())
-        }
+        Err(fault) => Ok(fault),
     }
 }
 
@@ -141,20 +127,8 @@ fn put_written(alloc: Global, out: &mut Answer, text: &[u8]) -> Result<(), NoAns
     Ok(())
 }
 
-/// What is printed where a text has no tree.
-fn put_parse_fault(alloc: Global, out: &mut Answer, text: &[u8]) -> Result<(), NoAnswer> {
-    out.print(&fault_of(alloc, text)?);
-    Ok(())
-}
-
-/// The number of why a text has no tree.
-fn put_parse_number(alloc: Global, out: &mut Answer, text: &[u8]) -> Result<(), NoAnswer> {
-    out.print(&fault_of(alloc, text)?.number());
-    Ok(())
-}
-
 /// Why a text has no tree.
-fn fault_of(alloc: Global, text: &[u8]) -> Result<ParseFault, NoAnswer> {
+fn parse_fault_of(alloc: Global, text: &[u8]) -> Result<ParseFault, NoAnswer> {
     let found = tokens_of(alloc, text)?;
     match parse(alloc, text, &found) {
         Ok(_) => Err(NoAnswer::Misspelt),

@@ -1,5 +1,5 @@
 -- Units that were worked out by hand from the standard's definition of APDUs (ANSI/NISO Z39.50-2003, appendix A; X.690:2021, 8.1 to 8.3, 8.6, 8.19), as equations about the definitions.
-use Rattle.std.proofs.Common.{◌≡◌, ℕ, pos, negsuc, true, List, [], ◌∷◌, ◌++◌, Some, None, Ok, Err, codes, refl}
+use Rattle.std.proofs.Common.{◌≡◌, ℕ, pos, negsuc, true, List, [], ◌∷◌, ◌++◌, Option, Some, None, Ok, Err, codes, refl}
 use Rattle.z_types.specs.Tree.{leaf as leaf_node}
 use Rattle.z_types.specs.declared.query.Term.TheVariants.{General}
 use Rattle.z_types.specs.declared.records.Body.TheVariants as body
@@ -16,27 +16,37 @@ use Rattle.unit_forms.specs.Fields.{primitive, constructed, object_identifier_ta
 use Rattle.unit_forms.specs.Query.{attr_fields, leaf_octets, tree_octets, query_octets}
 use Rattle.unit_forms.specs.Records.{body_octets}
 use Rattle.unit_forms.specs.Replies.{implementation_fields, search_reply_fields, scan_reply_fields, list_entries, spell_reply}
-use Rattle.unit_forms.specs.Requests.{init_fields, search_fields, present_fields, close_fields, spell_request}
+use Rattle.unit_forms.specs.Requests.{init_fields, init_request_fields, search_fields, present_fields, close_fields, spell_request}
 use Rattle.unit_forms.specs.Reading.CloseUnit.{close_in}
 use Rattle.unit_forms.specs.Reading.Contents.{truth_in, integer_in, number_in, bits_in, oid_in}
 use Rattle.unit_forms.specs.Reading.Elements.{field_of}
+use Rattle.unit_forms.specs.Reading.InitRequest.{shared_in, login_in, init_in, init_response_in}
 use Rattle.unit_forms.specs.Reading.Queries.{set_of, structure_at}
 use Rattle.unit_forms.specs.Reading.SearchRequest.{search_in, bounds_in, named_in, wanted_in}
-use Rattle.unit_forms.specs.Reading.Units.{request_of, request_in}
+use Rattle.unit_forms.specs.Reading.Responses.{init_reply_in}
+use Rattle.unit_forms.specs.Reading.Units.{request_of, request_in, reply_of, reply_in}
 
 -- ---- as written
 
 -- versions 1 to 3, options 0 to 14, both sizes 4096
 abbrev an_init : Init
-an_init = record { ref_id = None; versions = 7; options = 32767; preferred = 4096; exceptional = 4096 }
+an_init = record { ref_id = None; versions = 7; options = 32767; preferred = 4096; exceptional = 4096; login = None }
 
 abbrev its_fields : List ℕ
 its_fields =
     131 ∷ 2 ∷ 5 ∷ 224 ∷ 132 ∷ 3 ∷ 1 ∷ 255 ∷ 254 ∷ 133 ∷ 2 ∷ 16 ∷ 0 ∷ 134 ∷ 2 ∷ 16 ∷ 0 ∷ []
 
 init_request : spell_request (request.Init an_init) ≡ 180 ∷ 17 ∷ its_fields
-unfolding element tag_octets length_octets int_octets natural_octets bits_octets unused_bits mirror init_fields
+unfolding element tag_octets length_octets int_octets natural_octets bits_octets unused_bits mirror init_fields init_request_fields
 init_request = refl
+
+-- the same with the login of a VisibleString `a`, in idAuthentication
+with_login : Init
+with_login = record an_init { login = Some (26 ∷ 1 ∷ 97 ∷ []) }
+
+init_request_with_login : spell_request (request.Init with_login) ≡ 180 ∷ 22 ∷ its_fields ++ (167 ∷ 3 ∷ 26 ∷ 1 ∷ 97 ∷ [])
+unfolding element tag_octets length_octets int_octets natural_octets bits_octets unused_bits mirror init_fields init_request_fields with_login
+init_request_with_login = refl
 
 -- with the result true, and the implementation's `mp`, `gateway` and `1` under tags above 30
 init_response : spell_reply (reply.Init an_init true) ≡ 181 ∷ 39 ∷ its_fields ++ (140 ∷ 1 ∷ 255 ∷ 159 ∷ 110 ∷ 2 ∷ codes "mp" ++ (159 ∷ 111 ∷ 7 ∷ codes "gateway" ++ (159 ∷ 112 ∷ 1 ∷ codes "1")))
@@ -139,6 +149,21 @@ bib1_attributes = refl
 close_read : request_in (branch (constructed 48) [] (leaf (primitive 212) [] (leaf (primitive 211) (0 ∷ 0 ∷ []) none)) none) ≡ Ok (request.Close finished)
 unfolding request_of close_in integer_in
 close_read = refl
+
+-- an Init of the versions 1 to 3, without options, of sizes 0; a primitive idAuthentication is skipped, and of two others the first counts
+bare_init : Option (List ℕ) → Init
+bare_init login = record { ref_id = None; versions = 7; options = 0; preferred = 0; exceptional = 0; login = login }
+
+login_read : request_in (branch (constructed 20) [] (leaf (primitive 7) (1 ∷ []) (leaf (primitive 3) (5 ∷ 224 ∷ []) (leaf (primitive 4) (0 ∷ []) (leaf (primitive 5) (0 ∷ []) (leaf (primitive 6) (0 ∷ []) (branch (constructed 7) (26 ∷ 0 ∷ []) none (branch (constructed 7) [] none none))))))) none)
+    ≡ Ok (request.Init (bare_init (Some (26 ∷ 0 ∷ []))))
+unfolding request_of init_in shared_in login_in integer_in bits_in mirror bare_init
+login_read = refl
+
+-- in a response it is skipped
+response_login_skipped : reply_in (branch (constructed 21) [] (leaf (primitive 3) (5 ∷ 224 ∷ []) (leaf (primitive 4) (0 ∷ []) (leaf (primitive 5) (0 ∷ []) (leaf (primitive 6) (0 ∷ []) (branch (constructed 7) (26 ∷ 0 ∷ []) none (leaf (primitive 12) (1 ∷ []) none)))))) none)
+    ≡ Ok (reply.Init (bare_init None) true)
+unfolding reply_of init_reply_in init_response_in shared_in integer_in bits_in mirror bare_init
+response_login_skipped = refl
 
 -- a Search without fields, and a unit [43]
 search_without_fields : request_in (branch (constructed 22) [] none none) ≡ Err (Missing 13)

@@ -5,3 +5,4 @@ pub mod Replies
 pub mod Requests
 pub mod Tags
 pub mod Reading
+pub mod Logins

@@ -1,7 +1,8 @@
 -- Diagnostics and records as they are written (ANSI/NISO Z39.50-2003, DefaultDiagFormat, Records and NamePlusRecord)
-use Rattle.std.specs.Prelude.{ℕ, List, [], ◌∷◌, ◌++◌}
+use Rattle.std.specs.Prelude.{ℕ, List, [], ◌∷◌, ◌++◌, length}
 use Rattle.std.specs.List.{flat_map}
 use Rattle.z_ber.specs.declared.tag.Tag.{Tag}
+use Rattle.z_types.specs.Bounds.{within64}
 use Rattle.z_ber.specs.Written.{element}
 use Rattle.z_types.specs.declared.diagnostic.Diag.{Diag}
 use Rattle.z_types.specs.declared.records.Form.{Form}
@@ -46,6 +47,10 @@ named_fields named =
 -- NamePlusRecord
 unfoldable pub named_octets : NamedRecord → List ℕ
 named_octets named = element sequence (named_fields named)
+
+-- the weight of a record: its octets as an element of responseRecords, at most the last number of 64 bits
+abbrev pub weight : NamedRecord → ℕ
+weight named = within64 (length (named_octets named))
 
 -- Records, the records of a response; an empty list of them is left out
 unfoldable pub body_octets : Body → List ℕ

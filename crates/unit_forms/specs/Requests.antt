@@ -24,6 +24,10 @@ init_fields init =
     ++ number_field tag.preferred_message_size init.preferred
     ++ number_field tag.exceptional_record_size init.exceptional
 
+-- the fields of an InitializeRequest: the login, where there is one, is what idAuthentication has in it
+unfoldable pub init_request_fields : Init → List ℕ
+init_request_fields init = init_fields init ++ optional (tree_field tag.id_authentication) init.login
+
 -- names of databases
 abbrev pub database_names : List (List ℕ) → List ℕ
 database_names dbs = flat_map (octets_field tag.database_name) dbs
@@ -100,7 +104,7 @@ close_octets close = tree_field tag.close (close_fields close)
 
 -- the one written form of a request
 abbrev pub spell_request : Request → List ℕ
-spell_request (request.Init init) = tree_field tag.init_request (init_fields init)
+spell_request (request.Init init) = tree_field tag.init_request (init_request_fields init)
 spell_request (request.Search search) = tree_field tag.search_request (search_fields search)
 spell_request (request.Present present) = tree_field tag.present_request (present_fields present)
 spell_request (request.Scan scan) = tree_field tag.scan_request (scan_fields scan)

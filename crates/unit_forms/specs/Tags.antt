@@ -46,6 +46,9 @@ preferred_message_size = 5
 abbrev pub exceptional_record_size : ℕ
 exceptional_record_size = 6
 
+abbrev pub id_authentication : ℕ
+id_authentication = 7
+
 abbrev pub init_result : ℕ
 init_result = 12
 

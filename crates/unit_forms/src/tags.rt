@@ -32,6 +32,8 @@ pub const PREFERRED_MESSAGE_SIZE: u32 = 5;
 
 pub const EXCEPTIONAL_RECORD_SIZE: u32 = 6;
 
+pub const ID_AUTHENTICATION: u32 = 7;
+
 pub const INIT_RESULT: u32 = 12;
 
 pub const IMPLEMENTATION_ID: u32 = 110;

@@ -157,6 +157,7 @@ fn init(preferred: u32) -> Init {
         options: 1,
         preferred,
         exceptional: 1,
+        login: None,
     }
 }
 

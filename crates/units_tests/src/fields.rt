@@ -68,6 +68,7 @@ pub(crate) fn put_init(out: &mut Answer, init: &Init) {
     out.put_bits(init.options);
     put_number(out, " preferred ", init.preferred);
     put_number(out, " exceptional ", init.exceptional);
+    put_some_text(out, " login ", &init.login);
 }
 
 /// Puts the fields of a Search at the end.

@@ -3,6 +3,7 @@
 use crate::fields::{put_close, put_init, put_number, put_some_number, put_some_text, put_text};
 use case_files::Answer;
 use z_types::{Body, Diag, Form, Item, NamedRecord, Oid, Reply, ScanAnswer, ScanEntry, Text};
+use z_write::weight;
 
 /// Puts the fields of a reply at the end.
 pub(crate) fn put_reply(out: &mut Answer, reply: &Reply) {
@@ -12,47 +13,84 @@ pub(crate) fn put_reply(out: &mut Answer, reply: &Reply) {
             out.put(" result ");
             out.print(result);
         }
-        Reply::Search {
-            ref_id,
-            count,
-            returned,
-            next,
-            ok,
-            status,
-            body,
-        } => {
-            put_head(out, "Search", ref_id);
-            put_number(out, " count ", *count);
-            put_counts(out, *returned, *next);
-            out.put(" ok ");
-            out.print(ok);
-            put_some_number(out, " status ", *status);
-            put_body(out, body);
-        }
-        Reply::Present {
-            ref_id,
-            returned,
-            next,
-            status,
-            body,
-        } => {
-            put_head(out, "Present", ref_id);
-            put_counts(out, *returned, *next);
-            put_number(out, " status ", *status);
-            put_body(out, body);
-        }
-        Reply::Scan {
-            ref_id,
-            status,
-            answer,
-            diags,
-        } => {
-            put_head(out, "Scan", ref_id);
-            put_number(out, " status ", *status);
-            put_answer(out, answer);
-            put_diags(out, diags.as_slice());
-        }
+        Reply::Search { .. } => put_search(out, reply),
+        Reply::Present { .. } => put_present(out, reply),
+        Reply::Scan { .. } => put_scan(out, reply),
         Reply::Close(close) => put_close(out, close),
+    }
+}
+
+/// Puts the fields of a SearchResponse at the end.
+fn put_search(out: &mut Answer, reply: &Reply) {
+    if let Reply::Search {
+        ref_id,
+        count,
+        returned,
+        next,
+        ok,
+        status,
+        body,
+    } = reply
+    {
+        put_head(out, "Search", ref_id);
+        put_number(out, " count ", *count);
+        put_counts(out, *returned, *next);
+        out.put(" ok ");
+        out.print(ok);
+        put_some_number(out, " status ", *status);
+        put_body(out, body);
+    }
+}
+
+/// Puts the fields of a PresentResponse at the end.
+fn put_present(out: &mut Answer, reply: &Reply) {
+    if let Reply::Present {
+        ref_id,
+        returned,
+        next,
+        status,
+        body,
+    } = reply
+    {
+        put_head(out, "Present", ref_id);
+        put_counts(out, *returned, *next);
+        put_number(out, " status ", *status);
+        put_body(out, body);
+    }
+}
+
+/// Puts the fields of a ScanResponse at the end.
+fn put_scan(out: &mut Answer, reply: &Reply) {
+    if let Reply::Scan {
+        ref_id,
+        status,
+        answer,
+        diags,
+    } = reply
+    {
+        put_head(out, "Scan", ref_id);
+        put_number(out, " status ", *status);
+        put_answer(out, answer);
+        put_diags(out, diags.as_slice());
+    }
+}
+
+/// Puts the weights of the records of a reply at the end, in octets.
+pub(crate) fn put_weights(out: &mut Answer, reply: &Reply) {
+    out.put("octets");
+    match reply {
+        Reply::Search { body, .. } | Reply::Present { body, .. } => put_body_weights(out, body),
+        _ => {}
+    }
+}
+
+/// Puts the weights of the records of a response at the end.
+fn put_body_weights(out: &mut Answer, body: &Body) {
+    if let Body::Records(records) = body {
+        for record in records.as_slice() {
+            out.put(" ");
+            out.print(&weight(record));
+        }
     }
 }
 

@@ -110,6 +110,7 @@ fn is_answered_of_reply(
         "read_reply" => put_read::<Reply>(alloc, out, octets)?,
         "write_reply" => put_written::<Reply>(alloc, out, octets)?,
         "reply" => put_fields::<Reply>(alloc, out, octets)?,
+        "weights" => put_weights(alloc, out, octets)?,
         _ => return Ok(false),
     }
     Ok(true)
@@ -131,6 +132,17 @@ fn put_fields<U: Unit>(alloc: Global, out: &mut Answer, octets: &[u8]) -> Result
     match U::read(alloc, octets) {
         Ok(unit) => {
             unit.put_fields(out);
+            Ok(())
+        }
+        Err(fault) => put_fault(out, fault),
+    }
+}
+
+/// The weights of the records of the reply that octets are, or why they are none.
+fn put_weights(alloc: Global, out: &mut Answer, octets: &[u8]) -> Result<(), NoAnswer> {
+    match read_reply(alloc, octets) {
+        Ok(reply) => {
+            replies::put_weights(out, &reply);
             Ok(())
         }
         Err(fault) => put_fault(out, fault),

@@ -1,6 +1,6 @@
 //! Texts, object identifiers and diagnostics.
 
-use case_files::{Answer, NoAnswer, oid_of_words};
+use case_files::{Answer, NoAnswer, diag_of_words, oid_of_words};
 use std::alloc::Global;
 use z_types::{Condition, Diag, Text};
 
@@ -19,26 +19,6 @@ pub(crate) fn is_answered(
         _ => return Ok(false),
     }
     Ok(true)
-}
-
-/// A number.
-fn number_of(word: &str) -> Result<u32, NoAnswer> {
-    word.parse().or(Err(NoAnswer::Misspelt))
-}
-
-/// The diagnostic of a set and a condition.
-fn diag_of_words(alloc: Global, words: &str) -> Result<Diag, NoAnswer> {
-    let Some((set, condition)) = words.split_once(' ') else {
-        return Err(NoAnswer::Misspelt);
-    };
-    let Some(set) = oid_of_words(alloc, set)? else {
-        return Err(NoAnswer::Misspelt);
-    };
-    Ok(Diag {
-        set,
-        condition: number_of(condition)?,
-        addinfo: Text::new(alloc),
-    })
 }
 
 /// A diagnostic of bib-1.

@@ -14,7 +14,7 @@ pub(crate) fn is_answered(
 ) -> Result<bool, NoAnswer> {
     let mut unit = Text::copy_of(alloc, b"x")?;
     match call {
-        "put_bool" => put_bool(&mut unit, Tag::universal(1), words == "true")?,
+        "put_bool" => put_bool(&mut unit, Tag::universal(1), bool_of(words)?)?,
         "put_int" => put_int(&mut unit, Tag::universal(2), int_of(words)?)?,
         "put_bits" => put_bits(&mut unit, Tag::universal(3), bits_of(words)?)?,
         "put_bytes" => put_octets(alloc, &mut unit, words)?,
@@ -24,6 +24,15 @@ pub(crate) fn is_answered(
     }
     put_behind(out, unit.as_slice());
     Ok(true)
+}
+
+/// A truth value.
+fn bool_of(words: &str) -> Result<bool, NoAnswer> {
+    match words {
+        "true" => Ok(true),
+        "false" => Ok(false),
+        _ => Err(NoAnswer::Misspelt),
+    }
 }
 
 /// A number.

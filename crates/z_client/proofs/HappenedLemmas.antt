@@ -3,7 +3,8 @@ use Rattle.std.proofs.Common.{◌≡◌, ◌∙◌, ◌≢◌, ◌⊎◌, inl, i
 use Rattle.std.proofs.Math.Dec.{eqb}
 use Rattle.std.proofs.lemmas.Bool.Decides.{eqb_tells}
 use Rattle.z_types.specs.declared.address.Address.{Address}
-use Rattle.z_types.specs.declared.address.Address.TheVariants.{Test, Tcp}
+use Rattle.z_types.specs.declared.address.Address.TheVariants.{Test, Tcp, Login}
+use Rattle.z_types.specs.declared.address.Site.TheVariants as site
 use Rattle.gw_outside.specs.declared.backends.Opening.TheVariants as opened
 use Rattle.gw_outside.specs.declared.wires.Sent.TheVariants as sent
 use Rattle.gw_outside.specs.Happened.{Happened, AreSame, AreLess, IsMade, IsAsked}
@@ -41,14 +42,16 @@ module _ (a b : Happened) where
   pub unmade_same : (own : ℕ) → IsMade own (λ happening. happening) a b → AreSame a b
   unmade_same own s = record { steady = s.steady; lent = s.lent; of_target = λ target. made_same own target s (eqb_tells own target) }
 
-  address_same : (address : Address) → IsAsked address init_request a b → AreSame a b
-  address_same (Test own) s = unmade_same own s
-  address_same (Tcp host port) s = s
+  address_same : (address : Address) (login : Option (List ℕ)) → IsAsked address (init_request login) a b → AreSame a b
+  address_same (Test own) login s = unmade_same own s
+  address_same (Tcp host port) login s = s
+  address_same (Login (site.Test own) other) login s = unmade_same own s
+  address_same (Login (site.Tcp host port) other) login s = s
 
   -- an Init leaves all that is to happen
-  init_same : (peer : Option Peer) → IsSentTo peer init_request a b → AreSame a b
-  init_same None s = s
-  init_same (Some peer) s = address_same peer.address s
+  init_same : (peer : Option Peer) (login : Option (List ℕ)) → IsSentTo peer (init_request login) a b → AreSame a b
+  init_same None login s = s
+  init_same (Some peer) login s = address_same peer.address login s
 
-  pub greeted_same : (unit : List ℕ) (peer : Option Peer) → IsRequestUnit unit init_request → SendHappens unit peer a b sent.Sent → AreSame a b
-  greeted_same unit peer is s = init_same peer (s init_request is)
+  pub greeted_same : (unit : List ℕ) (peer : Option Peer) (login : Option (List ℕ)) → IsRequestUnit unit (init_request login) → SendHappens unit peer a b sent.Sent → AreSame a b
+  greeted_same unit peer login is s = init_same peer login (s (init_request login) is)

@@ -1,3 +1,4 @@
+pub mod AddressLemmas
 pub mod ArrivalLemmas
 pub mod SetsLemmas
 pub mod TrueReplies

@@ -17,6 +17,9 @@ use Rattle.z_types.specs.declared.replies.Reply.{Reply}
 use Rattle.z_client.specs.Sets.{made_in}
 use Rattle.z_client.specs.TrueSession.{IsTruePeer, IsToldTrue, IsTrueReply}
 use Rattle.z_client.specs.Units.{init_request, request_of, IsAskUnit, Takes, TookInit}
+use Rattle.z_types.specs.Logins.{inner, inside, login_of}
+use Rattle.z_types.specs.declared.requests.Request.{Request}
+use Rattle.z_client.proofs.AddressLemmas.{again, accepted_is}
 use Rattle.z_client.proofs.TrueAsks.{asks_true}
 
 -- a session that waits for a reply is not broken
@@ -35,10 +38,16 @@ accepted_opens : {W : Type 0} (w : world.Ghosts W) (address : Address) (made : M
 accepted_opens w address made answer e = record { answer = Opened; heard = ap (λ b. cond b (Some Opened) None) e; worlds = tt }
 
 module _ {W : Type 0} (w : world.Ghosts W) (address : Address) where
+  -- the Init of a session at this address
+  abbrev greeting : Request
+  greeting = init_request (login_of address)
+
   -- a new peer that takes an Init owes a true reply to it
-  new_takes : (new : Peer) (steady : Bool) → TakesRequest w steady [] init_request (new_peer address) new → IsTruePeer w address (made_in []) opening new
+  new_takes : (new : Peer) (steady : Bool) → TakesRequest w steady [] greeting (new_peer (inner address)) new → IsTruePeer w address (made_in []) opening new
   new_takes new steady takes = record {
-    same_address = takes.address;
+    same_address = ap (inside new.login) takes.address
+        ∙ ap (λ login. inside login (inner address)) (takes.login ∙ ap (λ b. cond b (login_of address) None) (accepted_is takes.answer (takes.step.1 refl)))
+        ∙ again address;
     sets = record {
       hits = λ name key hits m. absurd cc;
       holds = λ name key hits apart m. absurd cc;
@@ -48,16 +57,16 @@ module _ {W : Type 0} (w : world.Ghosts W) (address : Address) where
   }
 
   -- the peer of a new link takes the Init
-  pub took_init : (h : Happened) (unit : List ℕ) (old new : Option Peer) → IsNewPeer (w.told address) address old → PeerTakes w unit h old new
-      → IsRequestUnit unit init_request → TookInit w h address new
+  pub took_init : (h : Happened) (unit : List ℕ) (old new : Option Peer) → IsNewPeer (w.told (inner address)) (inner address) old → PeerTakes w unit h old new
+      → IsRequestUnit unit greeting → TookInit w h address new
   took_init h unit None new fresh takes is = subst (λ at. TookInit w h address at) (sym takes) tt
   took_init h unit (Some old) None fresh takes is = absurd takes
   took_init h unit (Some old) (Some new) fresh takes is =
-      subst (λ at. TakesRequest w h.steady at.sets init_request at new) fresh.new (takes init_request is tt)
+      subst (λ at. TakesRequest w h.steady at.sets greeting at new) fresh.new (takes greeting is tt)
 
-  pub told_opens : (h : Happened) (unit : List ℕ) (old new : Option Peer) → w.told address → IsNewPeer (w.told address) address old → PeerTakes w unit h old new
-      → IsRequestUnit unit init_request → IsToldTrue w address (made_in []) opening new
-  told_opens h unit None new told fresh takes is = let no_way : false ≡ true = fresh.where_told told in absurd cc
+  pub told_opens : (h : Happened) (unit : List ℕ) (old new : Option Peer) → w.told address → IsNewPeer (w.told (inner address)) (inner address) old → PeerTakes w unit h old new
+      → IsRequestUnit unit greeting → IsToldTrue w address (made_in []) opening new
+  told_opens h unit None new told fresh takes is = let no_way : false ≡ true = fresh.where_told (w.inner_is_told address told) in absurd cc
   told_opens h unit (Some old) None told fresh takes is = absurd takes
   told_opens h unit (Some old) (Some new) told fresh takes is = new_takes new h.steady (took_init h unit (Some old) (Some new) fresh takes is)
 

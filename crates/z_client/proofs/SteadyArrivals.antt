@@ -3,7 +3,8 @@ use Rattle.std.proofs.Common.{◌≡◌, ◌∙◌, ◌⊎◌, inl, inr, ℕ, Bo
 use Rattle.z_ber.specs.Frames.{IsFrame}
 use Rattle.z_ber.specs.Header.{IsOpenFor, IsBadFor}
 use Rattle.z_types.specs.declared.address.Address.{Address}
-use Rattle.z_types.specs.declared.address.Address.TheVariants.{Test, Tcp}
+use Rattle.z_types.specs.declared.address.Address.TheVariants.{Test, Tcp, Login}
+use Rattle.z_types.specs.declared.address.Site.TheVariants as site
 use Rattle.gw_outside.specs.declared.happenings.Happening.{Happening}
 use Rattle.gw_outside.specs.declared.links.Linked as linked
 use Rattle.gw_outside.specs.declared.wires.Looked.TheVariants as looked
@@ -20,6 +21,8 @@ use Rattle.z_client.proofs.ArrivalLemmas.{no_frame, not_open, take_none, nothing
 pub address_again : (a b : Happened) (address : Address) → AreSame a b → at_address b address ≡ at_address a address
 address_again a b (Test target) s = s.of_target target
 address_again a b (Tcp host port) s = refl
+address_again a b (Login (site.Test target) login) s = s.of_target target
+address_again a b (Login (site.Tcp host port) login) s = refl
 
 peer_again : (a b : Happened) (peer : Option Peer) → AreSame a b → to_peer b peer ≡ to_peer a peer
 peer_again a b None s = refl

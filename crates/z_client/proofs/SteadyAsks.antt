@@ -4,7 +4,8 @@ use Rattle.z_types.specs.Bib1.{is_gone}
 use Rattle.z_types.specs.Pending.{resting}
 use Rattle.z_types.specs.Same.{is_same}
 use Rattle.z_types.specs.declared.address.Address.{Address}
-use Rattle.z_types.specs.declared.address.Address.TheVariants.{Test, Tcp}
+use Rattle.z_types.specs.declared.address.Address.TheVariants.{Test, Tcp, Login}
+use Rattle.z_types.specs.declared.address.Site.TheVariants as site
 use Rattle.z_types.specs.declared.ask.Ask.{Ask}
 use Rattle.z_types.specs.declared.ask.Ask.TheVariants.{Search, Present, Scan}
 use Rattle.z_types.specs.declared.diagnostic.Diag.{Diag}
@@ -28,6 +29,7 @@ use Rattle.gw_outside.specs.Wires.{IsRequestUnit, IsSentTo, PeerTakes, SendsStea
 use Rattle.z_client.specs.Links.{holds, is_some, link_of}
 use Rattle.z_client.specs.TrueSession.{HoldsOrNothing, IsToldTrue, IsTruePeer}
 use Rattle.z_client.specs.Units.{request_of}
+use Rattle.z_client.proofs.AddressLemmas.{peer_asked, peer_at}
 use Rattle.z_client.proofs.HappenedLemmas.{unmade_same}
 use Rattle.z_client.proofs.SteadyLooks.{told_at}
 use Rattle.z_client.proofs.TrueAsks.{holds_left}
@@ -107,17 +109,23 @@ module _ (a b : Happened) where
   asked_happens : (ask : Ask) (address : Address) → IsAsked address (request_of ask) a b → AskHappens ask address a b
   asked_happens (Search name key) (Test target) s = unmade_same a b target s
   asked_happens (Search name key) (Tcp host port) s = s
+  asked_happens (Search name key) (Login (site.Test target) login) s = unmade_same a b target s
+  asked_happens (Search name key) (Login (site.Tcp host port) login) s = s
   asked_happens (Present name first count syntax element) (Test target) s = s
   asked_happens (Present name first count syntax element) (Tcp host port) s = s
+  asked_happens (Present name first count syntax element) (Login (site.Test target) login) s = s
+  asked_happens (Present name first count syntax element) (Login (site.Tcp host port) login) s = s
   asked_happens (Scan dbs ask) (Test target) s = unmade_same a b target s
   asked_happens (Scan dbs ask) (Tcp host port) s = s
+  asked_happens (Scan dbs ask) (Login (site.Test target) login) s = unmade_same a b target s
+  asked_happens (Scan dbs ask) (Login (site.Tcp host port) login) s = s
 
 -- ---- an ask
 
 module _ {W : Type 0} (w : world.Ghosts W) (address : Address) (made : Made) (ask : Ask) (h then_ : Happened) (may : MayAsk made ask) where
   sent_happens : (peer : Option Peer) → IsToldTrue w address made resting peer → IsSentTo peer (request_of ask) h then_ → IsAsked address (request_of ask) h then_
   sent_happens None t s = absurd t
-  sent_happens (Some peer) t s = subst (λ at. IsAsked at (request_of ask) h then_) t.same_address s
+  sent_happens (Some peer) t s = peer_asked h then_ (request_of ask) peer address t.same_address s
 
   -- what becomes of the sets, and whether the reply says that one is gone
   abbrev Took : Option Peer → Option Peer → Type 0
@@ -128,7 +136,7 @@ module _ {W : Type 0} (w : world.Ghosts W) (address : Address) (made : Made) (as
       → TakesRequest w h.steady (sets_found (at_address h old.address) (request_of ask) old.sets) (request_of ask) old new → Took (Some old) (Some new)
   peer_took old new t steady takes =
       let step = subst (λ at. IsPeerStep w at (request_of ask) takes.left new.sets takes.answer) t.same_address takes.step in
-      let stay = subst (λ at. StayHeld (sets_found (at_address h at) (request_of ask) old.sets) takes.left) t.same_address (takes.are_found steady) in (
+      let stay = subst (λ at. StayHeld (sets_found at (request_of ask) old.sets) takes.left) (peer_at h old address t.same_address) (takes.are_found steady) in (
         asked_holds w address made (at_address h address) old new takes.left takes.answer ask may stay step,
         asked_gone w address made (at_address h address) old new takes.left takes.answer ask t may
             (λ key name hits m. holds_left old.sets takes.left name key (t.sets.holds name key hits refl m) (takes.are_left name))

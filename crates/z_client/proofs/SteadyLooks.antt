@@ -20,6 +20,7 @@ use Rattle.z_client.specs.Arrivals.{ArrivesBy, AwaitsSteadily}
 use Rattle.z_client.specs.Links.{holds, is_some, link_of}
 use Rattle.z_client.specs.Looks.{IsOwed, FoundIn, answer_of}
 use Rattle.z_client.specs.TrueSession.{IsToldTrue}
+use Rattle.z_client.proofs.AddressLemmas.{peer_at}
 use Rattle.z_client.proofs.GoneLemmas.{heard_gone}
 
 -- ---- peers that are told
@@ -32,7 +33,7 @@ module _ {W : Type 0} (w : world.Ghosts W) (address : Address) (made : Made) (p 
   -- what happens to a link happens at its address
   pub told_at : (h : Happened) (peer : Option Peer) → IsToldTrue w address made p peer → to_peer h peer ≡ at_address h address
   told_at h None t = absurd t
-  told_at h (Some peer) t = ap (λ at. at_address h at) t.same_address
+  told_at h (Some peer) t = peer_at h peer address t.same_address
 
   module _ (exact : Bool) (arrived : List ℕ) (before now : Counts) where
     -- a reply that comes leaves the sets

@@ -15,6 +15,8 @@ use Rattle.gw_outside.specs.Wires.{IsNewLink, IsNewPeer, IsRequestUnit, SendCoun
 use Rattle.z_client.specs.declared.own.Own.{Own}
 use Rattle.z_client.specs.Counts.{counts_over}
 use Rattle.z_client.specs.Units.{init_request}
+use Rattle.z_types.specs.Logins.{inner, login_of}
+use Rattle.z_client.proofs.AddressLemmas.{at_inner}
 use Rattle.z_client.proofs.SteadyArrivals.{address_again, cut_again}
 
 -- what happens to a new link happens at its address
@@ -25,22 +27,22 @@ new_at told address h (Some peer) is fresh = ap (λ (p : Peer). at_address h p.a
 -- ---- an Init that is sent, or not
 
 module _ {W L : Type 0} (w : world.Ghosts W) (l : linked.Ghosts L) (exact : Bool) (address : Address) (unit : List ℕ) (old new : L) (h then_ : Happened) (before now : Counts)
-    (fresh : IsNewLink w l exact address before old) (told : w.told address) (steady : h.steady ≡ true) where
+    (fresh : IsNewLink w l exact (inner address) before old) (told : w.told address) (steady : h.steady ≡ true) where
   abbrev there : to_peer h (l.peer old) ≡ at_address h address
-  there = new_at (w.told address) address h (l.peer old) told fresh.peer
+  there = new_at (w.told (inner address)) (inner address) h (l.peer old) (w.inner_is_told address told) fresh.peer ∙ at_inner h address
 
-  module _ (is : IsRequestUnit unit init_request) where
+  module _ (is : IsRequestUnit unit (init_request (login_of address))) where
     pub greeted_number : SendsSteadily l unit old new h then_ sent.Sent → SendCounts exact unit sent.Sent before now → exact ≡ true → l.number new ≡ now.dials
-    greeted_number s c x = s.number ∙ fresh.number x ∙ sym (ap (λ (count : Counts). count.dials) (c.exactly init_request is x))
+    greeted_number s c x = s.number ∙ fresh.number x ∙ sym (ap (λ (count : Counts). count.dials) (c.exactly (init_request (login_of address)) is x))
 
     pub greeted_delays : SendsSteadily l unit old new h then_ sent.Sent → l.delays new ≡ (at_address h address).delay ∷ []
-    greeted_delays s = s.delays steady refl init_request is ∙ ap (λ delays. delays ++ (to_peer h (l.peer old)).delay ∷ []) fresh.delays
+    greeted_delays s = s.delays steady refl (init_request (login_of address)) is ∙ ap (λ delays. delays ++ (to_peer h (l.peer old)).delay ∷ []) fresh.delays
         ∙ ap (λ here. here.delay ∷ []) there
 
     pub ungreeted_cut : SendsSteadily l unit old new h then_ sent.Failed → SendCounts exact unit sent.Failed before now → exact ≡ true
         → is_cut (at_address h address) now.dials ≡ true
     ungreeted_cut s c x = cut_again (to_peer h (l.peer old)) (at_address h address) (l.number old) now.dials true there
-        (fresh.number x ∙ sym (ap (λ (count : Counts). count.dials) (c.exactly init_request is x))) (s.fails refl steady)
+        (fresh.number x ∙ sym (ap (λ (count : Counts). count.dials) (c.exactly (init_request (login_of address)) is x))) (s.fails refl steady)
 
 -- ---- by what a backend counts
 

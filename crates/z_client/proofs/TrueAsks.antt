@@ -16,6 +16,7 @@ use Rattle.gw_outside.specs.Sessions.{Made, RecordsOf}
 use Rattle.z_client.specs.Heard.{records_heard}
 use Rattle.z_client.specs.Units.{request_of}
 use Rattle.z_client.specs.TrueSession.{HoldsOrNothing, AreTrueSets, IsTrueReply, IsTruePeer}
+use Rattle.z_client.proofs.AddressLemmas.{answers_same, asked_login}
 use Rattle.z_client.proofs.TrueReplies.{no_operand, Hears, search_reply_true, scan_reply_true, presented_true, not_held_true}
 
 -- what is left of sets, or stays, is the set or nothing
@@ -125,7 +126,7 @@ module _ {W : Type 0} (w : world.Ghosts W) (address : Address) (made : Made) whe
       let step = subst (λ at. IsPeerStep w at (request_of ask) takes.left new.sets takes.answer) t.same_address takes.step in
       let s = steps_true ask takes.left new.sets takes.answer t.sets.hits (hold_left old.sets takes.left h takes.are_left) may step in
       record {
-        same_address = takes.address ∙ t.same_address;
+        same_address = answers_same old new takes.address (takes.login ∙ asked_login old.login ask takes.answer) ∙ t.same_address;
         sets = s.0;
         owed = (takes.answer, takes.owed ∙ ap (λ owed. owed ++ takes.answer ∷ []) t.owed, s.1);
       }

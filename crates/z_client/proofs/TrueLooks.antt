@@ -12,7 +12,7 @@ use Rattle.z_types.specs.declared.world.World as world
 use Rattle.gw_outside.specs.declared.backends.Heard.{Heard}
 use Rattle.gw_outside.specs.declared.backends.Heard.TheVariants.{Opened, Hits, Refused, Items, Gone, Scanned, NotYet, Failed, Memory}
 use Rattle.z_types.specs.Same.{is_same}
-use Rattle.gw_outside.specs.Peers.{NamedSet, Peer, set_of}
+use Rattle.gw_outside.specs.Peers.{NamedSet, Peer, set_of, answers_at}
 use Rattle.gw_outside.specs.Sessions.{Made, Fits, IsWorlds, made_after, pending_after}
 use Rattle.gw_outside.specs.Wires.{HandsOver, IsReplyUnit}
 use Rattle.z_read.specs.Read.{IsReplyRead}
@@ -123,7 +123,7 @@ module _ {W : Type 0} (w : world.Ghosts W) (address : Address) (made : Made) whe
       let one = owes_one p old.owed is t.owed in
       let both : one.0 ∷ [] ≡ h.reply ∷ h.rest = sym one.1 ∙ h.was_owed in
       record {
-        same_address = ap (λ (peer : Peer). peer.address) h.still_owed ∙ t.same_address;
+        same_address = ap answers_at h.still_owed ∙ t.same_address;
         sets = subst (λ sets. AreTrueSets w address made p sets) (sym (ap (λ (peer : Peer). peer.sets) h.still_owed)) t.sets;
         owed = ap (λ (peer : Peer). peer.owed) h.still_owed ∙ sym (same_tail one.0 h.reply [] h.rest both);
         reply = h.reply;

@@ -1,5 +1,5 @@
 -- What is sent is a unit, and the request that was meant (ANSI/NISO Z39.50-2003, 3.2.1 to 3.2.3 and 3.2.8)
-use Rattle.std.proofs.Common.{arith, ◌≡◌, ◌^◌, ◌<◌, ℕ, pos, List, [], ◌∷◌, Option, None, Result, Ok, Err, IfOk, true, sym, subst}
+use Rattle.std.proofs.Common.{arith, ◌≡◌, ◌^◌, ◌<◌, ℕ, pos, List, [], ◌∷◌, Option, None, Some, Result, Ok, Err, IfOk, true, sym, subst}
 use Rattle.std.specs.Prelude.{IfSome}
 use Rattle.std.specs.List.{AllByRecursion}
 use Rattle.z_types.specs.Bounds.{most_unit_octets, most_query_cost}
@@ -16,12 +16,13 @@ use Rattle.z_types.specs.declared.requests.Request.{Request}
 use Rattle.z_types.specs.declared.requests.Search.{Search as SearchFields}
 use Rattle.z_types.specs.declared.scan.ScanAsk.{ScanAsk}
 use Rattle.z_ber.specs.Values.{IsOid}
-use Rattle.unit_forms.specs.Fields.{object_identifier, octets_field, number_field, identifier_field, tree_field}
-use Rattle.unit_forms.specs.Requests.{spell_request, init_fields, search_fields, present_fields, scan_ask_fields, scan_fields, database_names, element_name_field, composition_field}
+use Rattle.unit_forms.specs.Fields.{object_identifier, octets_field, number_field, identifier_field, tree_field, optional}
+use Rattle.unit_forms.specs.Requests.{spell_request, init_fields, init_request_fields, search_fields, present_fields, scan_ask_fields, scan_fields, database_names, element_name_field, composition_field}
 use Rattle.unit_forms.specs.Tags as tag
 use Rattle.z_laws.specs.Laws.{WrittenRequestsAreUnits, WrittenRequestsAreRead}
 use Rattle.z_laws.specs.Readable.{IsReadable, IsReadableAttr, IsReadableTree, IsReadableQuery, IsReadableAsk}
 use Rattle.z_laws.specs.Shallow.{IsShallow}
+use Rattle.unit_forms.specs.Logins.{IsLoginIf}
 use Rattle.gw_outside.specs.Asks.{IsShort, AreFewShort, HasNoSet, MaySearch, MayPresent, MayScan, MayAsk}
 use Rattle.gw_outside.specs.Sessions.{Made}
 use Rattle.gw_outside.specs.Wires.{IsRequestUnit}
@@ -39,27 +40,45 @@ written units read request readable shallow small =
 
 -- ---- the Init
 
-init_readable : IsReadable init_request
-init_readable = record { versions = omega arith; options = omega arith; preferred = omega arith; exceptional = omega arith }
+init_readable : (login : Option (List ℕ)) → IsLoginIf login → IsReadable (init_request login)
+init_readable login h = (
+  record { versions = omega arith; options = omega arith; preferred = omega arith; exceptional = omega arith },
+  h,
+)
 
-abbrev own_init : Init
-own_init = record { ref_id = None; versions = 7; options = 16515; preferred = most_unit_octets; exceptional = most_unit_octets }
+abbrev own_init : Option (List ℕ) → Init
+own_init login = record {
+  ref_id = None;
+  versions = 7;
+  options = 16515;
+  preferred = most_unit_octets;
+  exceptional = most_unit_octets;
+  login = login;
+}
 
-init_within : IsWithin 48 (init_fields own_init)
+shared_within : (login : Option (List ℕ)) → IsWithin 48 (init_fields (own_init login))
 unfolding init_fields
-init_within =
+shared_within login =
     let versions = bits_within tag.protocol_version 7 (omega arith) (omega arith) in
     let bits = bits_within tag.options 16515 (omega arith) (omega arith) in
     let preferred = number_within tag.preferred_message_size most_unit_octets (omega arith) (omega arith) in
     let exceptional = number_within tag.exceptional_record_size most_unit_octets (omega arith) (omega arith) in
     joined (joined (joined versions bits) preferred) exceptional
 
-pub init_is_unit : {E : Type 0} → WrittenRequestsAreUnits → WrittenRequestsAreRead → (unit : Result (List ℕ) E) → IfOk unit (λ octets. octets ≡ spell_request init_request)
-    → IfOk unit (λ octets. IsRequestUnit octets init_request)
-init_is_unit units read (Ok unit) e =
-    let small = wider most_unit_octets (omega arith) (tree_within tag.init_request (omega arith) (omega arith) init_within) in
-    subst (λ octets. IsRequestUnit octets init_request) (sym e) (written units read init_request init_readable tt small)
-init_is_unit units read (Err why) e = tt
+login_within : (login : Option (List ℕ)) → IsLoginIf login → IsWithin 4107 (optional (tree_field tag.id_authentication) login)
+login_within None h = wider 4107 (omega arith) nothing
+login_within (Some login) h = tree_within tag.id_authentication (omega arith) (omega arith) (record { few = h.few })
+
+init_within : (login : Option (List ℕ)) → IsLoginIf login → IsWithin 4155 (init_request_fields (own_init login))
+unfolding init_request_fields
+init_within login h = joined (shared_within login) (login_within login h)
+
+pub init_is_unit : {E : Type 0} (login : Option (List ℕ)) → IsLoginIf login → WrittenRequestsAreUnits → WrittenRequestsAreRead → (unit : Result (List ℕ) E) → IfOk unit (λ octets. octets ≡ spell_request (init_request login))
+    → IfOk unit (λ octets. IsRequestUnit octets (init_request login))
+init_is_unit login h units read (Ok unit) e =
+    let small = wider most_unit_octets (omega arith) (tree_within tag.init_request (omega arith) (omega arith) (init_within login h)) in
+    subst (λ octets. IsRequestUnit octets (init_request login)) (sym e) (written units read (init_request login) (init_readable login h) h small)
+init_is_unit login h units read (Err why) e = tt
 
 -- ---- what may be asked is read from its written form
 

@@ -10,7 +10,7 @@ use Rattle.z_types.specs.declared.world.World as world
 use Rattle.gw_outside.specs.declared.backends.Heard.{Heard}
 use Rattle.gw_outside.specs.declared.links.Linked as linked
 use Rattle.z_types.specs.Same.{is_same}
-use Rattle.gw_outside.specs.Peers.{NamedSet, Peer, held, set_of}
+use Rattle.gw_outside.specs.Peers.{NamedSet, Peer, answers_at, held, set_of}
 use Rattle.gw_outside.specs.Sessions.{Made, IsWorlds}
 use Rattle.gw_outside.specs.Wires.{IsReplyUnit}
 use Rattle.z_client.specs.declared.session.Parts.{Parts}
@@ -61,7 +61,7 @@ module _ {W : Type 0} (w : world.Ghosts W) (address : Address) where
 
   -- the peer of a session
   pub record IsTruePeer (made : Made) (pending : Pending) (peer : Peer) : Type 0 where
-    pub same_address : peer.address ≡ address
+    pub same_address : answers_at peer ≡ address
     pub sets : AreTrueSets made pending peer.sets
     pub owed : Owes made pending peer.owed
 
@@ -72,7 +72,7 @@ module _ {W : Type 0} (w : world.Ghosts W) (address : Address) where
 
   -- the reply to what is pending has arrived whole as these octets, and nothing more is owed
   pub record HasCome (made : Made) (pending : Pending) (peer : Peer) (octets : List ℕ) : Type 0 where
-    pub same_address : peer.address ≡ address
+    pub same_address : answers_at peer ≡ address
     pub sets : AreTrueSets made pending peer.sets
     pub owed : peer.owed ≡ []
     pub reply : Reply

@@ -6,6 +6,7 @@ use Rattle.z_types.specs.declared.ask.Ask.TheVariants.{Search, Present, Scan}
 use Rattle.z_types.specs.declared.requests.Asked.TheVariants.{Good}
 use Rattle.z_types.specs.declared.requests.Request.{Request}
 use Rattle.z_types.specs.declared.requests.Request.TheVariants as request
+use Rattle.z_types.specs.Logins.{inner, login_of}
 use Rattle.z_types.specs.declared.address.Address.{Address}
 use Rattle.z_types.specs.declared.world.World as world
 use Rattle.gw_outside.specs.Asks.{MayAsk}
@@ -19,14 +20,15 @@ use Rattle.gw_outside.specs.declared.wires.Sent.TheVariants as sent
 use Rattle.gw_outside.specs.Sessions.{Made}
 use Rattle.gw_outside.specs.Wires.{IsRequestUnit}
 
--- versions 1 to 3; search, present, scan and named result sets; the most octets of a unit
-abbrev pub init_request : Request
-init_request = request.Init (record {
+-- versions 1 to 3; search, present, scan and named result sets; the most octets of a unit; the login of the address, if any
+abbrev pub init_request : Option (List ℕ) → Request
+init_request login = request.Init (record {
   ref_id = None;
   versions = own_versions;
   options = own_options;
   preferred = most_unit_octets;
   exceptional = most_unit_octets;
+  login = login;
 })
 
 -- a Search shows no records, and replaces what its name has
@@ -60,10 +62,10 @@ Takes w h request None new = new ≡ None
 Takes w h request (Some old) None = ⊥
 Takes w h request (Some old) (Some new) = TakesRequest w h.steady (sets_found (at_address h old.address) request old.sets) request old new
 
--- the peer of a new link that is told has taken an Init
+-- the peer of a new link to the inner address that is told has taken an Init with the login
 abbrev pub TookInit : {W : Type 0} → world.Ghosts W → Happened → Address → Option Peer → Type 0
 TookInit w h address None = Unit {0}
-TookInit w h address (Some peer) = TakesRequest w h.steady [] init_request (new_peer address) peer
+TookInit w h address (Some peer) = TakesRequest w h.steady [] (init_request (login_of address)) (new_peer (inner address)) peer
 
 -- an ask whose unit was sent has begun
 abbrev pub began_by : Sent → Began

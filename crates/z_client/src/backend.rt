@@ -4,6 +4,8 @@ ghost use Rattle.std.specs.Prelude.{◌≡◌, ◌≢◌, List, ℕ, [], false, 
 ghost use Rattle.z_ber.specs.Frames.{IsFrame};
 ghost use Rattle.z_ber.specs.Header.{IsOpenFor};
 ghost use Rattle.z_types.specs.Pending.{IsPending, resting};
+ghost use Rattle.z_types.specs.Logins.{inner, login_of};
+ghost use Rattle.unit_forms.specs.Logins.{HasLogin};
 ghost use Rattle.gw_outside.specs.Asks.{MayAsk};
 ghost use Rattle.gw_outside.specs.Counts.{BackendCounts};
 ghost use Rattle.gw_outside.specs.Happened.{AreSame, AreLess, at_address};
@@ -82,6 +84,7 @@ impl<W: World, N: Wire<W>> Backend<W> for ZBackend<N> {
     type Session = ZSession<W, N::Link>;
 
     fn open_(&mut self, alloc: Global, address: &Address) -> Opening<ZSession<W, N::Link>>
+        requires login { HasLogin address.now }
         ensures session { IfSession result
             (IsNewSession ⟦<ZSession<W, N::Link> as Sitting<W>>⟧ address.now) }
         ensures sent { IfSession result
@@ -101,10 +104,13 @@ impl<W: World, N: Wire<W>> Backend<W> for ZBackend<N> {
         let Ok(own) = copy(address) else {
             return Opening::Memory;
         };
-        let Ok(unit) = init_unit(alloc) else {
+        let Ok((inner, login)) = apart(address) else {
             return Opening::Memory;
         };
-        match self.wire.dial(alloc, address) {
+        let Ok(unit) = init_unit(alloc, login) else {
+            return Opening::Memory;
+        };
+        match self.wire.dial(alloc, &inner) {
             Dialled::Link(link) => {
                 self.own.count_dial();
                 greet(&mut self.wire, alloc, link, own, &unit)
@@ -195,6 +201,19 @@ impl<W: World, N: Wire<W>> Backend<W> for ZBackend<N> {
             }
         }
     }
+}
+
+/// An address apart: without its login, and its login, if any.
+fn apart(address: &Address) -> Result<(Address, Option<Text>), Memory>
+    ensures inner { IfOk result (λ both. both.0 ≡ inner address.now) }
+    ensures login { IfOk result (λ both. both.1 ≡ login_of address.now) }
+{
+    let inner = address.inner()?;
+    let login = match address.login() {
+        Some(login) => Some(copy(login)?),
+        None => None,
+    };
+    Ok((inner, login))
 }
 
 /// An ask of one's own, and its unit.

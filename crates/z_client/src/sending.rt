@@ -1,6 +1,7 @@
 //! What a session sends: its Init over a new link, and what it is asked.
 
 ghost use Rattle.std.specs.Prelude.{◌≡◌, Bool, true, false};
+ghost use Rattle.z_types.specs.Logins.{inner, login_of};
 ghost use Rattle.z_types.specs.Pending.{resting};
 ghost use Rattle.gw_outside.specs.Asks.{MayAsk};
 ghost use Rattle.gw_outside.specs.Counts.{WireCounts};
@@ -22,7 +23,7 @@ use std::marker::PhantomData;
 use z_ber::Scan;
 use z_types::{Address, Ask, Sitting, Text, World};
 
-/// Sends the Init over a new link.
+/// Sends the Init over a new link to the inner address, with the login of the address.
 pub(crate) fn greet<W: World, N: Wire<W>>(
     wire: &mut N,
     alloc: Global,
@@ -30,8 +31,9 @@ pub(crate) fn greet<W: World, N: Wire<W>>(
     address: Address,
     unit: &Text,
 ) -> Opening<ZSession<W, N::Link>>
-    requires link { IsNewLink W.World N.Link.Linked N.exact address (N.counts wire.old) link }
-    requires unit { IsRequestUnit unit.now init_request }
+    requires link { IsNewLink W.World N.Link.Linked N.exact
+        (inner address) (N.counts wire.old) link }
+    requires unit { IsRequestUnit unit.now (init_request (login_of address)) }
     ensures session { IfSession result (IsNewParts address) }
     ensures sent { IfSession result
         (λ s. TookInit W.World (N.happened wire.old) address (N.Link.peer s.link)) }

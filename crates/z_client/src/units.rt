@@ -3,6 +3,7 @@
 
 ghost use Rattle.std.specs.Prelude.{◌≡◌, IfOk};
 ghost use Rattle.z_types.specs.declared.ask.Ask.TheVariants as Asks;
+ghost use Rattle.unit_forms.specs.Logins.{IsLoginIf};
 ghost use Rattle.gw_outside.specs.Wires.{IsRequestUnit};
 ghost use Rattle.z_client.specs.Units.{init_request, request_of, IsAskUnit};
 
@@ -15,10 +16,11 @@ use z_types::{
 };
 use z_write::write_request;
 
-/// The unit of the Init that opens a session.
+/// The unit of the Init that opens a session, with this login, if any.
 #[tactic(auto, using(crate::proofs::UnitLemmas::init_is_unit))]
-pub(crate) fn init_unit(alloc: Global) -> Result<Text, Memory>
-    ensures { IfOk result (λ unit. IsRequestUnit unit init_request) }
+pub(crate) fn init_unit(alloc: Global, login: Option<Text>) -> Result<Text, Memory>
+    requires { IsLoginIf login }
+    ensures { IfOk result (λ unit. IsRequestUnit unit (init_request login)) }
 {
     written_requests_are_units();
     written_requests_are_read();
@@ -28,6 +30,7 @@ pub(crate) fn init_unit(alloc: Global) -> Result<Text, Memory>
         options: OWN_OPTIONS,
         preferred: MOST_UNIT_OCTETS as u32,
         exceptional: MOST_UNIT_OCTETS as u32,
+        login,
     };
     write_request(alloc, &Request::Init(init))
 }

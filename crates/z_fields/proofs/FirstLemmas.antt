@@ -2,7 +2,7 @@
 use Rattle.std.proofs.Common.{◌≡◌, ◌∙◌, ◌<◌, Bool, true, false, cond, ◌==◌, List, Some, None, sym, ap, arith, refl}
 use Rattle.z_ber.specs.declared.tag.Tag.{Tag}
 use Rattle.z_ber.specs.Element.{Forest, none, leaf, branch}
-use Rattle.unit_forms.specs.Reading.Elements.{Field, first_element, other_elements, is_one_of, first_of, first_context}
+use Rattle.unit_forms.specs.Reading.Elements.{Field, first_element, other_elements, is_constructed, is_one_of, first_of, first_constructed, first_context}
 use Rattle.z_fields.specs.Trees.{count}
 
 some_none : {P : Type 0} (f : Field) → Some f ≡ None → P
@@ -30,6 +30,16 @@ context_at : (forest : Forest) (f : Field) → Some f ≡ first_element forest �
 context_at none f e = some_none f e
 context_at (leaf t c os) f e = rw (field_is f _ e) refl
 context_at (branch t c is os) f e = rw (field_is f _ e) refl
+
+none_constructed_at : (wanted : Tag) (forest : Forest) → None ≡ first_element forest → first_constructed wanted forest ≡ None
+none_constructed_at wanted none e = refl
+none_constructed_at wanted (leaf t c os) e = some_none _ (sym e)
+none_constructed_at wanted (branch t c is os) e = some_none _ (sym e)
+
+constructed_at : (wanted : Tag) (forest : Forest) (f : Field) → Some f ≡ first_element forest → first_constructed wanted forest ≡ cond (is_constructed wanted f.tag) (Some f) (first_constructed wanted (other_elements forest))
+constructed_at wanted none f e = some_none f e
+constructed_at wanted (leaf t c os) f e = rw (field_is f _ e) refl
+constructed_at wanted (branch t c is os) f e = rw (field_is f _ e) refl
 
 when : {A : Type 0} (b : Bool) (x y : A) → b ≡ true → cond b x y ≡ x
 when b x y e = rw e refl
@@ -61,6 +71,17 @@ pub later_context : (start forest others : Forest) (f : Field) → first_context
 later_context start forest others f passed e o y =
     passed ∙ context_at forest f e ∙ unless (f.tag.class == 2) _ _ y ∙ ap first_context (sym o)
 
+-- likewise of a constructed one with a tag
+pub none_constructed : (wanted : Tag) (start forest : Forest) → first_constructed wanted start ≡ first_constructed wanted forest → None ≡ first_element forest → None ≡ first_constructed wanted start
+none_constructed wanted start forest passed e = sym (passed ∙ none_constructed_at wanted forest e)
+
+pub here_constructed : (wanted : Tag) (start forest : Forest) (f : Field) → first_constructed wanted start ≡ first_constructed wanted forest → Some f ≡ first_element forest → is_constructed wanted f.tag ≡ true → Some f ≡ first_constructed wanted start
+here_constructed wanted start forest f passed e y = sym (passed ∙ constructed_at wanted forest f e ∙ when (is_constructed wanted f.tag) _ _ y)
+
+pub later_constructed : (wanted : Tag) (start forest others : Forest) (f : Field) → first_constructed wanted start ≡ first_constructed wanted forest → Some f ≡ first_element forest → others ≡ other_elements forest → is_constructed wanted f.tag ≡ false → first_constructed wanted start ≡ first_constructed wanted others
+later_constructed wanted start forest others f passed e o y =
+    passed ∙ constructed_at wanted forest f e ∙ unless (is_constructed wanted f.tag) _ _ y ∙ ap (first_constructed wanted) (sym o)
+
 fewer_at : (forest : Forest) (f : Field) → Some f ≡ first_element forest → count (other_elements forest) < count forest
 fewer_at none f e = some_none f e
 fewer_at (leaf t c os) f e = omega arith
@@ -73,3 +94,5 @@ fewer forest others f e o = let less = fewer_at forest f e in let same = ap coun
 pub ruleset first_steps = (none_first, here_first, later_first, fewer)
 
 pub ruleset context_steps = (none_context, here_context, later_context, fewer)
+
+pub ruleset constructed_steps = (none_constructed, here_constructed, later_constructed, fewer)

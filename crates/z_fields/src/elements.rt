@@ -1,7 +1,7 @@
 //! Elements, each of which is one all the way down (X.690:2021, 8.1.1).
 
 ghost use Rattle.std.specs.Prelude.{◌≡◌, ◌==◌};
-ghost use Rattle.unit_forms.specs.Reading.Elements.{first_element, other_elements, has_tag, is_one_of, first_of, first_context};
+ghost use Rattle.unit_forms.specs.Reading.Elements.{first_element, other_elements, has_tag, is_constructed, is_one_of, first_of, first_constructed, first_context};
 ghost use Rattle.z_fields.specs.Trees.{AreWhole, IsTaken, IsRoot};
 
 use std::marker::Model;
@@ -119,6 +119,14 @@ pub fn has_tag(tag: Tag, wanted: Tag) -> bool
     tag.class == wanted.class && tag.number == wanted.number
 }
 
+/// Whether a tag is the wanted one, around elements.
+#[inline(always)]
+fn is_constructed(wanted: Tag, tag: Tag) -> bool
+    ensures { result ≡ is_constructed wanted tag }
+{
+    tag.constructed && has_tag(tag, wanted)
+}
+
 /// Whether a tag is one of a choice's.
 #[inline(always)]
 pub fn is_one_of(choice: &[Tag], tag: Tag) -> bool
@@ -162,6 +170,24 @@ impl<'a> Elements<'a> {
                 None => return None,
                 Some(field) => {
                     if is_one_of(choice, field.tag()) {
+                        return Some(field);
+                    }
+                }
+            }
+        }
+    }
+
+    /// The first constructed element with this tag.
+    #[tactic(auto, using(crate::proofs::FirstLemmas::constructed_steps))]
+    #[inline(always)]
+    pub fn first_constructed(mut self, wanted: Tag) -> Option<Field<'a>>
+        ensures { result ≡ first_constructed wanted self.entry }
+    {
+        loop {
+            match self.next() {
+                None => return None,
+                Some(field) => {
+                    if is_constructed(wanted, field.tag()) {
                         return Some(field);
                     }
                 }

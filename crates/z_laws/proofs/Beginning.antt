@@ -35,7 +35,7 @@ spells-nothing = record {
 }
 
 -- what goes on with one forest and then with another goes on with both
-goes_on-joined : (levels : ℕ) (rest : List ℕ) (f g tree others : Forest) → tree ≡ joined f others → GoesOn levels rest g others → GoesOn levels rest (joined f g) tree
+pub goes_on-joined : (levels : ℕ) (rest : List ℕ) (f g tree others : Forest) → tree ≡ joined f others → GoesOn levels rest g others → GoesOn levels rest (joined f g) tree
 goes_on-joined levels rest f g tree others e o = record {
   others = o.others;
   whole = e ∙ ap (joined f) o.whole ∙ sym (joined-joined f g o.others);

@@ -1,18 +1,20 @@
 -- An Init that is written is read again, as a request and in its response.
-use Rattle.std.proofs.Common.{◌≡◌, ◌∙◌, ◌^◌, ◌<◌, pos, [], ◌∷◌, None, Ok, lit<, sym, ap, refl}
+use Rattle.std.proofs.Common.{◌≡◌, ◌^◌, ◌<◌, ℕ, pos, List, [], ◌∷◌, Option, None, Some, Ok, lit<, refl}
 use Rattle.z_types.specs.Numbers.{IsNumber}
 use Rattle.z_types.specs.declared.requests.Init.{Init}
 use Rattle.z_ber.specs.Element.{Forest, none, leaf}
 use Rattle.z_ber.specs.Written.{int_octets, bits_octets}
 use Rattle.unit_forms.specs.Fields.{primitive}
-use Rattle.unit_forms.specs.Requests.{init_fields}
+use Rattle.unit_forms.specs.Requests.{init_fields, init_request_fields}
+use Rattle.unit_forms.specs.Logins.{IsLoginIf}
 use Rattle.unit_forms.specs.Reading.Elements.{first_of}
 use Rattle.unit_forms.specs.Reading.Rows.{octets_of, number_of, bits_of, context, required, optional}
-use Rattle.unit_forms.specs.Reading.InitRequest.{init_in}
+use Rattle.unit_forms.specs.Reading.InitRequest.{Shared, shared_in, login_in, init_in}
 use Rattle.z_laws.specs.Readable.{IsReadableInit}
 use Rattle.z_laws.proofs.Beginning.{Spells}
-use Rattle.z_laws.proofs.Forests.{joined, joined-none}
-use Rattle.z_laws.proofs.Lookup.{maybe_leaf, or_else-none, first_of-joined, first_of-maybe_leaf}
+use Rattle.z_laws.proofs.Forests.{joined}
+use Rattle.z_laws.proofs.Lookup.{maybe_leaf, or_else-none, first_of-joined, first_of-maybe_leaf, first_constructed-joined, first_constructed-maybe_leaf}
+use Rattle.z_laws.proofs.LoginAgain.{login_forest, spells-login, login-again}
 use Rattle.z_laws.proofs.Parts.{◌⊕◌, spells-primitive, spells-maybe, number_once, bits_once, octets_if}
 
 -- the elements of an Init
@@ -44,11 +46,35 @@ init-preferred init rest small = simp (first_of-joined, first_of-maybe_leaf) (nu
 init-exceptional : (init : Init) (rest : Forest) → IsNumber init.exceptional → required 6 number_of (joined (init_forest init) rest) ≡ Ok init.exceptional
 init-exceptional init rest small = simp (first_of-joined, first_of-maybe_leaf) (number_once 6 init.exceptional small)
 
+-- what an Init and its answer share
+abbrev pub shared_of : Init → Shared
+shared_of init = (init.ref_id, (init.versions, (init.options, (init.preferred, init.exceptional))))
+
 -- whatever follows that has no referenceId
-pub init_in-more : (init : Init) (rest : Forest) → first_of (context 2 ∷ []) rest ≡ None → IsReadableInit init → init_in (joined (init_forest init) rest) ≡ Ok init
-unfolding init_in
-init_in-more init rest none_there h =
+pub shared_in-more : (init : Init) (rest : Forest) → first_of (context 2 ∷ []) rest ≡ None → IsReadableInit init → shared_in (joined (init_forest init) rest) ≡ Ok (shared_of init)
+unfolding shared_in
+shared_in-more init rest none_there h =
     rw (init-ref_id init rest none_there, init-versions init rest h.versions, init-options init rest h.options, init-preferred init rest h.preferred, init-exceptional init rest h.exceptional) refl
 
-pub init_in-again : (init : Init) → IsReadableInit init → init_in (init_forest init) ≡ Ok init
-init_in-again init h = ap init_in (sym (joined-none (init_forest init))) ∙ init_in-more init none refl h
+-- ---- a request
+
+-- the elements of an Init, its login among them
+abbrev pub init_request_forest : (init : Init) → IsLoginIf init.login → Forest
+init_request_forest init h = joined (init_forest init) (login_forest init.login h)
+
+pub spells-init_request_fields : (init : Init) (h : IsLoginIf init.login) → Spells (init_request_fields init) (init_request_forest init h)
+unfolding init_request_fields
+spells-init_request_fields init h = spells-init_fields init ⊕ spells-login init.login h
+
+no_ref_id : (login : Option (List ℕ)) (h : IsLoginIf login) → first_of (context 2 ∷ []) (login_forest login h) ≡ None
+no_ref_id None h = refl
+no_ref_id (Some login) h = refl
+
+init-login : (init : Init) (h : IsLoginIf init.login) → login_in (init_request_forest init h) ≡ Ok init.login
+unfolding login_in
+init-login init h = simp (first_constructed-joined, first_constructed-maybe_leaf) (login-again init.login h)
+
+pub init_in-again : (init : Init) → IsReadableInit init → (h : IsLoginIf init.login) → init_in (init_request_forest init h) ≡ Ok init
+unfolding init_in
+init_in-again init readable h =
+    rw (shared_in-more init (login_forest init.login h) (no_ref_id init.login h) readable, init-login init h) refl

@@ -5,6 +5,7 @@ pub mod DiagnosticsAgain
 pub mod Forests
 pub mod Heads
 pub mod InitAgain
+pub mod LoginAgain
 pub mod Lookup
 pub mod LowParts
 pub mod NamesAgain

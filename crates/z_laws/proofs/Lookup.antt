@@ -2,7 +2,8 @@
 use Rattle.std.proofs.Common.{◌≡◌, ◌∙◌, ℕ, Bool, true, false, cond, List, Option, Some, None, ap, refl}
 use Rattle.z_ber.specs.declared.tag.Tag.{Tag}
 use Rattle.z_ber.specs.Element.{Forest, none, leaf, branch}
-use Rattle.unit_forms.specs.Reading.Elements.{Field, field_of, is_one_of, first_of}
+use Rattle.unit_forms.specs.Reading.Elements.{Field, field_of, is_constructed, is_one_of, first_of, first_constructed}
+use Rattle.unit_forms.specs.Fields.{primitive}
 use Rattle.z_laws.proofs.Forests.{joined}
 
 -- the first of two where there is one
@@ -54,3 +55,15 @@ first_of-maybe_leaf choice tag contents (Some x) = refl
 pub first_of-maybe_branch : {A : Type 0} (choice : List Tag) (tag : Tag) (contents : A → List ℕ) (inner : A → Forest) (o : Option A) → first_of choice (maybe_branch tag contents inner o) ≡ cond (is_one_of choice tag) (maybe_field (λ x. field_of tag (contents x) (inner x)) o) None
 first_of-maybe_branch choice tag contents inner None = either_none (is_one_of choice tag)
 first_of-maybe_branch choice tag contents inner (Some x) = refl
+
+-- the same of constructed elements alone
+pub first_constructed-joined : (wanted : Tag) (f g : Forest) → first_constructed wanted (joined f g) ≡ or_else (first_constructed wanted f) (first_constructed wanted g)
+first_constructed-joined wanted none g = refl
+first_constructed-joined wanted (leaf tag contents others) g =
+    ap (cond (is_constructed wanted tag) (Some (field_of tag contents none))) (first_constructed-joined wanted others g) ∙ pick (is_constructed wanted tag) _ _ _
+first_constructed-joined wanted (branch tag contents inner others) g =
+    ap (cond (is_constructed wanted tag) (Some (field_of tag contents inner))) (first_constructed-joined wanted others g) ∙ pick (is_constructed wanted tag) _ _ _
+
+pub first_constructed-maybe_leaf : {A : Type 0} (wanted : Tag) (number : ℕ) (contents : A → List ℕ) (o : Option A) → first_constructed wanted (maybe_leaf (primitive number) contents o) ≡ None
+first_constructed-maybe_leaf wanted number contents None = refl
+first_constructed-maybe_leaf wanted number contents (Some x) = refl

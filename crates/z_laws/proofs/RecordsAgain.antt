@@ -39,7 +39,8 @@ no_nothing (suc m) octets rest (leaf t c others) h e =
 no_nothing (suc m) octets rest (branch t c inner others) h e =
     no_branch false t c h.1.first (h.1.others ++ rest) [] h.1.here refl (sym e ∙ ap (λ o. o ++ rest) h.1.spelled ∙ append_assoc h.1.first h.1.others rest)
 
-in_front_of : (levels : ℕ) (octets rest : List ℕ) (tree : Forest) (m : ℕ) (forest : Forest) → IsElement m octets forest → AreElements false levels (octets ++ rest) tree → GoesOn levels rest forest tree
+-- an element in front of others is the one that it is by itself
+pub in_front_of : (levels : ℕ) (octets rest : List ℕ) (tree : Forest) (m : ℕ) (forest : Forest) → IsElement m octets forest → AreElements false levels (octets ++ rest) tree → GoesOn levels rest forest tree
 in_front_of levels octets rest none m forest h are = no_nothing m octets rest forest h are
 in_front_of zero octets rest (leaf t c others) m forest h are = absurd are
 in_front_of zero octets rest (branch t c inner others) m forest h are = absurd are

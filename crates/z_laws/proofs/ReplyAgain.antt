@@ -1,5 +1,5 @@
 -- A reply that is written and is a unit is read again.
-use Rattle.std.proofs.Common.{◌≡◌, ◌∙◌, ℕ, ◌≤◌, Bool, pos, List, [], ◌∷◌, length, Option, Ok, lit<, ap, subst, arith, refl}
+use Rattle.std.proofs.Common.{◌≡◌, ◌∙◌, ℕ, ◌≤◌, Bool, pos, List, [], ◌∷◌, length, Option, None, Ok, lit<, sym, ap, subst, arith, refl}
 use Rattle.std.specs.Prelude.{IfSome, codes}
 use Rattle.z_types.specs.Numbers.{IsNumber}
 use Rattle.z_types.specs.declared.records.Body.{Body}
@@ -14,7 +14,7 @@ use Rattle.unit_forms.specs.Requests.{close_fields}
 use Rattle.unit_forms.specs.Replies.{implementation_fields, init_reply_fields, search_reply_fields, present_reply_fields, scan_reply_fields, spell_reply}
 use Rattle.unit_forms.specs.Reading.Answers.{read_as}
 use Rattle.unit_forms.specs.Reading.Elements.{first_of}
-use Rattle.unit_forms.specs.Reading.InitRequest.{init_response_in}
+use Rattle.unit_forms.specs.Reading.InitRequest.{as_init, as_answered, init_response_in}
 use Rattle.unit_forms.specs.Reading.Records.{body_in, body_or_none}
 use Rattle.unit_forms.specs.Reading.Responses.{init_reply_in, counts_in, found_in, search_reply_in, returned_in, presented_in, present_reply_in}
 use Rattle.unit_forms.specs.Reading.Rows.{octets_of, number_of, truth_of, context, required, optional}
@@ -25,7 +25,7 @@ use Rattle.z_laws.proofs.Beginning.{Spells, unit_tree}
 use Rattle.z_laws.proofs.Forests.{joined, joined-joined}
 use Rattle.z_laws.proofs.Lookup.{maybe_leaf, or_else-none, first_of-joined, first_of-maybe_leaf}
 use Rattle.z_laws.proofs.Parts.{◌⊕◌, spells-primitive, spells-constructed, spells-maybe, number_once, truth_once, number_if, octets_if}
-use Rattle.z_laws.proofs.InitAgain.{init_forest, spells-init_fields, init_in-more}
+use Rattle.z_laws.proofs.InitAgain.{shared_of, init_forest, spells-init_fields, shared_in-more}
 use Rattle.z_laws.proofs.RecordsAgain.{body_forest, spells-body, body-no_ref_id, body-no_status, body-again}
 use Rattle.z_laws.proofs.CloseAgain.{close_forest, spells-close, close_in-again}
 use Rattle.z_laws.proofs.ScanReplyAgain.{scan_reply_forest, spells-scan_reply_fields, scan_reply_in-again, entries-few}
@@ -57,10 +57,14 @@ spells-init_reply_fields init result =
 init-result : (init : Init) (result : Bool) → required 12 truth_of (init_reply_forest init result) ≡ Ok result
 init-result init result = simp (first_of-joined, first_of-maybe_leaf) (truth_once 12 result)
 
-init_reply_in-again : (init : Init) (result : Bool) → IsReadableInit init → init_reply_in (init_reply_forest init result) ≡ Ok (reply.Init init result)
+without_login : (init : Init) → init.login ≡ None → as_answered (shared_of init) ≡ init
+without_login init none_there =
+    ap (λ (login : Option (List ℕ)). as_init (shared_of init, login)) (sym none_there)
+
+init_reply_in-again : (init : Init) (result : Bool) → IsReadableInit init → init.login ≡ None → init_reply_in (init_reply_forest init result) ≡ Ok (reply.Init init result)
 unfolding init_reply_in init_response_in
-init_reply_in-again init result h =
-    rw (init_in-more init (result_forest result) refl h, init-result init result) refl
+init_reply_in-again init result h none_there =
+    rw (shared_in-more init (result_forest result) refl h, init-result init result) (ap (λ (i : Init). Ok (reply.Init i result)) (without_login init none_there))
 
 -- ---- a SearchResponse
 
@@ -167,7 +171,7 @@ spells-reply (reply.Close close) h = spells-close close
 
 forest-again : (told : Reply) (h : IsReadableReply told) → length (spell_reply told) ≤ 1048576 → reply_in (reply_forest told h) ≡ Ok told
 unfolding reply_of
-forest-again (reply.Init init result) h small = init_reply_in-again init result h
+forest-again (reply.Init init result) h small = init_reply_in-again init result h.0 h.1
 forest-again (reply.Search ref_id count returned next ok status body) h small =
     search_reply_in-again ref_id count returned next ok status body h
 forest-again (reply.Present ref_id returned next status body) h small =

@@ -21,13 +21,15 @@ use Rattle.z_types.specs.declared.requests.Request.TheVariants as request
 use Rattle.z_ber.specs.Element.{Forest}
 use Rattle.z_ber.specs.Place.{IsUnit}
 use Rattle.unit_forms.specs.Requests.{spell_request}
+use Rattle.unit_forms.specs.Logins.{IsLoginIf}
 use Rattle.z_laws.specs.Shallow.{IsShallow, IsShallowQuery}
 use Rattle.z_laws.proofs.Beginning.{spelled_unit}
 use Rattle.z_laws.proofs.Forests.{IsLow, low-none, low-joined}
 use Rattle.z_laws.proofs.LowParts.{low-leaf, low-branch, low-branches, low}
 use Rattle.z_laws.proofs.AttributesAgain.{attr_forest, term_forest, plus_forest}
 use Rattle.z_laws.proofs.CloseAgain.{close_forest}
-use Rattle.z_laws.proofs.InitAgain.{init_forest}
+use Rattle.z_laws.proofs.InitAgain.{init_forest, init_request_forest}
+use Rattle.z_laws.proofs.LoginAgain.{low-login}
 use Rattle.z_laws.proofs.PresentAgain.{present_forest}
 use Rattle.z_laws.proofs.QueryAgain.{structure_forest, asked_forest}
 use Rattle.z_laws.proofs.ScanAgain.{scan_ask_forest, scan_forest}
@@ -39,6 +41,9 @@ low-close close = search (rules, low) depth 12
 
 pub low-init : (init : Init) → IsLow 63 (init_forest init)
 low-init init = search (rules, low) depth 12
+
+low-init_request : (init : Init) (h : IsLoginIf init.login) → IsLow 63 (init_request_forest init h)
+low-init_request init h = low-joined (low-init init) (low-login init.login h)
 
 low-present : (present : Present) → IsLow 63 (present_forest present)
 low-present present = search (rules, low) depth 12
@@ -93,12 +98,12 @@ low-scan scan = low-joined (search (rules, low) depth 12) (low-scan_ask scan.ask
 
 pub request-unit : (asked : Request) → IsShallow asked → length (spell_request asked) ≤ most_unit_octets → (tree : Forest) × IsUnit (spell_request asked) tree
 request-unit (request.Init init) h small =
-    (request_forest (request.Init init), spelled_unit _ _ _ (init_forest init) (spells-request (request.Init init)) (low-init init) small)
+    (request_forest (request.Init init) h, spelled_unit _ _ _ (init_request_forest init h) (spells-request (request.Init init) h) (low-init_request init h) small)
 request-unit (request.Search search) h small =
-    (request_forest (request.Search search), spelled_unit _ _ _ (search_forest search) (spells-request (request.Search search)) (low-search search h) small)
+    (request_forest (request.Search search) tt, spelled_unit _ _ _ (search_forest search) (spells-request (request.Search search) tt) (low-search search h) small)
 request-unit (request.Present present) h small =
-    (request_forest (request.Present present), spelled_unit _ _ _ (present_forest present) (spells-request (request.Present present)) (low-present present) small)
+    (request_forest (request.Present present) tt, spelled_unit _ _ _ (present_forest present) (spells-request (request.Present present) tt) (low-present present) small)
 request-unit (request.Scan scan) h small =
-    (request_forest (request.Scan scan), spelled_unit _ _ _ (scan_forest scan) (spells-request (request.Scan scan)) (low-scan scan) small)
+    (request_forest (request.Scan scan) tt, spelled_unit _ _ _ (scan_forest scan) (spells-request (request.Scan scan) tt) (low-scan scan) small)
 request-unit (request.Close close) h small =
-    (request_forest (request.Close close), spelled_unit _ _ _ (close_forest close) (spells-request (request.Close close)) (low-close close) small)
+    (request_forest (request.Close close) tt, spelled_unit _ _ _ (close_forest close) (spells-request (request.Close close) tt) (low-close close) small)

@@ -17,13 +17,14 @@ use Rattle.z_types.specs.declared.requests.Request.{Request}
 use Rattle.z_types.specs.declared.requests.Request.TheVariants as request
 use Rattle.z_types.specs.declared.scan.ScanAsk.{ScanAsk}
 use Rattle.z_ber.specs.Values.{IsInteger, IsBits, IsOid}
+use Rattle.unit_forms.specs.Logins.{IsLoginIf}
 
 -- what is asked has a written form, and so has no refusal in its place
 abbrev pub IsAsked : {A : Type 0} → (A → Type 0) → Asked A → Type 0
 IsAsked P (Good asked) = P asked
 IsAsked P (Bad diag) = ⊥
 
--- an Init
+-- an Init, and the answer to one, apart from the login
 pub record IsReadableInit (init : Init) : Type 0 where
   pub versions : IsBits init.versions
   pub options : IsBits init.options
@@ -88,7 +89,7 @@ IsReadableClose close = IsNumber close.reason
 
 -- a request
 abbrev pub IsReadable : Request → Type 0
-IsReadable (request.Init init) = IsReadableInit init
+IsReadable (request.Init init) = IsReadableInit init × IsLoginIf init.login
 IsReadable (request.Search search) = IsReadableSearch search
 IsReadable (request.Present present) = IsReadablePresent present
 IsReadable (request.Scan scan) = IsAsked IsReadableAsk scan.ask

@@ -1,5 +1,5 @@
 -- Replies whose written form is read (this project's own): their numbers are in the ranges that are read, their object identifiers are some (X.660, 7.6), and they hold nothing that has no written form.
-use Rattle.std.specs.Prelude.{ℕ, ◌<◌, List, length, IfSome, IsSome}
+use Rattle.std.specs.Prelude.{◌≡◌, ℕ, ◌<◌, List, length, None, IfSome, IsSome}
 use Rattle.std.specs.List.{AllByRecursion}
 use Rattle.z_types.specs.Numbers.{IsNumber}
 use Rattle.z_types.specs.declared.diagnostic.Diag.{Diag}
@@ -60,9 +60,9 @@ pub record IsReadableAnswer (answer : ScanAnswer) : Type 0 where
   pub position : IfSome answer.position IsNumber
   pub entries : AllByRecursion IsReadableEntry answer.entries
 
--- a reply
+-- a reply; that to an Init has no login
 abbrev pub IsReadableReply : Reply → Type 0
-IsReadableReply (reply.Init init result) = IsReadableInit init
+IsReadableReply (reply.Init init result) = IsReadableInit init × (init.login ≡ None)
 IsReadableReply (reply.Search ref_id count returned next ok status body) =
     IsNumber count × IsNumber returned × IsNumber next × IfSome status IsNumber × IsReadableBody body
 IsReadableReply (reply.Present ref_id returned next status body) =

@@ -16,6 +16,7 @@ use Rattle.z_types.specs.declared.requests.Asked.TheVariants.{Good, Bad}
 use Rattle.z_types.specs.declared.requests.Request.{Request}
 use Rattle.z_types.specs.declared.requests.Request.TheVariants as request
 use Rattle.z_ber.specs.Element.{Forest, IsElement}
+use Rattle.unit_forms.specs.Logins.{IsLoginIf}
 
 -- a structure stands within three levels, and an operand takes four more than its own
 abbrev pub most_query_levels : ℕ
@@ -30,9 +31,9 @@ abbrev pub IsShallowQuery : Asked RpnQuery → Type 0
 IsShallowQuery (Good query) = tree_depth query.root ≤ most_query_levels
 IsShallowQuery (Bad diag) = Unit {0}
 
--- a request; only a query has levels of its own
+-- a request; only a login and a query have levels of their own
 abbrev pub IsShallow : Request → Type 0
-IsShallow (request.Init init) = Unit {0}
+IsShallow (request.Init init) = IsLoginIf init.login
 IsShallow (request.Search search) = IsShallowQuery search.query
 IsShallow (request.Present present) = Unit {0}
 IsShallow (request.Scan scan) = Unit {0}

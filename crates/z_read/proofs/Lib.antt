@@ -9,3 +9,4 @@ pub mod OneFormUnits
 pub mod NumbersRead
 pub mod UnitLemmas
 pub mod RowLemmas
+pub mod LoginsRead

@@ -30,7 +30,7 @@ use Rattle.unit_forms.specs.Reading.CloseUnit.{close_in}
 use Rattle.unit_forms.specs.Reading.Contents.{integer_in, in_range, number_in}
 use Rattle.unit_forms.specs.Reading.Diagnostics.{other_form, other_query_type}
 use Rattle.unit_forms.specs.Reading.Elements.{Field, field_of, first_of, first_context, first_element, has_tag}
-use Rattle.unit_forms.specs.Reading.InitRequest.{init_in}
+use Rattle.unit_forms.specs.Reading.InitRequest.{shared_in, init_in}
 use Rattle.unit_forms.specs.Reading.PresentRequest.{present_in, place_in, form_in}
 use Rattle.unit_forms.specs.Reading.Queries.{operand_choice, operand_of, operand_in, operator_in, join_asked, joined_of, structure_with, structure_at, rpn_query_in, query_of, query_in}
 use Rattle.unit_forms.specs.Reading.Rows.{octets_of, number_of, required_of, optional_of, within, context, universal}
@@ -43,7 +43,7 @@ use Rattle.unit_forms.specs.Reading.Units.{request_of, request_in}
 ok_same : {A : Type 0} (x y : A) (read : Result A Refusal) → read ≡ Ok x → read ≡ Ok y → x ≡ y
 ok_same x y read p q = cc
 
-both_ok : {A B : Type 0} (a : Result A Refusal) (b : Result B Refusal) (p : A × B) → a ⊗ b ≡ Ok p → (a ≡ Ok p.0) × (b ≡ Ok p.1)
+pub both_ok : {A B : Type 0} (a : Result A Refusal) (b : Result B Refusal) (p : A × B) → a ⊗ b ≡ Ok p → (a ≡ Ok p.0) × (b ≡ Ok p.1)
 both_ok {A} {B} (Ok x) (Ok y) p e =
     let same = ok_same (x, y) p (Ok (x, y)) refl e in
     (ap (λ (q : A × B). Ok q.0) same, ap (λ (q : A × B). Ok q.1) same)
@@ -71,12 +71,12 @@ five_ok {A} {B} {C} {D} {E} {a} {b} {c} {d} {f} x y z w v e =
     (front.0, rest.0, rest.1, rest.2, rest.3)
 
 -- what a value was made of
-record Made {A B : Type 0} (f : A → B) (a : Result A Refusal) (y : B) : Type 0 where
-  of : A
-  read : a ≡ Ok of
-  same : f of ≡ y
+pub record Made {A B : Type 0} (f : A → B) (a : Result A Refusal) (y : B) : Type 0 where
+  pub of : A
+  pub read : a ≡ Ok of
+  pub same : f of ≡ y
 
-made_ok : {A B : Type 0} (f : A → B) (a : Result A Refusal) (y : B) → read_as f a ≡ Ok y → Made f a y
+pub made_ok : {A B : Type 0} (f : A → B) (a : Result A Refusal) (y : B) → read_as f a ≡ Ok y → Made f a y
 made_ok f (Ok x) y e = record { of = x; read = refl; same = cc }
 made_ok f (Err r) y e = absurd cc
 
@@ -317,11 +317,12 @@ query_ok x asked e = let found = there_ok (Missing 1) query_of (first_context x)
 -- ---- requests
 
 init_ok : (x : Forest) (init : Init) → init_in x ≡ Ok init → IsNumber init.preferred × IsNumber init.exceptional
-unfolding init_in
+unfolding init_in shared_in
 init_ok x init e =
     let m = made_ok _ _ init e in
-    let (ref_id, (versions, (options, (preferred, exceptional)))) = m.of in
-    let rows = five_ok ref_id versions options preferred exceptional m.read in
+    let parts = both_ok _ _ m.of m.read in
+    let (ref_id, (versions, (options, (preferred, exceptional)))) = m.of.0 in
+    let rows = five_ok ref_id versions options preferred exceptional parts.0 in
     subst (λ (i : Init). IsNumber i.preferred × IsNumber i.exceptional) m.same
     (some_number 5 (context 5 ∷ []) x preferred rows.3, some_number 6 (context 6 ∷ []) x exceptional rows.4)
 

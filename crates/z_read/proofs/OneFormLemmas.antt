@@ -10,7 +10,7 @@ use Rattle.unit_forms.specs.declared.refusal.Refusal.{Refusal}
 use Rattle.unit_forms.specs.declared.refusal.Refusal.TheVariants.{Missing, BadValue, LeftOut}
 use Rattle.unit_forms.specs.Reading.Answers.{read_or, read_if, read_as, value_or, each, in_front}
 use Rattle.unit_forms.specs.Reading.Contents.{truth_in, signed, integer_in, in_range, bits_in, oid_in}
-use Rattle.unit_forms.specs.Reading.Elements.{Field, field_of, is_one_of, has_tag, first_of, first_element, first_context}
+use Rattle.unit_forms.specs.Reading.Elements.{Field, field_of, is_constructed, is_one_of, has_tag, first_of, first_constructed, first_element, first_context}
 use Rattle.unit_forms.specs.Reading.Rows.{octets_of, bits_of, truth_of, integer_of, number_of, oid_of, required_of, optional_of, within}
 use Rattle.z_read.specs.OneForm.{Kind, is_repeated, shorter, fewest, one_truth, shown, kind_in, in_one_form}
 
@@ -81,6 +81,20 @@ first_formed kind choice g same (branch t c is os) = by (is_one_of choice t) ref
     by true e behind = same (field_of t c is) e
     by false e behind = behind
 
+-- so is what is made of the first constructed element with a tag
+pub constructed_formed : {B : Type 0} (kind : ℕ → Kind) (wanted : Tag) (g : Option Field → B) → ((f : Field) → is_constructed wanted f.tag ≡ true → g (Some (formed kind f)) ≡ g (Some f)) → (x : Forest) → g (first_constructed wanted (in_one_form kind x)) ≡ g (first_constructed wanted x)
+constructed_formed kind wanted g same none = refl
+constructed_formed kind wanted g same (leaf t c os) = by (is_constructed wanted t) refl (constructed_formed kind wanted g same os)
+  where
+    by : (b : Bool) → is_constructed wanted t ≡ b → g (first_constructed wanted (in_one_form kind os)) ≡ g (first_constructed wanted os) → g (cond b (Some (formed kind (field_of t c none))) (first_constructed wanted (in_one_form kind os))) ≡ g (cond b (Some (field_of t c none)) (first_constructed wanted os))
+    by true e behind = same (field_of t c none) e
+    by false e behind = behind
+constructed_formed kind wanted g same (branch t c is os) = by (is_constructed wanted t) refl (constructed_formed kind wanted g same os)
+  where
+    by : (b : Bool) → is_constructed wanted t ≡ b → g (first_constructed wanted (in_one_form kind os)) ≡ g (first_constructed wanted os) → g (cond b (Some (formed kind (field_of t c is))) (first_constructed wanted (in_one_form kind os))) ≡ g (cond b (Some (field_of t c is)) (first_constructed wanted os))
+    by true e behind = same (field_of t c is) e
+    by false e behind = behind
+
 pub first_element-formed : (kind : ℕ → Kind) (x : Forest) → first_element (in_one_form kind x) ≡ option_map (formed kind) (first_element x)
 first_element-formed kind none = refl
 first_element-formed kind (leaf t c os) = refl
@@ -127,6 +141,9 @@ its_number wanted tag e = same_number wanted tag (alone (has_tag tag wanted) e)
     alone : (b : Bool) → (b || false) ≡ true → b ≡ true
     alone true e = refl
     alone false e = absurd cc
+
+pub its_constructed_number : (wanted tag : Tag) → is_constructed wanted tag ≡ true → tag.number ≡ wanted.number
+its_constructed_number wanted tag e = same_number wanted tag (both_true tag.constructed (has_tag tag wanted) e).1
 
 -- ---- kinds of fields
 

@@ -1,5 +1,5 @@
 -- Units are read in one form as they are, so units of one form have the same answers.
-use Rattle.std.proofs.Common.{◌≡◌, ◌∙◌, ℕ, ◌==◌, Bool, true, false, cond, List, [], ◌∷◌, Result, Ok, Err, refl, sym, ap, subst}
+use Rattle.std.proofs.Common.{◌≡◌, ◌∙◌, ℕ, ◌==◌, Bool, true, false, cond, List, [], ◌∷◌, Some, Result, Ok, Err, refl, sym, ap, subst}
 use Rattle.z_types.specs.declared.requests.Request.TheVariants as request
 use Rattle.z_types.specs.declared.replies.Reply.TheVariants as reply
 use Rattle.z_ber.specs.declared.tag.Tag.{Tag}
@@ -8,12 +8,12 @@ use Rattle.z_ber.proofs.OnePlace.{unit_no_place}
 use Rattle.z_ber.proofs.TreeLaws.{element_one}
 use Rattle.unit_forms.specs.declared.refusal.Refusal.{Refusal}
 use Rattle.unit_forms.specs.declared.refusal.Refusal.TheVariants as refusal
-use Rattle.unit_forms.specs.Reading.Answers.{read_as}
+use Rattle.unit_forms.specs.Reading.Answers.{read_as, read_if}
 use Rattle.unit_forms.specs.Reading.Attributes.{attrs_and_term_in}
 use Rattle.unit_forms.specs.Reading.CloseUnit.{close_in}
 use Rattle.unit_forms.specs.Reading.ElementNames.{names_of}
-use Rattle.unit_forms.specs.Reading.Elements.{Field, field_of, is_one_of}
-use Rattle.unit_forms.specs.Reading.InitRequest.{init_in, init_response_in}
+use Rattle.unit_forms.specs.Reading.Elements.{Field, field_of, is_constructed, is_one_of}
+use Rattle.unit_forms.specs.Reading.InitRequest.{login_of, shared_in, login_in, init_in, init_response_in}
 use Rattle.unit_forms.specs.Reading.PresentRequest.{place_in, form_in, present_in}
 use Rattle.unit_forms.specs.Reading.Queries.{query_in}
 use Rattle.unit_forms.specs.Reading.Responses.{init_reply_in, counts_in, found_in, search_reply_in, returned_in, presented_in, present_reply_in, scanned_in, scan_reply_in}
@@ -22,10 +22,10 @@ use Rattle.unit_forms.specs.Reading.ScanRequest.{start_in, ask_in, scan_in}
 use Rattle.unit_forms.specs.Reading.SearchRequest.{databases_of, bounds_in, named_in, wanted_in, search_in}
 use Rattle.unit_forms.specs.Reading.Units.{numbered_request, request_of, numbered_reply, reply_of}
 use Rattle.z_read.specs.declared.fault.ReadFault.TheVariants.{Ber, UnknownUnit, Missing, BadValue, LeftOut, Memory}
-use Rattle.z_read.specs.OneForm.{Kind, octets, integer, truth, holding, in_one_form, request_kind, reply_kind, HaveOneForm, FormChangesNothing}
+use Rattle.z_read.specs.OneForm.{Kind, whole, octets, integer, truth, shown, holding, in_one_form, init_kind, request_kind, reply_kind, HaveOneForm, FormChangesNothing}
 use Rattle.z_read.specs.Read.{IsReadAs, IsReadingBy, IsRequestRead, IsReplyRead}
 use Rattle.z_read.proofs.SkippedLemmas.{at_root}
-use Rattle.z_read.proofs.OneFormLemmas.{formed, integer_same, truth_same, KeepsOctets, KeepsInteger, KeepsTruth, octets_formed, bits_formed, oid_formed, truth_formed, integer_formed, number_formed, within_formed, required_formed, optional_formed, of_tag}
+use Rattle.z_read.proofs.OneFormLemmas.{formed, integer_same, truth_same, KeepsOctets, KeepsInteger, KeepsTruth, octets_formed, bits_formed, oid_formed, truth_formed, integer_formed, number_formed, within_formed, required_formed, optional_formed, constructed_formed, its_constructed_number, of_tag}
 use Rattle.z_read.proofs.OneFormParts.{names_formed, databases_formed, attrs_and_term_formed, query_formed, body_in_formed, listing_formed, composition_formed}
 
 -- ---- rows of a unit
@@ -85,13 +85,20 @@ some_start kind x =
 
 -- ---- requests
 
-abbrev init_kind : ℕ → Kind
-init_kind = holding (5 ∷ 6 ∷ []) []
+-- a login, of which the contents octets are kept as they are
+login_same : (f : Field) → is_constructed (context 7) f.tag ≡ true → login_of (formed init_kind f) ≡ login_of f
+login_same f e =
+    let kind : init_kind f.tag.number ≡ whole = ap init_kind (its_constructed_number (context 7) f.tag e) in
+    ap (λ (k : Kind). login_of (field_of f.tag (shown k f.tag.constructed f.contents) f.inner)) kind
+
+maybe_login : (x : Forest) → login_in (in_one_form init_kind x) ≡ login_in x
+unfolding login_in
+maybe_login x = constructed_formed init_kind (context 7) (read_if login_of) (λ f e. ap (read_as Some) (login_same f e)) x
 
 init_formed : (x : Forest) → init_in (in_one_form init_kind x) ≡ init_in x
-unfolding init_in
+unfolding init_in shared_in
 init_formed x =
-    rw (maybe_octets init_kind 2 refl x, some_bits init_kind 3 refl x, some_bits init_kind 4 refl x, some_number init_kind 5 refl x, some_number init_kind 6 refl x) refl
+    rw (maybe_octets init_kind 2 refl x, some_bits init_kind 3 refl x, some_bits init_kind 4 refl x, some_number init_kind 5 refl x, some_number init_kind 6 refl x, maybe_login x) refl
 
 abbrev search_kind : ℕ → Kind
 search_kind = holding (13 ∷ 14 ∷ 15 ∷ []) (16 ∷ [])
@@ -130,7 +137,7 @@ abbrev init_reply_kind : ℕ → Kind
 init_reply_kind = holding (5 ∷ 6 ∷ []) (12 ∷ [])
 
 init_reply_formed : (x : Forest) → init_reply_in (in_one_form init_reply_kind x) ≡ init_reply_in x
-unfolding init_reply_in init_response_in init_in
+unfolding init_reply_in init_response_in shared_in
 init_reply_formed x =
     rw (maybe_octets init_reply_kind 2 refl x, some_bits init_reply_kind 3 refl x, some_bits init_reply_kind 4 refl x, some_number init_reply_kind 5 refl x, some_number init_reply_kind 6 refl x, some_truth init_reply_kind 12 refl x) refl
 

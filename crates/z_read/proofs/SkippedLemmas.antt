@@ -11,8 +11,8 @@ use Rattle.unit_forms.specs.declared.refusal.Refusal.TheVariants as refusal
 use Rattle.unit_forms.specs.Reading.Answers.{read_as, read_or}
 use Rattle.unit_forms.specs.Reading.CloseUnit.{close_in}
 use Rattle.unit_forms.specs.Reading.ElementNames.{composition_in}
-use Rattle.unit_forms.specs.Reading.Elements.{Field, field_of, has_tag, is_one_of, first_of, first_element}
-use Rattle.unit_forms.specs.Reading.InitRequest.{init_in, init_response_in}
+use Rattle.unit_forms.specs.Reading.Elements.{Field, field_of, has_tag, is_one_of, first_of, first_element, is_constructed, first_constructed}
+use Rattle.unit_forms.specs.Reading.InitRequest.{shared_in, login_in, init_in, init_response_in}
 use Rattle.unit_forms.specs.Reading.PresentRequest.{place_in, form_in, present_in}
 use Rattle.unit_forms.specs.Reading.Records.{body_in}
 use Rattle.unit_forms.specs.Reading.Responses.{init_reply_in, counts_in, found_in, search_reply_in, returned_in, presented_in, present_reply_in, scanned_in, listing_in, scan_reply_in}
@@ -71,15 +71,34 @@ first_kept tags choice all (branch t c is os) = by (is_one_of tags t) refl (firs
 one : (tags : List Tag) (n : ℕ) → are_wanted tags (context n ∷ []) ≡ true → (fields : Forest) → first_of (context n ∷ []) (kept tags fields) ≡ first_of (context n ∷ []) fields
 one tags n all fields = first_kept tags (context n ∷ []) all fields
 
+neither : (a b : Bool) → (b || false) ≡ false → (a && b) ≡ false
+neither a true e = absurd cc
+neither true false e = refl
+neither false false e = refl
+
+-- so is the first constructed element of a kept tag
+constructed_kept : (tags : List Tag) (n : ℕ) → are_wanted tags (context n ∷ []) ≡ true → (fields : Forest) → first_constructed (context n) (kept tags fields) ≡ first_constructed (context n) fields
+constructed_kept tags n all none = refl
+constructed_kept tags n all (leaf t c os) = by (is_one_of tags t) refl (constructed_kept tags n all os)
+  where
+    by : (b : Bool) → is_one_of tags t ≡ b → first_constructed (context n) (kept tags os) ≡ first_constructed (context n) os → first_constructed (context n) (cond b (leaf t c (kept tags os)) (kept tags os)) ≡ cond (is_constructed (context n) t) (Some (field_of t c none)) (first_constructed (context n) os)
+    by true e behind = ap (cond (is_constructed (context n) t) (Some (field_of t c none))) behind
+    by false e behind = rw (neither t.constructed (has_tag t (context n)) (unwanted tags (context n ∷ []) t all e)) behind
+constructed_kept tags n all (branch t c is os) = by (is_one_of tags t) refl (constructed_kept tags n all os)
+  where
+    by : (b : Bool) → is_one_of tags t ≡ b → first_constructed (context n) (kept tags os) ≡ first_constructed (context n) os → first_constructed (context n) (cond b (branch t c is (kept tags os)) (kept tags os)) ≡ cond (is_constructed (context n) t) (Some (field_of t c is)) (first_constructed (context n) os)
+    by true e behind = ap (cond (is_constructed (context n) t) (Some (field_of t c is))) behind
+    by false e behind = rw (neither t.constructed (has_tag t (context n)) (unwanted tags (context n ∷ []) t all e)) behind
+
 -- ---- each unit is made of its kept fields
 
 abbrev init_tags : List Tag
-init_tags = contexts (2 ∷ 3 ∷ 4 ∷ 5 ∷ 6 ∷ [])
+init_tags = contexts (2 ∷ 3 ∷ 4 ∷ 5 ∷ 6 ∷ 7 ∷ [])
 
 init_kept : (x : Forest) → init_in (kept init_tags x) ≡ init_in x
-unfolding init_in
+unfolding init_in shared_in login_in
 init_kept x =
-    rw (one init_tags 2 refl x, one init_tags 3 refl x, one init_tags 4 refl x, one init_tags 5 refl x, one init_tags 6 refl x) refl
+    rw (one init_tags 2 refl x, one init_tags 3 refl x, one init_tags 4 refl x, one init_tags 5 refl x, one init_tags 6 refl x, constructed_kept init_tags 7 refl x) refl
 
 abbrev search_tags : List Tag
 search_tags = contexts (2 ∷ 13 ∷ 14 ∷ 15 ∷ 16 ∷ 17 ∷ 18 ∷ 100 ∷ 101 ∷ 104 ∷ 21 ∷ [])
@@ -116,7 +135,7 @@ abbrev init_reply_tags : List Tag
 init_reply_tags = contexts (2 ∷ 3 ∷ 4 ∷ 5 ∷ 6 ∷ 12 ∷ [])
 
 init_reply_kept : (x : Forest) → init_reply_in (kept init_reply_tags x) ≡ init_reply_in x
-unfolding init_reply_in init_response_in init_in
+unfolding init_reply_in init_response_in shared_in
 init_reply_kept x =
     rw (one init_reply_tags 2 refl x, one init_reply_tags 3 refl x, one init_reply_tags 4 refl x, one init_reply_tags 5 refl x, one init_reply_tags 6 refl x, one init_reply_tags 12 refl x) refl
 

@@ -36,7 +36,8 @@ init_request_fields =
     ∷ numbers.protocol_version
     ∷ numbers.options
     ∷ numbers.preferred_message_size
-    ∷ numbers.exceptional_record_size ∷ []
+    ∷ numbers.exceptional_record_size
+    ∷ numbers.id_authentication ∷ []
 
 -- the numbers of the fields of SearchRequest
 abbrev search_request_fields : List ℕ

@@ -82,10 +82,14 @@ in_one_form kind (branch tag contents inner others) =
 abbrev pub sizes : List ℕ
 sizes = numbers.preferred_message_size ∷ numbers.exceptional_record_size ∷ []
 
+-- what the fields of an Init hold: idAuthentication holds octets that are kept as they are
+abbrev pub init_kind : ℕ → Kind
+init_kind number = if number == numbers.id_authentication then whole else holding sizes [] number
+
 -- what the fields of a request hold, by the number of its tag; the number of numberOfTermsRequested is also that of an OBJECT IDENTIFIER, and such elements of a scanRequest are left as they are
 abbrev pub request_kind : ℕ → ℕ → Kind
 request_kind unit =
-    if unit == numbers.init_request then holding sizes []
+    if unit == numbers.init_request then init_kind
     else if unit == numbers.search_request then
     holding
     (numbers.small_set_upper_bound ∷ numbers.large_set_lower_bound ∷ numbers.medium_set_present_number ∷ [])

@@ -10,7 +10,7 @@ ghost use Rattle.z_fields.specs.Answers.{IsOrMemory};
 
 use crate::attributes::term_choice;
 use crate::each::{Part, read_each};
-use crate::init_request::init_in;
+use crate::init_request::{as_init, shared_in};
 use crate::records::{body_in, diags_of};
 use std::alloc::Global;
 use unit_forms::tags;
@@ -25,9 +25,12 @@ use z_types::{Body, Diag, List, Reply, ScanAnswer, ScanEntry, Term, Text};
 pub fn init_reply_in(alloc: Global, fields: &Fields<'_>) -> Result<Reply, FieldFault>
     ensures { IsOrMemory (init_reply_in fields.now) result }
 {
-    let init = init_in(alloc, fields);
-    let (init, result) = both(init, required_flag(fields, tags::INIT_RESULT))?;
-    Ok(Reply::Init { init, result })
+    let shared = shared_in(alloc, fields);
+    let (shared, result) = both(shared, required_flag(fields, tags::INIT_RESULT))?;
+    Ok(Reply::Init {
+        init: as_init(shared, None),
+        result,
+    })
 }
 
 /// The referenceId, the count, how many records are returned, and the next position.

@@ -12,6 +12,7 @@ ghost use Rattle.unit_forms.specs.Reading.ScanRequest.{scan_in};
 ghost use Rattle.unit_forms.specs.Reading.SearchRequest.{search_in};
 ghost use Rattle.unit_forms.specs.Reading.Units.{request_of, reply_of};
 ghost use Rattle.z_types.specs.Numbers.{HasNumbersInRange};
+ghost use Rattle.unit_forms.specs.Logins.{AsksWithLogin};
 ghost use Rattle.unit_forms.specs.Reading.Units.{IsReading, IsOnlyReading};
 ghost use Rattle.z_read.specs.Read.{IsRequestRead, IsReplyRead};
 ghost use Rattle.z_fields.specs.Answers.{IsOrMemory};
@@ -138,11 +139,12 @@ fn reply_of(alloc: Global, field: &Field<'_>) -> Result<Reply, FieldFault>
 
 /// The request that octets are, by the fields of its table; or the first rule that they break: they are
 /// no element, a unit that is not known, a missing field, a bad value, a string in constructed form. Its
-/// numbers are in the ranges of their fields.
-#[tactic(auto, using(crate::proofs::ReadLemmas::read_root, crate::proofs::ReadLemmas::refused_root, crate::proofs::NumbersRead::field_numbers))]
+/// numbers are in the ranges of their fields, and the login of an Init is one that can be written.
+#[tactic(auto, using(crate::proofs::ReadLemmas::read_root, crate::proofs::ReadLemmas::refused_root, crate::proofs::NumbersRead::field_numbers, crate::proofs::LoginsRead::root_login))]
 pub fn read_request(alloc: Global, unit: &[u8]) -> Result<Request, ReadFault>
     ensures read { IsRequestRead unit.now result }
     ensures numbers { IfOk result HasNumbersInRange }
+    ensures login { IfOk result AsksWithLogin }
 {
     match Field::of_unit(unit) {
         Ok(field) => match request_of(alloc, &field) {
@@ -155,11 +157,12 @@ pub fn read_request(alloc: Global, unit: &[u8]) -> Result<Request, ReadFault>
 }
 
 /// The request that a unit is read as, or `None` where it is refused. Its numbers are in the ranges of
-/// their fields.
+/// their fields, and the login of an Init is one that can be written.
 pub fn read_unit(alloc: Global, unit: &[u8]) -> Result<Option<Request>, Memory>
     ensures read { IfOk result (IsReading unit.now) }
     ensures only { IfOk result (IsOnlyReading unit.now) }
     ensures numbers { IfOk result (λ read. IfSome read HasNumbersInRange) }
+    ensures login { IfOk result (λ read. IfSome read AsksWithLogin) }
 {
     one_answer();
     match read_request(alloc, unit) {

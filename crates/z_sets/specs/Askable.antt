@@ -1,4 +1,4 @@
--- For contracts alone: which queries targets may be asked for, and which expansions are such (this
+-- Which queries targets may be asked for, and which expansions are such (this
 -- project's own)
 use Rattle.std.specs.Prelude.{◌≡◌, ◌≤◌, false, List, All, Result, IfOk}
 use Rattle.z_types.specs.Bounds.{most_query_depth, most_query_nodes, most_query_cost}

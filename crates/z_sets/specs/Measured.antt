@@ -1,4 +1,4 @@
--- For contracts alone: the measures of a query's expansion, which are known before it is built
+-- The measures of a query's expansion, which are known before it is built
 -- (this project's own)
 use Rattle.std.specs.Prelude.{◌≡◌, ℕ, List, [], map, Option, option_map, Result, Ok, Err, Bool, true, false, ◌||◌, if◌then◌else◌, nat_lt}
 use Rattle.z_types.specs.Bounds.{most_query_depth, most_query_nodes, most_query_cost}

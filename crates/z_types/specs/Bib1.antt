@@ -30,6 +30,7 @@ condition_number condition.TooManyDatabases = 111
 condition_number condition.TooManyResultSets = 112
 condition_number condition.UnsupportedUseAttribute = 114
 condition_number condition.DatabaseDoesNotExist = 235
+condition_number condition.AccessToDatabaseDenied = 236
 condition_number condition.RecordSyntaxNotSupported = 239
 
 -- the diagnostic of a condition, and what it is about

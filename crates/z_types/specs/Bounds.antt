@@ -33,6 +33,10 @@ most_arcs = 32
 abbrev pub most_name_octets : ℕ
 most_name_octets = 4096
 
+-- octets of a login
+abbrev pub most_login_octets : ℕ
+most_login_octets = 4096
+
 -- databases of a request
 abbrev pub most_databases : ℕ
 most_databases = 16

@@ -1,4 +1,4 @@
--- For contracts alone: counts that never fall (this project's own)
+-- Counts that never fall (this project's own)
 use Rattle.std.specs.Prelude.{ℕ, ◌+◌, ◌-◌, ◌^◌, ◌≤◌, min, Bool, true, false}
 
 -- the count rose, or stands at the last value of 64 bits

@@ -12,6 +12,7 @@ pub mod Tree
 pub mod TreeOf
 pub mod TreeFalls
 pub mod Members
+pub mod Logins
 pub mod Pending
 pub mod Links
 pub mod World

@@ -1,4 +1,4 @@
--- For contracts alone: numbers of requests in the ranges of their fields (this project's own;
+-- Numbers of requests in the ranges of their fields (this project's own;
 -- ANSI/NISO Z39.50-2003 sets no upper bounds): 0 to 2147483647 where no other range is told.
 use Rattle.std.specs.Prelude.{ℕ, ◌≤◌, IfSome}
 use Rattle.std.specs.List.{AllByRecursion}

@@ -24,6 +24,9 @@ pub const MOST_ARCS: usize = 32;
 /// The most octets of a name that is asked for: of a set, a database or an element set.
 pub const MOST_NAME_OCTETS: usize = 4096;
 
+/// The most octets of a login.
+pub const MOST_LOGIN_OCTETS: usize = 4096;
+
 /// The most databases of a request.
 pub const MOST_DATABASES: usize = 16;
 

@@ -44,6 +44,8 @@ pub enum Condition {
     UnsupportedUseAttribute,
     /// The database does not exist.
     DatabaseDoesNotExist,
+    /// Access to the specified database is denied.
+    AccessToDatabaseDenied,
     /// The record syntax is not supported.
     RecordSyntaxNotSupported,
 }
@@ -73,6 +75,7 @@ impl Condition {
             Condition::TooManyResultSets => 112,
             Condition::UnsupportedUseAttribute => 114,
             Condition::DatabaseDoesNotExist => 235,
+            Condition::AccessToDatabaseDenied => 236,
             Condition::RecordSyntaxNotSupported => 239,
         }
     }

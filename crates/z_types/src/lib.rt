@@ -30,11 +30,11 @@ mod text;
 mod work;
 mod world;
 
-pub use address::Address;
+pub use address::{Address, Site};
 pub use ask::Ask;
 pub use bounds::{
-    MOST_ARCS, MOST_DATABASES, MOST_LEGS, MOST_LEVELS, MOST_NAME_OCTETS, MOST_NUMBER,
-    MOST_QUERY_COST, MOST_QUERY_DEPTH, MOST_QUERY_NODES, MOST_UNIT_OCTETS,
+    MOST_ARCS, MOST_DATABASES, MOST_LEGS, MOST_LEVELS, MOST_LOGIN_OCTETS, MOST_NAME_OCTETS,
+    MOST_NUMBER, MOST_QUERY_COST, MOST_QUERY_DEPTH, MOST_QUERY_NODES, MOST_UNIT_OCTETS,
 };
 pub use conditions::Condition;
 pub use diagnostic::Diag;

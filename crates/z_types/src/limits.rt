@@ -1,4 +1,4 @@
-//! What one connection may use (this project's own).
+//! What one connection of Z39.50 may use (this project's own).
 
 ghost use Rattle.z_types.specs.equality.Limits.{limits};
 

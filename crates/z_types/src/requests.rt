@@ -25,6 +25,8 @@ pub struct Init {
     pub preferred: u32,
     /// The exceptional record size in octets, 0 to 2147483647.
     pub exceptional: u32,
+    /// The login: the octets in the idAuthentication of an Init, at most 4096; none is answered.
+    pub login: Option<Text>,
 }
 
 /// A Search. Its numbers are 0 to 2147483647.

@@ -7,12 +7,15 @@ ghost use Rattle.z_types.specs.declared.records.Item.{Item};
 ghost use Rattle.z_types.specs.declared.scan.ScanAsk.{ScanAsk};
 ghost use Rattle.z_types.specs.declared.scan.ScanAnswer.{ScanAnswer};
 ghost use Rattle.z_types.specs.declared.address.Address.{Address};
-ghost use Rattle.z_types.specs.World.{HitsAreCounts, WholeIsNotGone};
+ghost use Rattle.z_types.specs.World.{HitsAreCounts, InnerIsTold, WholeIsNotGone};
 
 /// What the targets mean, as an unchanging database each.
 pub trait World: Drop {
     /// The addresses that are told: those whose targets answer as the meanings below say.
     ghost told: { Address → Type 0 };
+
+    /// A world that tells an address inside a login tells the inner address too.
+    ghost inner_is_told: { InnerIsTold told };
 
     /// The hits of a search, or its diagnostic.
     ghost search: { Address → SetKey → Result ℕ Diag };

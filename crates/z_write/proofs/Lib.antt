@@ -1,2 +1,3 @@
 pub mod KeptFront
 pub mod StructureLaws
+pub mod WeightLemmas

@@ -2,7 +2,7 @@
 
 ghost use Rattle.std.specs.Prelude.{◌≡◌, ◌++◌, ◌<◌, ◌^◌, length, IfOk, OnOk, OnErr};
 ghost use Rattle.z_ber.specs.Written.{IsTag, tag_octets, length_octets};
-ghost use Rattle.unit_forms.specs.Fields.{octets_field, integer_field, number_field, boolean_field, bits_field, identifier_field, object_identifier, general_string, integer, optional, ref_id_field};
+ghost use Rattle.unit_forms.specs.Fields.{octets_field, tree_field, integer_field, number_field, boolean_field, bits_field, identifier_field, object_identifier, general_string, integer, optional, ref_id_field};
 ghost use Rattle.z_write.specs.Kept.{StillBegins};
 ghost use Rattle.z_write.specs.Opened.{Opens};
 
@@ -26,21 +26,21 @@ pub(crate) const EXTERNAL: Tag = Tag {
 };
 
 /// OBJECT IDENTIFIER (X.690:2021, 8.19).
-const OBJECT_IDENTIFIER: Tag = Tag {
+pub(crate) const OBJECT_IDENTIFIER: Tag = Tag {
     class: 0,
     constructed: false,
     number: tags::OBJECT_IDENTIFIER,
 };
 
 /// INTEGER (X.690:2021, 8.3).
-const INTEGER: Tag = Tag {
+pub(crate) const INTEGER: Tag = Tag {
     class: 0,
     constructed: false,
     number: tags::INTEGER,
 };
 
 /// GeneralString (X.690:2021, 8.23).
-const GENERAL_STRING: Tag = Tag {
+pub(crate) const GENERAL_STRING: Tag = Tag {
     class: 0,
     constructed: false,
     number: tags::GENERAL_STRING,
@@ -71,6 +71,15 @@ pub(crate) fn octets_len(number: u32, octets: &[u8]) -> Result<usize, Memory>
     ensures { IfOk result (λ len. len ≡ length (octets_field number octets.now)) }
 {
     element_len(Tag::context(number), octets.len())
+}
+
+/// A field of elements, which stand as they are.
+pub(crate) fn put_elements(out: &mut Text, number: u32, elements: &[u8]) -> Result<(), Memory>
+    requires { number < 2 ^ 31 }
+    ensures ok { OnOk result (out.new ≡ out.old ++ tree_field number elements.now) }
+    ensures err { OnErr result (StillBegins out.old out.new) }
+{
+    z_ber::put_tree(out, Tag::constructed_context(number), elements)
 }
 
 /// A field of an integer.

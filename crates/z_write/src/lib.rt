@@ -13,6 +13,8 @@ mod replies;
 mod requests;
 mod scans;
 mod structures;
+mod weights;
 
 pub use replies::{put_reply, write_reply};
 pub use requests::{put_request, write_request};
+pub use weights::weight;

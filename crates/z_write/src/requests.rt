@@ -3,8 +3,8 @@
 
 ghost use Rattle.std.specs.Prelude.{◌≡◌, List, ◌++◌, ◌<◌, ◌^◌, length, IfOk, OnOk, OnErr};
 ghost use Rattle.unit_forms.specs.Fields.{integer_field, tree_field, optional};
-ghost use Rattle.unit_forms.specs.Requests.{init_fields, database_names, element_name_field, syntax_field, search_fields, composition_field, present_fields, scan_ask_fields, scan_asked_fields, scan_fields, close_fields, spell_request};
-ghost use Rattle.unit_forms.specs.Tags.{result_set_start_point, init_request, search_request, present_request, scan_request, query as query_tag, close as close_tag};
+ghost use Rattle.unit_forms.specs.Requests.{init_fields, init_request_fields, database_names, element_name_field, syntax_field, search_fields, composition_field, present_fields, scan_ask_fields, scan_asked_fields, scan_fields, close_fields, spell_request};
+ghost use Rattle.unit_forms.specs.Tags.{result_set_start_point, id_authentication, init_request, search_request, present_request, scan_request, query as query_tag, close as close_tag};
 ghost use Rattle.unit_forms.specs.Query.{asked_octets};
 ghost use Rattle.z_write.specs.Heads.{search_head, present_head};
 ghost use Rattle.z_write.specs.Kept.{StillBegins};
@@ -13,9 +13,9 @@ use crate::cut::cut_on_error;
 use crate::fields::{
     bits_len, boolean_len, integer_len, number_len, octets_len, optional_identifier_len,
     optional_number_len, optional_object_identifier_len, optional_octets_len, put_bits,
-    put_boolean, put_header, put_integer, put_number, put_octets, put_optional_identifier,
-    put_optional_number, put_optional_object_identifier, put_optional_octets, put_ref_id,
-    ref_id_len,
+    put_boolean, put_elements, put_header, put_integer, put_number, put_octets,
+    put_optional_identifier, put_optional_number, put_optional_object_identifier,
+    put_optional_octets, put_ref_id, ref_id_len,
 };
 use crate::lengths::{element_len, sum_of};
 use crate::queries::{operand_len, put_operand};
@@ -51,6 +51,50 @@ pub(crate) fn init_fields_len(init: &Init) -> Result<usize, Memory>
         number_len(tags::PREFERRED_MESSAGE_SIZE, init.preferred)?,
         number_len(tags::EXCEPTIONAL_RECORD_SIZE, init.exceptional)?,
     ])
+}
+
+/// What idAuthentication has in it, where there is a login.
+fn put_login(out: &mut Text, login: &Option<Text>) -> Result<(), Memory>
+    ensures ok { OnOk result (out.new ≡ out.old
+        ++ optional (tree_field id_authentication) login.now) }
+    ensures err { OnErr result (StillBegins out.old out.new) }
+{
+    match login {
+        Some(login) => put_elements(out, tags::ID_AUTHENTICATION, login.as_slice()),
+        None => Ok(()),
+    }
+}
+
+fn login_len(login: &Option<Text>) -> Result<usize, Memory>
+    ensures { IfOk result
+        (λ len. len ≡ length (optional (tree_field id_authentication) login.now)) }
+{
+    match login {
+        Some(login) => {
+            element_len(
+                Tag::constructed_context(tags::ID_AUTHENTICATION),
+                login.len(),
+            )
+        }
+        None => Ok(0),
+    }
+}
+
+/// The fields of an Init.
+#[tactic(auto, using(crate::proofs::KeptFront::kept_on), unfolding(unit_forms::specs::Requests::init_request_fields))]
+fn put_init_request_fields(out: &mut Text, init: &Init) -> Result<(), Memory>
+    ensures ok { OnOk result (out.new ≡ out.old ++ init_request_fields init.now) }
+    ensures err { OnErr result (StillBegins out.old out.new) }
+{
+    put_init_fields(out, init)?;
+    put_login(out, &init.login)
+}
+
+#[tactic(auto, unfolding(unit_forms::specs::Requests::init_request_fields))]
+fn init_request_fields_len(init: &Init) -> Result<usize, Memory>
+    ensures { IfOk result (λ len. len ≡ length (init_request_fields init.now)) }
+{
+    sum_of(&[init_fields_len(init)?, login_len(&init.login)?])
 }
 
 /// Names of databases, one after another.
@@ -383,15 +427,16 @@ fn close_fields_len(close: &Close) -> Result<usize, Memory>
 /// An Init.
 #[tactic(auto, using(crate::proofs::KeptFront::kept_on))]
 fn put_init(out: &mut Text, init: &Init) -> Result<(), Memory>
-    ensures ok { OnOk result (out.new ≡ out.old ++ tree_field init_request (init_fields init.now)) }
+    ensures ok { OnOk result (out.new ≡ out.old
+        ++ tree_field init_request (init_request_fields init.now)) }
     ensures err { OnErr result (StillBegins out.old out.new) }
 {
     put_header(
         out,
         Tag::constructed_context(tags::INIT_REQUEST),
-        init_fields_len(init)?,
+        init_request_fields_len(init)?,
     )?;
-    put_init_fields(out, init)
+    put_init_request_fields(out, init)
 }
 
 /// A Search.

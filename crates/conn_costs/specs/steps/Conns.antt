@@ -1,4 +1,4 @@
--- For contracts alone: what a connection has counted, and what its marks came of (this project's own)
+-- What a connection has counted, and what its marks came of (this project's own)
 use Rattle.std.specs.Prelude.{◌≡◌, ℕ, ◌+◌, ◌*◌, ◌<◌, List, length, map, IfSome, IsSome, None}
 use Rattle.std.specs.List.{count_by, range_with_len, sum_by}
 use Rattle.z_types.specs.declared.marks.Mark.{Mark}

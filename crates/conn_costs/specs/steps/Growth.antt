@@ -1,4 +1,4 @@
--- For contracts alone: how a count goes on that others raise as well (this project's own). A count stands
+-- How a count goes on that others raise as well (this project's own). A count stands
 -- still at the last value of 64 bits, so it is told by what was counted, and not by a difference.
 use Rattle.std.specs.Prelude.{◌≡◌, ℕ, ◌+◌, ◌-◌, ◌^◌, ◌≤◌}
 use Rattle.z_types.specs.Bounds.{within64}

@@ -1,4 +1,4 @@
--- For contracts alone: what the turns of legs have paid for (this project's own). Each search was booked at the door, or follows
+-- What the turns of legs have paid for (this project's own). Each search was booked at the door, or follows
 -- a Gone or a fault; each address that the door named was dialled, or failed, or is due
 use Rattle.std.specs.Prelude.{ℕ, ◌+◌, ◌≤◌, List}
 use Rattle.std.specs.List.{sum_by}

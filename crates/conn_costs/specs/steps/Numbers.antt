@@ -1,4 +1,4 @@
--- For contracts alone: the numbers that legs count, and what counts them outside (this project's own)
+-- The numbers that legs count, and what counts them outside (this project's own)
 use Rattle.std.specs.Prelude.{◌≡◌, ℕ, ◌+◌, Bool, true, false}
 use Rattle.z_types.specs.declared.marks.Mark.{Mark}
 use Rattle.z_types.specs.declared.marks.Mark.TheVariants as mark

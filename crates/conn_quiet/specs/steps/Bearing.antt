@@ -1,4 +1,4 @@
--- For contracts alone: what a leg bears that it is not marked for (this project's own): sets that are found deleted as often as the pool
+-- What a leg bears that it is not marked for (this project's own): sets that are found deleted as often as the pool
 -- repeats at most, replies that come within its patience, and links that are cut of sessions that the pool gave
 use Rattle.std.specs.Prelude.{◌≡◌, ℕ, ◌+◌, ◌-◌, ◌^◌, ◌<◌, ◌≤◌, Bool, true, false, List, [], ◌∷◌, Option}
 use Rattle.std.specs.List.{AllByRecursion}

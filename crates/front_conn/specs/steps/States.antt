@@ -1,4 +1,4 @@
--- For contracts alone: where a connection stands in its session (ANSI/NISO Z39.50-2003, 4.2), or in its GET (SRU 1.2)
+-- Where a connection stands in its session (ANSI/NISO Z39.50-2003, 4.2), or in its GET (SRU 1.2)
 use Rattle.std.specs.Prelude.{◌≡◌, ℕ, ◌<◌, Bool, true, false, List, [], ◌∷◌, ◌++◌, length, All, Option, None, Some, IfSome, Ok}
 use Rattle.std.specs.List.{AllByRecursion}
 use Rattle.z_types.specs.declared.known_set.KnownSet.{KnownSet}

@@ -1,4 +1,4 @@
--- For contracts alone: one step of a connection (this project's own)
+-- One step of a connection (this project's own)
 use Rattle.std.specs.Prelude.{◌≡◌, ◌⊎◌, ℕ, ◌<◌, Bool, length, false, true, List, [], ◌∷◌, ◌++◌, Option, None, Some, Result, Ok, IsTrue}
 use Rattle.std.specs.Char.{is_ascii_alphabetic}
 use Rattle.z_types.specs.declared.marks.End.{End}

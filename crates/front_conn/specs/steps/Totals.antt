@@ -1,4 +1,4 @@
--- For contracts alone: what the legs of a connection counted, by their classes (this project's own)
+-- What the legs of a connection counted, by their classes (this project's own)
 use Rattle.std.specs.Prelude.{ℕ, ◌+◌, List, [], ◌∷◌, length, map, nat_lt, if◌then◌else◌, get_or, set}
 use Rattle.std.specs.List.{range_with_len}
 use Rattle.z_types.specs.Bounds.{within64}

@@ -1,4 +1,4 @@
--- For contracts alone: the legs of a request together (this project's own)
+-- The legs of a request together (this project's own)
 use Rattle.std.specs.Prelude.{◌≡◌, ℕ, Bool, true, false, List, [], ◌++◌, map, All, Option, None, Some, filter_map, option_map}
 use Rattle.z_types.specs.declared.sitting.Sitting as sitting
 use Rattle.z_types.specs.declared.work.Work.{Work}

@@ -41,6 +41,18 @@ first_of choice (leaf tag contents others) =
 first_of choice (branch tag contents inner others) =
     if is_one_of choice tag then Some (field_of tag contents inner) else first_of choice others
 
+-- a tag is the wanted one, around elements
+abbrev pub is_constructed : Tag → Tag → Bool
+is_constructed wanted tag = tag.constructed && has_tag tag wanted
+
+-- the first constructed element with this tag; primitive ones are passed
+abbrev pub first_constructed : Tag → Forest → Option Field
+first_constructed wanted none = None
+first_constructed wanted (leaf tag contents others) =
+    if is_constructed wanted tag then Some (field_of tag contents none) else first_constructed wanted others
+first_constructed wanted (branch tag contents inner others) =
+    if is_constructed wanted tag then Some (field_of tag contents inner) else first_constructed wanted others
+
 -- the first element of the context class
 abbrev pub first_context : Forest → Option Field
 first_context none = None

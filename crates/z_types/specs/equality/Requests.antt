@@ -21,13 +21,15 @@ init = made_of
     ⊗ part (λ i. i.versions) number
     ⊗ part (λ i. i.options) number
     ⊗ part (λ i. i.preferred) number
-    ⊗ part (λ i. i.exceptional) number)
-    (λ (ref_id, (versions, (options, (preferred, exceptional)))). record {
+    ⊗ part (λ i. i.exceptional) number
+    ⊗ part (λ i. i.login) (option text))
+    (λ (ref_id, (versions, (options, (preferred, (exceptional, login))))). record {
       ref_id = ref_id;
       versions = versions;
       options = options;
       preferred = preferred;
       exceptional = exceptional;
+      login = login;
     })
     (λ _. refl)
 

@@ -1,10 +1,10 @@
 use Rattle.std.proofs.Common.{◌≡◌, ◌∙◌, ap}
 use Rattle.front_conn.specs.declared.stepped.Stepped.TheVariants.{Memory, Went}
 use Rattle.front_conn.specs.steps.Drives.{ConnAt, conn_at, given_up_at}
-use Rattle.serve.specs.Serving.{sink_view}
+use Rattle.conn_served.specs.Serving.{sink_view}
 use Rattle.serve.proofs.DriveLemmas.{driven-ends, driven-few, driven-memory, driven-so, given-twice}
-use Rattle.serve.proofs.RoundLemmas.{behind-answered, left-here, so-calmly}
-use Rattle.serve.proofs.ServingLemmas.{serving-memory, serving-stepped}
+use Rattle.conn_served.proofs.RoundLemmas.{behind-answered, left-here, so-calmly}
+use Rattle.conn_served.proofs.ServingLemmas.{serving-memory, serving-stepped}
 use Rattle.serve.proofs.rounds.drive_on.Goals as goal
 
 pub returns-in-Ok-clause-goes : goal.returns-in-Ok-clause-goes

@@ -1,8 +1,8 @@
 use Rattle.std.proofs.Common.{Option, inl, refl, sym, subst}
 use Rattle.z_types.specs.declared.marks.End.{End}
-use Rattle.serve.specs.Serving.{source_view}
-use Rattle.serve.specs.steps.Serving.{IsIdleAt}
-use Rattle.serve.proofs.ServingLemmas.{serving-ended}
+use Rattle.conn_served.specs.Serving.{source_view}
+use Rattle.conn_served.specs.steps.Serving.{IsIdleAt}
+use Rattle.conn_served.proofs.ServingLemmas.{serving-ended}
 use Rattle.serve.proofs.rounds.end_or_read.Goals as goal
 
 pub returns-in-Some-clause-goes : goal.returns-in-Some-clause-goes

@@ -1,4 +1,4 @@
-use Rattle.serve.specs.Serving.{source_view}
+use Rattle.conn_served.specs.Serving.{source_view}
 use Rattle.serve.proofs.rounds.go_on.Goals as goal
 
 pub drive_on-requires-clause-in_work : goal.drive_on-requires-clause-in_work

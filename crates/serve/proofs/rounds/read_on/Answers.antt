@@ -1,10 +1,10 @@
 use Rattle.std.proofs.Common.{inl, inr, sym, subst, refl, take}
 use Rattle.z_types.specs.declared.marks.End.TheVariants as how
-use Rattle.serve.specs.Serving.{IsServed, source_view}
-use Rattle.serve.specs.steps.Serving.{IsWrittenOut}
+use Rattle.conn_served.specs.Serving.{IsServed, source_view}
+use Rattle.conn_served.specs.steps.Serving.{IsWrittenOut}
 use Rattle.front_conn.specs.steps.States.{ConnectionState}
-use Rattle.serve.proofs.RoundLemmas.{fed-writes}
-use Rattle.serve.proofs.ServingLemmas.{serving-fed, serving-unfed, serving-unread}
+use Rattle.conn_served.proofs.RoundLemmas.{fed-writes}
+use Rattle.conn_served.proofs.ServingLemmas.{serving-fed, serving-unfed, serving-unread}
 use Rattle.serve.proofs.rounds.read_on.Goals as goal
 
 pub returns-in-Failed-clause-goes : goal.returns-in-Failed-clause-goes

@@ -3,11 +3,11 @@ use Rattle.conn_costs.specs.steps.Laws.{IsCosted}
 use Rattle.front_conn.specs.declared.stepped.Stepped.TheVariants.{Idle, Memory, NotYet, Went}
 use Rattle.front_conn.specs.steps.Answering.{Outside}
 use Rattle.front_conn.specs.steps.Drives.{ConnAt, conn_at, outside_of}
-use Rattle.serve.specs.Serving.{sink_view, source_view, streams}
-use Rattle.serve.proofs.RoundLemmas.{behind-idle, behind-went, left-here, so-calmly, step-few, step-so, step-wrote}
-use Rattle.serve.specs.steps.Serving.{IsIdle, IsWrittenOut}
+use Rattle.conn_served.specs.Serving.{sink_view, source_view, streams}
+use Rattle.conn_served.proofs.RoundLemmas.{behind-idle, behind-went, left-here, so-calmly, step-few, step-so, step-wrote}
+use Rattle.conn_served.specs.steps.Serving.{IsIdle, IsWrittenOut}
 use Rattle.front_conn.specs.steps.States.{ConnectionState}
-use Rattle.serve.proofs.ServingLemmas.{serving-memory, serving-stepped, step-idle, step-memory, step-not_yet, step-went}
+use Rattle.conn_served.proofs.ServingLemmas.{serving-memory, serving-stepped, step-idle, step-memory, step-not_yet, step-went}
 use Rattle.serve.proofs.rounds.step_on.Goals as goal
 
 pub returns-in-Memory-clause-goes : goal.returns-in-Memory-clause-goes

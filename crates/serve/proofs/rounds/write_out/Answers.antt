@@ -1,10 +1,10 @@
 use Rattle.std.proofs.Common.{◌≡◌, ◌∙◌, ℕ, List, [], inl, inr, length, nat_eq, refl, sym, subst, true}
 use Rattle.std.proofs.lemmas.Bool.{eqb-true}
 use Rattle.std.proofs.lemmas.List.{nil_from_length}
-use Rattle.serve.specs.Serving.{sink_view}
-use Rattle.serve.specs.steps.Serving.{IsWrittenOut}
+use Rattle.conn_served.specs.Serving.{sink_view}
+use Rattle.conn_served.specs.steps.Serving.{IsWrittenOut}
 use Rattle.front_conn.specs.steps.States.{ConnectionState, IsConnOf}
-use Rattle.serve.proofs.ServingLemmas.{serving-unwritten, serving-written}
+use Rattle.conn_served.proofs.ServingLemmas.{serving-unwritten, serving-written}
 use Rattle.serve.proofs.rounds.write_out.Goals as goal
 
 nil-out : (octets : List ℕ) → nat_eq (length octets) 0 ≡ true → octets ≡ []

@@ -1,13 +1,13 @@
 use Rattle.std.proofs.Common.{◌≡◌, List, ◌∙◌, ap, sym, subst}
 use Rattle.z_types.specs.declared.marks.Mark.{Mark}
 use Rattle.pool_sets.specs.Counts.{DoorCounts}
-use Rattle.serve.specs.Costs.{AreMarksOf, ArePaid, HaveCauses, tally_of, undialled}
+use Rattle.conn_served.specs.Costs.{AreMarksOf, ArePaid, HaveCauses, tally_of, undialled}
 use Rattle.front_conn.specs.steps.Answering.{Outside}
 use Rattle.front_conn.specs.steps.Drives.{ConnAt, conn_at, given_up_at, outside_of}
 use Rattle.front_conn.specs.steps.States.{ConnectionState}
-use Rattle.serve.specs.Runs.{GoesFrom}
-use Rattle.serve.specs.Serving.{IsServed, streams}
-use Rattle.serve.proofs.SeatLemmas.{run-back}
+use Rattle.conn_served.specs.Runs.{GoesFrom}
+use Rattle.conn_served.specs.Serving.{IsServed, streams}
+use Rattle.conn_served.proofs.SeatLemmas.{run-back}
 use Rattle.serve.proofs.serving.serve_connection.Goals as goal
 
 pub returns-clause-served : goal.returns-clause-served

@@ -1,14 +1,14 @@
 use Rattle.std.proofs.Common.{◌≡◌, ◌∙◌, Option, None, ap, refl, sym, subst}
 use Rattle.z_types.specs.declared.marks.End.{End}
-use Rattle.serve.specs.Serving.{Streams, streams}
+use Rattle.conn_served.specs.Serving.{Streams, streams}
 use Rattle.front_conn.specs.steps.Drives.{ConnAt, conn_at, outside_of}
-use Rattle.serve.specs.steps.Rounds.{IsBetween}
+use Rattle.conn_served.specs.steps.Rounds.{IsBetween}
 use Rattle.z_types.specs.declared.marks.End.TheVariants.{Memory}
-use Rattle.serve.specs.steps.Serving.{GoesOn, IsWrittenOut}
+use Rattle.conn_served.specs.steps.Serving.{GoesOn, IsWrittenOut}
 use Rattle.front_conn.specs.steps.States.{ConnectionState, IsConnOf}
-use Rattle.serve.specs.Costs.{AreMarksOf, ArePaid, HaveCauses, undialled}
-use Rattle.serve.proofs.RoundLemmas.{all-caused, all-paid, between-starts, goes-nowhere, goes-on, marks-on, round-meets, stands-so, tally_in}
-use Rattle.serve.proofs.ServingLemmas.{serving-memory, serving-starts}
+use Rattle.conn_served.specs.Costs.{AreMarksOf, ArePaid, HaveCauses, undialled}
+use Rattle.conn_served.proofs.RoundLemmas.{all-caused, all-paid, between-starts, goes-nowhere, goes-on, marks-on, round-meets, stands-so, tally_in}
+use Rattle.conn_served.proofs.ServingLemmas.{serving-memory, serving-starts}
 use Rattle.serve.proofs.serving.serve_to_end.Goals as goal
 
 pub loop-round-init : goal.loop-round-init

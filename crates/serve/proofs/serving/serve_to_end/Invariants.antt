@@ -1,11 +1,11 @@
 use Rattle.std.proofs.Common.{◌≡◌}
 use Rattle.conn_costs.specs.steps.Conns.{PaysFor}
 use Rattle.conn_costs.specs.steps.Laws.{MeetsEnough}
-use Rattle.serve.specs.Serving.{streams}
-use Rattle.serve.specs.Costs.{AreMarksOf}
-use Rattle.serve.specs.Runs.{GoesFrom}
-use Rattle.serve.specs.steps.Rounds.{IsBetween}
-use Rattle.serve.specs.steps.Serving.{IsWrittenOut}
+use Rattle.conn_served.specs.Serving.{streams}
+use Rattle.conn_served.specs.Costs.{AreMarksOf}
+use Rattle.conn_served.specs.Runs.{GoesFrom}
+use Rattle.conn_served.specs.steps.Rounds.{IsBetween}
+use Rattle.conn_served.specs.steps.Serving.{IsWrittenOut}
 use Rattle.front_conn.specs.steps.Drives.{conn_at, outside_of}
 use Rattle.front_conn.specs.steps.States.{IsConnOf}
 use Rattle.serve.proofs.serving.serve_to_end.Given as goal

@@ -2,10 +2,10 @@ use Rattle.std.proofs.Common.{◌∙◌, ℕ, ◌-◌, List, [], ◌∷◌, ◌+
 use Rattle.std.specs.Prelude.{option_map}
 use Rattle.gw_outside.specs.declared.accepts.Accepted.TheVariants.{Connection}
 use Rattle.gw_outside.specs.Accepts.{AcceptFits}
-use Rattle.serve.specs.declared.serving.Served.{Served}
+use Rattle.conn_served.specs.declared.served.Served.{Served}
 use Rattle.serve.specs.Working.{WorkerView, worker_view}
-use Rattle.serve.specs.Costs.{tally_of}
-use Rattle.serve.proofs.SeatLemmas.{back-both, back-none}
+use Rattle.conn_served.specs.Costs.{tally_of}
+use Rattle.conn_served.proofs.SeatLemmas.{back-both, back-none}
 use Rattle.serve.proofs.WorkedCosts.{cost-more, cost-none, cost-same}
 use Rattle.serve.proofs.WorkingLemmas.{ended-same, failed-same, worked-more, worked-none, worked-same}
 use Rattle.serve.proofs.working.serve_all.Goals as goal

@@ -1,6 +1,6 @@
 use Rattle.std.proofs.Common.{◌≡◌, ◌≤◌}
-use Rattle.serve.specs.Costs.{tally_of}
-use Rattle.serve.specs.Seats.{AreGivenBack}
+use Rattle.conn_served.specs.Costs.{tally_of}
+use Rattle.conn_served.specs.Seats.{AreGivenBack}
 use Rattle.serve.specs.Working.{HasWorked, HaveCost, worker_view}
 use Rattle.serve.proofs.working.serve_all.Given as goal
 

@@ -13,4 +13,4 @@ invariant_of-self c =
     let each = rw same at c.requires.each in
     let after = rw same at c.requires.after in
     end_kept (state_of c.self.inside) c.args.pending c.args.is_good c.args.hits (c.self.inside.records + c.args.given) c.searches_behind-self-inside.result c.end_sets.new.sets c.end_sets.result
-    none spent c.self.invariant.units fits few each after c.searches_behind-self-inside.ensures c.end_sets.ensures.ok c.end_sets.ensures.err
+    none spent c.self.invariant.units c.self.invariant.login fits few each after c.searches_behind-self-inside.ensures c.end_sets.ensures.ok c.end_sets.ensures.err

@@ -3,8 +3,8 @@ use Rattle.front_session.proofs.session.FrontSession.settle_for.Goals as goal
 
 pub end_answered-requires-clause-records : goal.end_answered-requires-clause-records
 end_answered-requires-clause-records c =
-    rw c.in-Ok.ensures.given
-    (given_fit c.args.self.now.records c.args.pending.work c.args.outcome c.requires.waits.records c.requires.fits c.requires.kept.records)
+    rw (c.in-Ok.ensures.given, c.sizes.ensures)
+    (given_fit c.args.self.now.agreed.sizes c.args.self.now.records c.args.pending.work c.args.outcome c.requires.waits.records c.requires.fits c.requires.kept.records)
 
 pub end_answered-requires-clause-after : goal.end_answered-requires-clause-after
 end_answered-requires-clause-after c =

@@ -14,6 +14,7 @@ invariant_of-self c =
       of_searches = c.self.invariant.of_searches;
       of_units = c.self.invariant.of_units;
       units = c.self.invariant.units;
+      login = c.self.invariant.login;
       records = c.self.invariant.records;
       waiting = rw c.fill.ensures (record { begins = waits.begins; asks = waits.asks; searches = waits.searches; records = waits.records });
     }

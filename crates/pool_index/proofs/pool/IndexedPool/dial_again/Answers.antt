@@ -1,6 +1,6 @@
 use Rattle.std.proofs.Common.{◌∙◌, sym, ap, subst, refl, arith, get_or, ℕ, List}
 use Rattle.std.proofs.lemmas.List.{get_or_default}
-use Rattle.z_types.specs.Members.{HasShortHost}
+use Rattle.z_types.specs.Members.{IsMember}
 use Rattle.pool_sets.specs.Sessions.{Session}
 use Rattle.pool_sets.specs.Plain.{Pool, is_seat}
 use Rattle.pool_core.proofs.Dialled.{address_is}
@@ -27,7 +27,7 @@ move_to-requires g c =
     record {
       within = at.0;
       out = λ d. (seat_number c.args.seat.now (get_or c.self.inside.roster.sessions c.in-Some.place d) (at.1 d)).1;
-      short = subst HasShortHost (sym c.index-at-member.is) (c.requires.short c.member_for-member.result c.index-at-member.result c.member_for-member.ensures.within);
+      short = subst IsMember (sym c.index-at-member.is) (c.requires.short c.member_for-member.result c.index-at-member.result c.member_for-member.ensures.within);
     }
 
 pub invariant_of-self-2 : goal.invariant_of-self-2
