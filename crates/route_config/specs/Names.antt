@@ -1,7 +1,8 @@
 -- What the names of a configuration may be (this project's own).
-use Rattle.std.specs.Prelude.{ℕ, ◌-◌, ◌==◌, ◌&&◌, ◌||◌, Bool, false, not, nat_le, List, length, Option}
+use Rattle.std.specs.Prelude.{ℕ, ◌-◌, ◌==◌, ◌&&◌, ◌||◌, Bool, false, not, nat_le, List, length, codes, Option}
 use Rattle.std.specs.List.{list_any, position}
 use Rattle.std.specs.Option.{option_map_or}
+use Rattle.z_types.specs.Same.{is_same}
 
 -- a number from one to another
 abbrev pub is_from : ℕ → ℕ → ℕ → Bool
@@ -36,3 +37,20 @@ first_dot = position (λ c. c == 46)
 -- an index's: a dot with text on both sides of the first one
 abbrev pub is_index_name : List ℕ → Bool
 is_index_name text = option_map_or (is_from 1 (length text - 2)) (first_dot text) false
+
+-- what a rule calls a client that has not logged in
+abbrev pub anonymous : List ℕ
+anonymous = codes "anonymous"
+
+-- what a rule calls all users, or all databases
+abbrev pub every : List ℕ
+every = codes "*"
+
+-- `/` parts a user and its password
+abbrev pub has_slash : List ℕ → Bool
+has_slash = list_any (λ c. c == 47)
+
+-- a user's: 1 to 64 octets without `/`, and no word of the rules
+abbrev pub is_user_name : List ℕ → Bool
+is_user_name text =
+    ((is_from 1 64 (length text) && not (has_slash text)) && not (is_same text anonymous)) && not (is_same text every)

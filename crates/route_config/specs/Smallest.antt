@@ -15,7 +15,7 @@ smallest_lines =
 abbrev pub smallest_text : List ℕ
 smallest_text = flat_map (λ line. line ++ 10 ∷ []) smallest_lines
 
--- its route: one target, one database, and the default numbers, indexes and schema
+-- its route: one target, one database, the default numbers, indexes and schema, no users and no rules
 abbrev pub smallest_route : Route
 smallest_route = record {
   targets = (record { name = codes "alpha"; address = Test 0 }) ∷ [];
@@ -30,4 +30,8 @@ smallest_route = record {
       ∷ (record { name = codes "dc.subject"; value = 21 }) ∷ (record { name = codes "bath.isbn"; value = 7 })
       ∷ (record { name = codes "bath.issn"; value = 8 }) ∷ (record { name = codes "cql.anywhere"; value = 1016 }) ∷ [];
   schemas = (record { name = codes "dc"; uri = codes "info:srw/schema/1/dc-v1.1"; element = codes "dc" }) ∷ [];
+  users = [];
+  rules = [];
+  cache_records = 0;
+  cache_record_bytes = 4096;
 }

@@ -1,5 +1,5 @@
--- What every route keeps (this project's own): its numbers are in their ranges, its lists in their sizes, and a place is
--- one of the list that it is a place of.
+-- What every route keeps (this project's own): its numbers are in their ranges, its lists in their sizes, a place is one of
+-- the list that it is a place of, and rules name users and databases that are there.
 use Rattle.std.specs.Prelude.{ℕ, ◌<◌, ◌≤◌, List, length, All, IsTrue}
 use Rattle.z_types.specs.Bounds.{most_number}
 use Rattle.z_types.specs.declared.address.Address.{Address}
@@ -12,8 +12,11 @@ use Rattle.route_config.specs.declared.route.Group.{Group}
 use Rattle.route_config.specs.declared.route.Database.{Database}
 use Rattle.route_config.specs.declared.route.RouteLeg.{RouteLeg}
 use Rattle.route_config.specs.declared.route.Index.{Index}
+use Rattle.route_config.specs.declared.route.User.{User}
+use Rattle.route_config.specs.declared.route.Rule.{Rule}
 use Rattle.route_config.specs.declared.route.RouteParts.{RouteParts}
-use Rattle.route_config.specs.Names.{is_name, is_database_name, is_index_name}
+use Rattle.route_config.specs.Names.{is_name, is_database_name, is_index_name, is_user_name}
+use Rattle.route_config.specs.Rules.{names_user, names_database}
 
 -- a number from one to another
 abbrev pub IsFrom : ℕ → ℕ → ℕ → Type 0
@@ -54,6 +57,8 @@ pub record KeepsSizes (route : RouteParts) : Type 0 where
   pub databases : HasFrom 1 64 route.databases
   pub indexes : HasFrom 0 64 route.indexes
   pub schemas : HasFrom 1 16 route.schemas
+  pub users : HasFrom 0 1000 route.users
+  pub rules : HasFrom 0 1000 route.rules
 
 -- the number of a test target, or a host and a port, inside no login
 abbrev pub IsAddress : Address → Type 0
@@ -84,6 +89,14 @@ IsIndex index = IsTrue (is_index_name index.name) × (index.value ≤ most_numbe
 abbrev pub IsSchema : Schema → Type 0
 IsSchema schema = HasFrom 1 128 schema.name × HasFrom 1 128 schema.uri × HasFrom 1 128 schema.element
 
+-- a name, and a password of 1 to 64 octets
+abbrev pub IsUser : User → Type 0
+IsUser user = IsTrue (is_user_name user.name) × HasFrom 1 64 user.password
+
+-- a name, and 1 to 64 databases
+abbrev pub IsRule : Rule → Type 0
+IsRule rule = IsTrue (is_name rule.name) × HasFrom 1 64 rule.databases
+
 pub record KeepsItems (route : RouteParts) : Type 0 where
   pub targets : All IsTarget route.targets
   pub groups : All IsGroup route.groups
@@ -92,6 +105,18 @@ pub record KeepsItems (route : RouteParts) : Type 0 where
   pub classes : All (λ class. All IsAddress class.addresses) route.classes
   pub indexes : All IsIndex route.indexes
   pub schemas : All IsSchema route.schemas
+  pub users : All IsUser route.users
+  pub rules : All IsRule route.rules
+
+-- each rule is for `*`, `anonymous` or a user, and for databases that are `*` or virtual databases
+pub record KeepsRules (route : RouteParts) : Type 0 where
+  pub users : All (λ rule. IsTrue (names_user route.users rule.user)) route.rules
+  pub databases : All (λ rule. All (λ named. IsTrue (names_database route.databases named)) rule.databases) route.rules
+
+-- how many records are kept, and of how many octets each
+pub record AreCacheNumbers (route : RouteParts) : Type 0 where
+  pub records : IsFrom 0 10000 route.cache_records
+  pub record_bytes : IsFrom 1 65536 route.cache_record_bytes
 
 pub record IsSound (route : RouteParts) : Type 0 where
   pub places : KeepsPlaces route
@@ -99,3 +124,5 @@ pub record IsSound (route : RouteParts) : Type 0 where
   pub items : KeepsItems route
   pub pool : ArePoolNumbers route.pool
   pub limits : AreLimits route.limits
+  pub rules : KeepsRules route
+  pub cache : AreCacheNumbers route

@@ -1,4 +1,5 @@
-//! Whether each target, group, database, leg, class, index and schema of a route is in its ranges.
+//! Whether each target, group, database, leg, class, index, schema, user and rule of a route is in its
+//! ranges.
 
 ghost use Rattle.std.specs.Prelude.{◌↔◌, IsTrue, All};
 ghost use Rattle.route_config.specs.Sound.{
@@ -8,13 +9,15 @@ ghost use Rattle.route_config.specs.Sound.{
   IsGroup,
   IsIndex,
   IsLeg,
+  IsRule,
   IsSchema,
   IsTarget,
+  IsUser,
   KeepsItems,
 };
 
-use crate::names::{is_database_name, is_from, is_index_name, is_name};
-use crate::{Class, Database, Group, Index, RouteLeg, RouteParts, Target};
+use crate::names::{is_database_name, is_from, is_index_name, is_name, is_user_name};
+use crate::{Class, Database, Group, Index, RouteLeg, RouteParts, Rule, Target, User};
 use z_types::{Address, MOST_NUMBER, Schema, Text};
 
 impl RouteParts {
@@ -29,6 +32,8 @@ impl RouteParts {
             && are_classes(self.classes.as_slice())
             && are_indexes(self.indexes.as_slice())
             && are_schemas(self.schemas.as_slice())
+            && are_users(self.users.as_slice())
+            && are_rules(self.rules.as_slice())
     }
 }
 
@@ -134,4 +139,28 @@ fn are_schemas(schemas: &[Schema]) -> bool
     ensures { IsTrue result ↔ All IsSchema schemas.now }
 {
     schemas.iter().all(|schema| is_schema(schema))
+}
+
+fn is_user(user: &User) -> bool
+    ensures { IsTrue result ↔ IsUser user.now }
+{
+    is_user_name(user.name.as_slice()) && is_from(1, 64, user.password.len())
+}
+
+fn are_users(users: &[User]) -> bool
+    ensures { IsTrue result ↔ All IsUser users.now }
+{
+    users.iter().all(|user| is_user(user))
+}
+
+fn is_rule(rule: &Rule) -> bool
+    ensures { IsTrue result ↔ IsRule rule.now }
+{
+    is_name(rule.name.as_slice()) && is_from(1, 64, rule.databases.len())
+}
+
+fn are_rules(rules: &[Rule]) -> bool
+    ensures { IsTrue result ↔ All IsRule rules.now }
+{
+    rules.iter().all(|rule| is_rule(rule))
 }

@@ -5,14 +5,18 @@ ghost use Rattle.route_config.specs.Sound.{IsFrom};
 ghost use Rattle.route_config.specs.Names.{
   first_dot,
   has_delimiter,
+  has_slash,
   has_white,
   is_database_name,
   is_delimiter,
   is_from,
   is_index_name,
   is_name,
+  is_user_name,
   is_white,
 };
+
+use crate::rules::{ANONYMOUS, EVERY};
 
 /// Whether a number is from one to another.
 pub fn is_from(low: usize, high: usize, number: usize) -> bool
@@ -74,4 +78,17 @@ fn first_dot(text: &[u8]) -> Option<usize>
     ensures { result ≡ first_dot text.now }
 {
     text.iter().position(|octet| *octet == b'.')
+}
+
+/// Whether a user may have this name: 1 to 64 octets without `/`, neither `anonymous` nor `*`.
+pub fn is_user_name(text: &[u8]) -> bool
+    ensures { result ≡ is_user_name text.now }
+{
+    is_from(1, 64, text.len()) && !has_slash(text) && text != ANONYMOUS && text != EVERY
+}
+
+fn has_slash(text: &[u8]) -> bool
+    ensures { result ≡ has_slash text.now }
+{
+    text.iter().any(|octet| *octet == b'/')
 }

@@ -83,6 +83,28 @@ pub struct Index {
     pub value: u32,
 }
 
+/// One who may log in.
+#[derive(PartialEq, Eq, Clone, Drop)]
+pub struct User {
+    /// Its name, 1 to 64 octets, neither `anonymous` nor `*`, and without `/`.
+    pub name: Text,
+    /// Its password, 1 to 64 octets.
+    pub password: Text,
+}
+
+/// Whom some databases are open or closed to.
+#[derive(PartialEq, Eq, Clone, Drop)]
+pub struct Rule {
+    /// Its name, 1 to 64 octets.
+    pub name: Text,
+    /// Whether it allows; else it denies.
+    pub allow: bool,
+    /// A user, `anonymous`, or `*` for all.
+    pub user: Text,
+    /// 1 to 64 virtual databases, in any case of ASCII letters, or `*` for all.
+    pub databases: List<Text>,
+}
+
 /// What a route is made of.
 #[derive(Drop)]
 pub struct RouteParts {
@@ -104,10 +126,19 @@ pub struct RouteParts {
     pub indexes: List<Index>,
     /// The record schemas of SRU.
     pub schemas: List<Schema>,
+    /// Those who may log in, in file order; where there are none, nobody has to.
+    pub users: List<User>,
+    /// The access rules, in file order: the first that matches decides.
+    pub rules: List<Rule>,
+    /// The most records that are kept of those that targets gave, 0 to 10000; 0 keeps none.
+    pub cache_records: u32,
+    /// The most octets of a record that is kept, 1 to 65536.
+    pub cache_record_bytes: u32,
 }
 
-/// Where searches go. Its numbers are in their ranges, its lists in their sizes, and every place is
-/// one of the list that it is a place of.
+/// Where searches go, and who may. Its numbers are in their ranges, its lists in their sizes, every
+/// place is one of the list that it is a place of, and every rule names users and databases that are
+/// there.
 #[derive(Drop)]
 pub struct Route {
     parts: RouteParts,

@@ -44,6 +44,10 @@ impl RouteParts {
             limits: default_limits(),
             indexes: default_indexes(alloc)?,
             schemas: default_schemas(alloc)?,
+            users: List::new(alloc),
+            rules: List::new(alloc),
+            cache_records: 0,
+            cache_record_bytes: 4096,
         })
     }
 }

@@ -3,16 +3,20 @@
 ghost use Rattle.std.specs.Prelude.{◌↔◌, ◌<◌, IsTrue, All};
 ghost use Rattle.route_config.specs.Sound.{
   AllBelow,
+  AreCacheNumbers,
   AreLimits,
   ArePoolNumbers,
   IsSound,
   KeepsPlaces,
+  KeepsRules,
   KeepsSizes,
 };
+ghost use Rattle.route_config.specs.Rules as rules_of;
 
 use crate::names::is_from;
-use crate::{Database, Group, PoolNumbers, RouteLeg, RouteParts};
-use z_types::Limits;
+use crate::rules::{names_database, names_user};
+use crate::{Database, Group, PoolNumbers, RouteLeg, RouteParts, Rule, User};
+use z_types::{Limits, Text};
 
 impl RouteParts {
     /// Whether a route may be of these parts.
@@ -24,6 +28,8 @@ impl RouteParts {
             && self.keeps_items()
             && are_pool_numbers(&self.pool)
             && are_limits(&self.limits)
+            && self.keeps_rules()
+            && self.are_cache_numbers()
     }
 
     fn keeps_places(&self) -> bool
@@ -43,6 +49,22 @@ impl RouteParts {
             && is_from(1, 64, self.databases.len())
             && is_from(0, 64, self.indexes.len())
             && is_from(1, 16, self.schemas.len())
+            && is_from(0, 1000, self.users.len())
+            && is_from(0, 1000, self.rules.len())
+    }
+
+    fn keeps_rules(&self) -> bool
+        ensures { IsTrue result ↔ KeepsRules self.now }
+    {
+        are_for_users(self.users.as_slice(), self.rules.as_slice())
+            && are_for_databases(self.databases.as_slice(), self.rules.as_slice())
+    }
+
+    fn are_cache_numbers(&self) -> bool
+        ensures { IsTrue result ↔ AreCacheNumbers self.now }
+    {
+        is_from(0, 10000, self.cache_records as usize)
+            && is_from(1, 65536, self.cache_record_bytes as usize)
     }
 }
 
@@ -99,4 +121,28 @@ fn are_limits(limits: &Limits) -> bool
         && is_from(1, 1000000, limits.searches as usize)
         && is_from(1, 1000000, limits.records as usize)
         && is_from(1, 1000, limits.sets as usize)
+}
+
+fn are_for_users(users: &[User], rules: &[Rule]) -> bool
+    ensures { IsTrue result ↔ All (λ rule. IsTrue (rules_of.names_user users.now rule.user)) rules.now }
+{
+    rules
+        .iter()
+        .all(|rule| names_user(users, rule.user.as_slice()))
+}
+
+fn are_databases(databases: &[Database], named: &[Text]) -> bool
+    ensures { IsTrue result ↔ All (λ one. IsTrue (rules_of.names_database databases.now one)) named.now }
+{
+    named
+        .iter()
+        .all(|one| names_database(databases, one.as_slice()))
+}
+
+fn are_for_databases(databases: &[Database], rules: &[Rule]) -> bool
+    ensures { IsTrue result ↔ All (λ rule. All (λ one. IsTrue (rules_of.names_database databases.now one)) rule.databases) rules.now }
+{
+    rules
+        .iter()
+        .all(|rule| are_databases(databases, rule.databases.as_slice()))
 }

@@ -7,7 +7,7 @@ use Rattle.std.proofs.lemmas.List.FromFn.{length-range_with_len}
 use Rattle.std.proofs.lemmas.List.Elements.{All-cons, All-nil, All-append, All-from_recursion}
 use Rattle.toml.specs.Data.{Data, get, as_str, array, no_items}
 use Rattle.route_config.specs.Names.{is_name, is_database_name}
-use Rattle.route_config.specs.Sound.{HasFrom, IsTarget, IsGroup, IsDatabase, IsLeg, IsIndex, IsSchema, KeepsItems}
+use Rattle.route_config.specs.Sound.{HasFrom, IsTarget, IsGroup, IsDatabase, IsLeg, IsIndex, IsSchema, IsUser, IsRule, KeepsItems}
 use Rattle.route_text.specs.declared.fault.RouteFault.TheVariants.{OutOfRange}
 use Rattle.route_text.specs.declared.rule.TextRule.{TextRule}
 use Rattle.route_text.specs.declared.rule.TextRule.TheVariants.{Name, DatabaseName, UpTo, IndexName}
@@ -158,4 +158,6 @@ kept-items tree h =
       classes = classes-kept values (sizes tree h);
       indexes = All-from_recursion IsIndex values.indexes (array-all index_in (Table index_keys) IsIndex index_item 0 64 (codes "index") (at top_keys (codes "index") tree) indexes);
       schemas = All-from_recursion IsSchema values.schemas (array-all schema_in (Table schema_keys) IsSchema schema_item 1 16 (codes "schema") (at top_keys (codes "schema") tree) schemas);
+      users = All-nil IsUser;
+      rules = All-nil IsRule;
     }

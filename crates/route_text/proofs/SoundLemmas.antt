@@ -1,6 +1,7 @@
 -- The route of a tree that is refused for nothing keeps its ranges, sizes and places.
 use Rattle.std.proofs.Common.{◌≡◌, ℕ, ◌≤◌, pos, nat_le, true, false, List, [], ◌++◌, codes, None, map, refl, arith}
 use Rattle.std.proofs.lemmas.List.{length-map}
+use Rattle.std.proofs.lemmas.List.Elements.{All-nil}
 use Rattle.std.proofs.lemmas.Bool.Decides.{nat_tests}
 use Rattle.toml.specs.Data.{Data, get, integer, array, no_items, table, no_members}
 use Rattle.route_text.specs.declared.fault.RouteFault.TheVariants.{TtlOrder}
@@ -104,8 +105,12 @@ sound tree h =
         databases = rw (databases_length 0 (values_in tree).databases) kept.databases;
         indexes = list-within index_in (Table index_keys) 0 64 (codes "index") (at top_keys (codes "index") tree) indexes;
         schemas = list-within schema_in (Table schema_keys) 1 16 (codes "schema") (at top_keys (codes "schema") tree) schemas;
+        users = (omega (arith), omega (arith));
+        rules = (omega (arith), omega (arith));
       };
       items = kept-items tree h;
       pool = pool_numbers (at top_keys (codes "pool") tree) (keys-passed pool_keys (codes "pool") (at top_keys (codes "pool") tree) pool) (ttl_order (values_in tree) (neither _ _ h).1);
       limits = limit_numbers (at top_keys (codes "limit") tree) (keys-passed limit_keys (codes "limit") (at top_keys (codes "limit") tree) limits);
+      rules = record { users = All-nil _; databases = All-nil _ };
+      cache = record { records = (omega (arith), omega (arith)); record_bytes = (omega (arith), omega (arith)) };
     }
