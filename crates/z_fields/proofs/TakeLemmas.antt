@@ -1,13 +1,14 @@
 -- The first of whole elements is lent, and the others are left.
-use Rattle.std.proofs.Common.{◌≡◌, ◌∙◌, ℕ, Bool, false, List, Option, Some, None, Result, Ok, Err, sym, ap, subst, refl}
+use Rattle.std.proofs.Common.{◌≡◌, ◌==◌, ◌≢◌, ◌∙◌, ℕ, Bool, true, false, List, [], ◌∷◌, length, Option, Some, None, Result, Ok, Err, sym, ap, subst, refl, append-nil, arith}
+use Rattle.std.proofs.lemmas.Bool.Decides.{nat_tests}
 use Rattle.z_ber.specs.declared.fault.BerFault.{BerFault}
 use Rattle.z_ber.specs.declared.tag.Tag.{Tag}
-use Rattle.z_ber.specs.Element.{Forest, none, leaf, branch, AreElements}
-use Rattle.z_ber.specs.Lent.{Lent, IsNext}
-use Rattle.z_ber.specs.LentTree.{LendsNext, IsNextOf, IsLeafLent, IsBranchLent, IsLentAs}
+use Rattle.z_ber.specs.Element.{Forest, none, leaf, branch, AreElements, IsElement}
+use Rattle.z_ber.specs.Lent.{Lent, IsFirst, IsNext}
+use Rattle.z_ber.specs.LentTree.{LendsFirst, LendsNext, IsNextOf, IsLeafLent, IsBranchLent, IsLentAs}
 use Rattle.z_ber.specs.Place.{IsUnit, IsUnitAnswer}
 use Rattle.unit_forms.specs.Reading.Elements.{Field, field_of, first_element, other_elements}
-use Rattle.z_fields.specs.Trees.{AreWhole, seen, left_in, IsTaken, IsRootOf}
+use Rattle.z_fields.specs.Trees.{AreWhole, IsWholeLent, elements_in, seen, left_in, IsTaken, IsRootOf}
 use Rattle.z_fields.proofs.TreeLemmas.{elements_in-are}
 
 abbrev IsTakenBy : Lent → Lent → Result (Option Lent) BerFault → Type 0
@@ -89,3 +90,62 @@ root_of octets lent answer = by answer.0 answer.1 answer.2
 pub taken-some : (old new : Lent) (o p : Option Lent) → o ≡ p → AreWhole old.levels old.left → IsNext old new (Ok o) → LendsNext old new (Ok o) → IsTaken old new p
 taken-some old new o p e whole next tree =
     subst (λ (q : Option Lent). IsTaken old new q) e (taken old new (Ok o) whole next tree)
+
+-- ---- the first of elements one after another
+
+-- the first of them by itself is an element
+leaf_alone : (w : Bool) (o : List ℕ) (t : Tag) (c : List ℕ) (os : Forest) (are : AreElements w 64 o (leaf t c os)) → IsElement 64 are.first (leaf t c none)
+leaf_alone w o t c os are =
+    (refl, record { first = are.first; others = []; here = are.here; apart = λ e. absurd cc; behind = refl; spelled = sym (append-nil are.first) })
+
+branch_alone : (w : Bool) (o : List ℕ) (t : Tag) (c : List ℕ) (is os : Forest) (are : AreElements w 64 o (branch t c is os)) → IsElement 64 are.first (branch t c is none)
+branch_alone w o t c is os are =
+    (refl, record { first = are.first; others = []; here = are.here; apart = λ e. absurd cc; behind = refl; spelled = sym (append-nil are.first) })
+
+ok_is : (a b : Lent) → ◌≡◌ {A = Result Lent BerFault} (Ok a) (Ok b) → a ≡ b
+ok_is a b e = cc
+
+pub record First (octets : List ℕ) (lent : Lent) : Type 0 where
+  pub whole : IsWholeLent lent
+  pub first : Some (seen lent) ≡ first_element (elements_in 64 octets)
+
+pub first_in : (octets : List ℕ) (lent : Lent) → octets ≢ [] → AreWhole 64 octets → IsFirst octets (Ok lent) → LendsFirst octets (Ok lent) → First octets lent
+first_in octets lent some elements answer tree = by elements.1 elements.2
+  where
+    by : (forest : Forest) → AreElements elements.0 64 octets forest → First octets lent
+    by none are = absurd (some are)
+    by (leaf t c os) are =
+        let found = tree (leaf t c none) are.first are.others (leaf_alone elements.0 octets t c os are) are.spelled in
+        let l = subst (λ (x : Lent). IsLeafLent 64 x t c) (sym (ok_is lent found.0 found.1)) found.2 in
+        record {
+          whole = record { whole = whole_leaf 64 lent t c l; fresh = answer.1.children };
+          first = ap Some (seen_leaf 64 lent t c l) ∙ ap first_element (sym (elements_in-are (leaf t c os) elements.0 64 octets are));
+        }
+    by (branch t c is os) are =
+        let found = tree (branch t c is none) are.first are.others (branch_alone elements.0 octets t c is os are) are.spelled in
+        let b = subst (λ (x : Lent). IsBranchLent 64 x t c is) (sym (ok_is lent found.0 found.1)) found.2 in
+        record {
+          whole = record { whole = whole_branch 64 lent t c is b; fresh = answer.1.children };
+          first = ap Some (seen_branch 64 lent t c is b) ∙ ap first_element (sym (elements_in-are (branch t c is os) elements.0 64 octets are));
+        }
+
+-- where there are some, the first of them is lent
+pub never_refused : (octets : List ℕ) (fault : BerFault) → octets ≢ [] → AreWhole 64 octets → LendsFirst octets (Err fault) → ⊥
+never_refused octets fault some elements tree = by elements.1 elements.2
+  where
+    by : (forest : Forest) → AreElements elements.0 64 octets forest → ⊥
+    by none are = some are
+    by (leaf t c os) are = let found = tree (leaf t c none) are.first are.others (leaf_alone elements.0 octets t c os are) are.spelled in absurd (cc)
+    by (branch t c is os) are = let found = tree (branch t c is none) are.first are.others (branch_alone elements.0 octets t c is os are) are.spelled in absurd (cc)
+
+is_nought : (n : ℕ) → (n == 0) ≡ true → n ≡ 0
+is_nought n h = grind (arith, nat_tests)
+
+pub none_first : (octets : List ℕ) → (length octets == 0) ≡ true → None ≡ first_element (elements_in 64 octets)
+unfolding elements_in
+none_first [] h = refl
+none_first (octet ∷ octets) h = absurd (let e = is_nought (length (octet ∷ octets)) h in omega (arith, e))
+
+pub some_are : (octets : List ℕ) → (length octets == 0) ≡ false → octets ≢ []
+some_are [] h = absurd cc
+some_are (octet ∷ octets) h = λ e. absurd cc

@@ -2,7 +2,8 @@
 
 ghost use Rattle.std.specs.Prelude.{◌≡◌, ◌==◌};
 ghost use Rattle.unit_forms.specs.Reading.Elements.{first_element, other_elements, has_tag, is_constructed, is_one_of, first_of, first_constructed, first_context};
-ghost use Rattle.z_fields.specs.Trees.{AreWhole, IsTaken, IsRoot};
+ghost use Rattle.z_types.specs.Bounds.{most_levels};
+ghost use Rattle.z_fields.specs.Trees.{AreWhole, IsTaken, IsRoot, elements_in};
 
 use std::marker::Model;
 use z_ber::{Element, Tag};
@@ -71,6 +72,20 @@ impl<'a> Field<'a> {
         match Element::of_unit(octets) {
             Ok(lent) => Ok(Field { lent }),
             Err(at) => Err(at),
+        }
+    }
+
+    /// The first of elements one after another, or `None` where there are none.
+    pub fn first(octets: &'a [u8]) -> Option<Field<'a>>
+        requires whole { AreWhole most_levels octets.now }
+        ensures { result ≡ first_element (elements_in most_levels octets.now) }
+    {
+        if octets.is_empty() {
+            return None;
+        }
+        match Element::first(octets) {
+            Ok(lent) => Some(Field { lent }),
+            Err(_) => unreachable!(),
         }
     }
 
