@@ -5,7 +5,6 @@ ghost use Rattle.limit_rules.specs.Limits.{most_records};
 ghost use Rattle.gateway_rules.specs.Given.{returned};
 ghost use Rattle.gateway_rules.specs.Settling as settling;
 ghost use Rattle.gateway_rules.specs.Works.{CanBegin, FitsWork};
-ghost use Rattle.z_types.specs.Shown.{shown};
 ghost use Rattle.front_session.specs.Settling.{ArePartsOf, IsAnswered, IsCutOf, good_reply_to, only_why, reply_by_parts, searches_behind};
 
 use crate::cut::cut_of;
@@ -15,7 +14,9 @@ use gateway_rules::{
 };
 use multi_merge::total;
 use std::alloc::Global;
-use z_types::{Diag, Fetched, List, Memory, Outcome, Reply, Request, ScanAnswer, Work, copy};
+use z_types::{
+    Diag, Fetched, List, Memory, Outcome, Reply, Request, ScanAnswer, Work, copy, shown_count,
+};
 
 /// A request that waits for what comes of its work.
 #[derive(Drop)]
@@ -146,23 +147,10 @@ fn asked_of(work: &Work, hits: &List<u32>) -> u32
             large,
             medium,
             ..
-        } => shown(total(hits.as_slice()), *small, *large, *medium),
+        } => shown_count(total(hits.as_slice()), *small, *large, *medium),
         Work::Fetch { count, .. } => *count,
         Work::Scan { .. } => 0,
     }
-}
-
-/// How many records are shown with a Search.
-fn shown(count: u32, small: u32, large: u32, medium: u32) -> u32
-    ensures { result ≡ shown count small large medium }
-{
-    if count <= small {
-        return count;
-    }
-    if count >= large {
-        return 0;
-    }
-    medium.min(count)
 }
 
 /// The parts of an outcome.

@@ -16,7 +16,7 @@ ghost use Rattle.package_rules.specs.steps.Spans.{IsSpanOf};
 ghost use Rattle.package.specs.steps.Kinds.{IsSearch};
 ghost use Rattle.package.specs.steps.Packages.{AreDone, answers_of, asked_of, begun};
 
-use crate::outcomes::{element_shown, shown_count};
+use crate::outcomes::element_shown;
 use crate::records::Wanted;
 use crate::said::{all_hits, first_mark};
 use gw_outside::TargetAnswer;
@@ -25,7 +25,9 @@ use multi_merge::total;
 use package_rules::{Span, spans_of};
 use route_config::Route;
 use std::alloc::Global;
-use z_types::{Exact, List, Memory, RpnQuery, ScanAsk, SetKey, Sitting, Text, Work, World, copy};
+use z_types::{
+    Exact, List, Memory, RpnQuery, ScanAsk, SetKey, Sitting, Text, Work, World, copy, shown_count,
+};
 
 /// The databases that a leg is at its target.
 fn databases_of(route: &Route, leg: u32) -> &List<Text>

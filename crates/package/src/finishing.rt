@@ -14,7 +14,6 @@ ghost use Rattle.package.specs.steps.Ends.{first_mark};
 ghost use Rattle.package.specs.steps.Kinds.{IsFetch, IsSearch};
 ghost use Rattle.package.specs.steps.Packages.{AreDone, HasFitting, answers_of, asked_of};
 
-use crate::outcomes::shown_count;
 use crate::said::{all_hits, class_name, first_mark};
 use crate::supplies::records_said;
 use gw_outside::TargetAnswer;
@@ -22,7 +21,9 @@ use leg::{Leg, LegAnswer};
 use multi_merge::total;
 use route_config::Route;
 use std::alloc::Global;
-use z_types::{Condition, Diag, Fetched, List, Mark, Memory, Outcome, Sitting, Text, Work, World};
+use z_types::{
+    Condition, Diag, Fetched, List, Mark, Memory, Outcome, Sitting, Text, Work, World, shown_count,
+};
 
 /// The mark of the first leg that is marked, those for what is asked then behind the others, and the
 /// leg's place in the route.

@@ -4,7 +4,6 @@ ghost use Rattle.std.specs.Prelude.{◌≡◌, ◌+◌, ◌<◌, ◌≤◌, leng
 ghost use Rattle.std.specs.Option.{option_copied};
 ghost use Rattle.z_types.specs.Bounds.{most_legs};
 ghost use Rattle.z_types.specs.MergedOrder as merged_order;
-ghost use Rattle.z_types.specs.Shown.{shown};
 ghost use Rattle.gateway_rules.specs.Given.{returned};
 ghost use Rattle.virt_db.specs.Legs.{leg_at};
 ghost use Rattle.gateway_rules.specs.Targets.{records_at, scan_at};
@@ -19,7 +18,9 @@ use multi_merge::total;
 use route_config::Route;
 use std::alloc::Global;
 use virt_db::leg_at;
-use z_types::{Condition, Diag, Fetched, List, Memory, Outcome, ScanAnswer, ScanAsk, Text, Work};
+use z_types::{
+    Condition, Diag, Fetched, List, Memory, Outcome, ScanAnswer, ScanAsk, Text, Work, shown_count,
+};
 
 /// What comes of a work where no leg is marked. Each target answers a search once; of a fetch each
 /// record is asked for at its own place, and the merged order is never made as a list.
@@ -133,20 +134,6 @@ pub(crate) fn element_shown<'a>(
         small_element.as_ref()
     } else {
         medium_element.as_ref()
-    }
-}
-
-/// How many records a Search of `count` hits shows (ANSI/NISO Z39.50-2003, 3.2.2).
-pub(crate) fn shown_count(count: u32, small: u32, large: u32, medium: u32) -> u32
-    ensures shown { result ≡ shown count small large medium }
-    ensures within { result ≤ count }
-{
-    if count <= small {
-        count
-    } else if large <= count {
-        0
-    } else {
-        medium.min(count)
     }
 }
 
