@@ -15,7 +15,7 @@ use Rattle.z_types.specs.declared.sitting.Sitting as sitting
 use Rattle.z_types.specs.declared.world.World as world
 use Rattle.gw_outside.specs.Happened.{Happened, at_address, is_cut}
 use Rattle.gw_outside.specs.Sessions.{Fits, IsWorlds, OpenCounts}
-use Rattle.gw_outside.specs.Steady.{AskHappens, LooksSteadily, TakesAsk, finds, is_good}
+use Rattle.gw_outside.specs.Steady.{AskHappens, IsPresent, IsSpared, IsTakenOrSpared, LooksSteadily, TakesAsk, finds, is_good}
 use Rattle.gw_outside.specs.declared.backends.Began.{Began}
 use Rattle.gw_outside.specs.declared.backends.Began.TheVariants as start
 use Rattle.gw_outside.specs.declared.backends.Heard.{Heard}
@@ -45,9 +45,9 @@ use Rattle.leg.specs.declared.phases.Phase.{Phase}
 use Rattle.leg.specs.declared.phases.Phase.TheVariants.{Begin, Dialling, Dialled, Ready, Searching, Presenting, Fetching, Scanning, Returning, Losing, Redialling, Spoiled, Done, Ended}
 use Rattle.leg.specs.declared.tasks.Task.{Task}
 use Rattle.leg.specs.declared.tasks.Task.TheVariants.{Hits, Records, Scan}
-use Rattle.conn_quiet.specs.steps.Bearing.{AreBearable, AreCutOnceMade, AreNoWorse, DialsGoOn, FaresAt, HoldsFound, IsBorneAsked, IsBorneAt, IsBorneIn, MayBeGone, MayMiss, is_cut_at, presents_at}
+use Rattle.conn_quiet.specs.steps.Bearing.{NoneIsCut, AreBearable, AreCutOnceMade, AreNoWorse, DialsGoOn, FaresAt, HoldsFound, IsBorneAsked, IsBorneAt, IsBorneIn, MayBeGone, MayMiss, is_cut_at, presents_at}
 use Rattle.conn_quiet.specs.steps.Quiet.{AreTold}
-use Rattle.conn_quiet.specs.steps.Whole.{AreIdle, IsPresent, IsScan, IsSearchUnder}
+use Rattle.conn_quiet.specs.steps.Whole.{AreIdle, IsScan, IsSearchUnder}
 use Rattle.conn_quiet.proofs.CountLemmas.{GotLink, linked-more, linked-then}
 use Rattle.conn_quiet.proofs.LegLemmas.{wanted-made}
 use Rattle.conn_quiet.proofs.PoolLemmas.{GivesWhole, IsGivenWhole, expire-whole, lose-whole, put-whole, redial-whole, take-whole}
@@ -115,6 +115,15 @@ finds-none happening holds name gones repeats left few is may none =
           let missing : holds name ≡ false = sym (ap (λ (n : ℕ). cond (nat_lt 0 n) false (holds name)) nothing_) ∙ none in
           let room_ = may missing in (room_, omega (arith, is, nothing_, room_))
     ]
+
+-- where none is cut this one is not
+none-is-cut : (h : Happened) (address : Address) (number : ℕ) → NoneIsCut h → 1 ≤ number → is_cut (at_address h address) number ≡ false
+none-is-cut h (Test target) number none linked =
+    lt-leb number (h.of_target target).cut (let zero_ = none target in omega (arith, zero_, linked))
+none-is-cut h (Tcp host port) number none linked = lt-leb number 0 (omega (arith, linked))
+none-is-cut h (Login (site.Test target) login) number none linked =
+    lt-leb number (h.of_target target).cut (let zero_ = none target in omega (arith, zero_, linked))
+none-is-cut h (Login (site.Tcp host port) login) number none linked = lt-leb number 0 (omega (arith, linked))
 
 neither-is : {A : Type 0} → true ≡ false → A
 neither-is e = absurd cc
@@ -293,7 +302,8 @@ module _ {W S : Type 0} (w : world.Ghosts W) (t : sitting.Ghosts S W) (terms : T
     (backend moved : BackendView) (p : Pool S) (behind : Option (Pool S)) (told : AreTold w terms.at)
     (bearable : AreBearable terms.pool backend.happened) (cuts : AreCutOnceMade backend) (go : DialsGoOn moved.counts)
     (worse : AreNoWorse backend.happened moved.happened)
-    (few : gones ≤ terms.pool.repeats) (are : AreIdle (FaresAt w t terms.pool resting 0) (Some p)) where
+    (few : gones ≤ terms.pool.repeats) (are : AreIdle (FaresAt w t terms.pool resting 0) (Some p))
+    (uncut : t.keeps ≡ true → NoneIsCut backend.happened) where
   abbrev before_ : Happened
   before_ = backend.happened
 
@@ -538,6 +548,25 @@ module _ {W S : Type 0} (w : world.Ghosts W) (t : sitting.Ghosts S W) (terms : T
         λ gone. (none (taken_.gone gone)).1,
       )
 
+  -- one that is spared the link leaves the set where it was
+  spared-takes : (held : Held S) (slot : ℕ) (asks : Ask) (session : S) → Was resting 0 held gones
+      → MayMiss w t terms before_ slot held.parts.session gones
+      → IsSpared t.keeps asks (t.link held.parts.session) (t.link session) before_ behind_
+      → MayMiss w t terms behind_ slot session gones × MayBeGone w t terms behind_ session gones
+  spared-takes held slot asks session is may h = (
+    λ missing. may (sym (h.holds (slot_name slot)) ∙ missing),
+    λ gone. neither-is (sym gone ∙ h.gone),
+  )
+
+  begun-takes : (held : Held S) (slot first count : ℕ) (syntax element : Option (List ℕ)) (session : S) → Was resting 0 held gones
+      → MayMiss w t terms before_ slot held.parts.session gones → t.address session ≡ t.address held.parts.session
+      → IsTakenOrSpared w t.keeps (t.address held.parts.session) (ask.Present (slot_name slot) first count syntax element) (t.link held.parts.session)
+      (t.link session) before_ behind_
+      → MayMiss w t terms behind_ slot session gones × MayBeGone w t terms behind_ session gones
+  begun-takes held slot first count syntax element session is may at (inl h) = present-takes held slot first count syntax element session is may at h
+  begun-takes held slot first count syntax element session is may at (inr h) =
+      spared-takes held slot (ask.Present (slot_name slot) first count syntax element) session is may h
+
   next-goes : (held : Held S) (items : List Item) (slot hits : ℕ) (asks : Ask) (reply : Began) (session : S) (doing : Task) → doing ≡ task
       → IsAskedIf w t (next_ask doing items slot) asks held.parts.session session reply
       → LinksMove w t true terms backend moved (began asks reply session) (Presenting held items slot hits)
@@ -547,8 +576,8 @@ module _ {W S : Type 0} (w : world.Ghosts W) (t : sitting.Ghosts S W) (terms : T
   next-goes held items slot hits asks reply session (Scan scan) e due links is may k = absurd due
   next-goes held items slot hits asks start.Started session (Records key first count syntax element) e due links is may k =
       let steady = links is.at.fares.told bearable.steady in
-      let both = present-takes held slot (first + length items) (count - length items) syntax element session is may due.address
-      (subst (λ (a : Ask). TakesAsk w (t.address held.parts.session) a (t.link held.parts.session) (t.link session) before_ behind_) due.asks steady.taken) in
+      let both = begun-takes held slot (first + length items) (count - length items) syntax element session is may due.address
+      (subst (λ (a : Ask). IsTakenOrSpared w t.keeps (t.address held.parts.session) a (t.link held.parts.session) (t.link session) before_ behind_) due.asks steady.taken) in
       record {
         spends = refl;
         in_time = some-patience;
@@ -582,7 +611,7 @@ module _ {W S : Type 0} (w : world.Ghosts W) (t : sitting.Ghosts S W) (terms : T
 
   module _ (held : Held S) (waits : Pending) (looks : ℕ) (session : S) (is : Was waits looks held gones) (pends : IsPending waits) where
     abbrev Steady : Heard → Type 0
-    Steady reply = LooksSteadily (t.address held.parts.session) before_ (t.link held.parts.session) (t.link session) reply
+    Steady reply = LooksSteadily t.keeps (t.address held.parts.session) before_ (t.link held.parts.session) (t.link session) reply
 
     abbrev Looks : Heard → Type 0
     Looks reply = IsLook w t held.parts.session session reply
@@ -606,11 +635,18 @@ module _ {W S : Type 0} (w : world.Ghosts W) (t : sitting.Ghosts S W) (terms : T
         goes-on held session waits waits looks (looks + 1) is l.address steady.number
         (look-waits w t terms.pool waits looks held.parts.session session before_ pends is.at l steady)
 
+    -- a reply comes over a link that is not cut; where records are kept none is
+    reply-uncut : (reply : Heard) → IsReply reply → Steady reply → is_cut_at t before_ held.parts.session ≡ false
+    reply-uncut reply so steady = (elim t.keeps as (λ (b : Bool). t.keeps ≡ b → is_cut_at t before_ held.parts.session ≡ false) [
+      | true ↦ λ keeps. none-is-cut before_ (t.address held.parts.session) (t.link held.parts.session).number (uncut keeps) is.at.fares.linked
+      | false ↦ λ own. steady.arrives own (arrived reply so)
+    ]) refl
+
     -- a reply
     replies : (reply : Heard) (counted_ : ℕ) → IsReply reply → Looks reply → Steady reply
         → counted_ + presents_at t before_ held.parts.session ≤ terms.pool.repeats → Is resting 0 (replied session held) counted_
     replies reply counted_ so l steady own =
-        has-replied held session counted_ (steady.arrives (arrived reply so)) own l.address steady.number
+        has-replied held session counted_ (reply-uncut reply so steady) own l.address steady.number
         (look-rests w t terms.pool waits looks held.parts.session session before_ pends is.at reply so l steady)
 
     failed-stands : IsBorneIn w t terms behind_ (after_fault held) gones
@@ -635,7 +671,7 @@ module _ {W S : Type 0} (w : world.Ghosts W) (t : sitting.Ghosts S W) (terms : T
   -- the reply to the Init
   dialled-stands : (held : Held S) (looks : ℕ) (reply : Heard) (session : S) → Was opening looks held gones
       → IsLook w t held.parts.session session reply
-      → LooksSteadily (t.address held.parts.session) before_ (t.link held.parts.session) (t.link session) reply
+      → LooksSteadily t.keeps (t.address held.parts.session) before_ (t.link held.parts.session) (t.link session) reply
       → IsBorneIn w t terms behind_ (after_opened terms.pool.patience held looks reply session) (gones_after (heard reply session))
   dialled-stands held looks look.Opened session is l steady = replies held opening looks session is tt look.Opened gones tt l steady is.few_gone
   dialled-stands held looks (look.Hits found) session is l steady = tt
@@ -664,7 +700,7 @@ module _ {W S : Type 0} (w : world.Ghosts W) (t : sitting.Ghosts S W) (terms : T
   searched-stands : (held : Held S) (items : List Item) (slot looks : ℕ) (reply : Heard) (session : S)
       → (is : IsBorneAsked w t terms before_ (IsSearchUnder slot) looks held gones)
       → IsLook w t held.parts.session session reply
-      → LooksSteadily (t.address held.parts.session) before_ (t.link held.parts.session) (t.link session) reply
+      → LooksSteadily t.keeps (t.address held.parts.session) before_ (t.link held.parts.session) (t.link session) reply
       → (reply ≡ look.Gone → ⊥)
       → IsBorneIn w t terms behind_ (after_search terms task now held items slot looks reply session) (gones_after (heard reply session))
   searched-stands held items slot looks look.Opened session is l steady fits = tt
@@ -708,7 +744,7 @@ module _ {W S : Type 0} (w : world.Ghosts W) (t : sitting.Ghosts S W) (terms : T
       → (is : IsBorneAsked w t terms before_ IsPresent looks held gones)
       → MayMiss w t terms before_ slot held.parts.session gones → MayBeGone w t terms before_ held.parts.session gones
       → IsLook w t held.parts.session session reply
-      → LooksSteadily (t.address held.parts.session) before_ (t.link held.parts.session) (t.link session) reply
+      → LooksSteadily t.keeps (t.address held.parts.session) before_ (t.link held.parts.session) (t.link session) reply
       → IsBorneIn w t terms behind_
       (after_present terms task (gones_after (heard reply session)) held items slot hits looks reply session) (gones_after (heard reply session))
   fetched-stands held items slot hits looks look.Opened session is may be l steady = tt
@@ -754,7 +790,7 @@ module _ {W S : Type 0} (w : world.Ghosts W) (t : sitting.Ghosts S W) (terms : T
   scanned-stands : (held : Held S) (looks : ℕ) (reply : Heard) (session : S)
       → (is : IsBorneAsked w t terms before_ IsScan looks held gones)
       → IsLook w t held.parts.session session reply
-      → LooksSteadily (t.address held.parts.session) before_ (t.link held.parts.session) (t.link session) reply
+      → LooksSteadily t.keeps (t.address held.parts.session) before_ (t.link held.parts.session) (t.link session) reply
       → IsBorneIn w t terms behind_ (after_scan terms.pool.patience held looks reply session) (gones_after (heard reply session))
   scanned-stands held looks look.Opened session is l steady = tt
   scanned-stands held looks (look.Hits found) session is l steady = tt

@@ -13,7 +13,7 @@ use Rattle.z_types.specs.declared.sitting.Sitting as sitting
 use Rattle.z_types.specs.declared.world.World as world
 use Rattle.gw_outside.specs.Happened.{AreQuiet}
 use Rattle.gw_outside.specs.Sessions.{Made, made_after}
-use Rattle.gw_outside.specs.Steady.{LooksSteadily}
+use Rattle.gw_outside.specs.Steady.{IsPresent, LooksSteadily}
 use Rattle.gw_outside.specs.declared.backends.Began.{Began}
 use Rattle.gw_outside.specs.declared.backends.Began.TheVariants as start
 use Rattle.gw_outside.specs.declared.backends.Heard.{Heard}
@@ -41,7 +41,7 @@ use Rattle.leg.specs.declared.phases.Phase.TheVariants.{Begin, Dialling, Dialled
 use Rattle.leg.specs.declared.tasks.Task.{Task}
 use Rattle.leg.specs.declared.tasks.Task.TheVariants.{Hits, Records, Scan}
 use Rattle.conn_quiet.specs.steps.Quiet.{AreTold}
-use Rattle.conn_quiet.specs.steps.Whole.{HasMade, IsPresent, IsScan, IsSearchUnder, IsWhole, IsWholeAsked, IsWholeAt, IsWholeIn, IsWholePool}
+use Rattle.conn_quiet.specs.steps.Whole.{HasMade, IsScan, IsSearchUnder, IsWhole, IsWholeAsked, IsWholeAt, IsWholeIn, IsWholePool}
 use Rattle.conn_quiet.proofs.CountLemmas.{IsWell, linked-then}
 use Rattle.conn_quiet.proofs.PoolLemmas.{GivesWhole, IsGivenWhole, expire-whole, lose-whole, put-whole, redial-whole, take-whole}
 use Rattle.conn_quiet.proofs.SessionLemmas.{IsBegunWell, IsHeardWell, IsOfMade, IsReply, ask-well, look-rests, look-well, new-whole, uncut}
@@ -382,7 +382,7 @@ module _ {W S : Type 0} (w : world.Ghosts W) (t : sitting.Ghosts S W) (terms : T
   heard-well-deed look.Memory session h = tt
 
   module _ (before session : S) (reply : Heard) (whole : IsWhole w t before) (waits : IsPending (t.pending before))
-      (l : IsLook w t before session reply) (links : LooksSteadily (t.address before) backend.happened (t.link before) (t.link session) reply) where
+      (l : IsLook w t before session reply) (links : LooksSteadily t.keeps (t.address before) backend.happened (t.link before) (t.link session) reply) where
     look-is : IsHeardWell reply
     look-is = look-well w t before session backend.happened reply quiet whole waits l links
 

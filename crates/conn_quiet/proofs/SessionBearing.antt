@@ -14,7 +14,7 @@ use Rattle.z_types.specs.declared.sitting.Sitting as sitting
 use Rattle.z_types.specs.declared.world.World as world
 use Rattle.gw_outside.specs.Happened.{AreLess, Happened, at_address}
 use Rattle.gw_outside.specs.Sessions.{Fits, IsNewSession, IsWorlds, Made, made_after, made_by, pending_after}
-use Rattle.gw_outside.specs.Steady.{AsksSteadily, HasNewLink, IfStands, LooksSteadily, TakesAsk, finds, holds_after, is_good, looked_by}
+use Rattle.gw_outside.specs.Steady.{AsksSteadily, HasNewLink, IfStands, IsPresent, IsSpared, IsTakenOrSpared, LooksSteadily, TakesAsk, finds, holds_after, is_good, looked_by}
 use Rattle.gw_outside.specs.Wires.{DelaysLooked}
 use Rattle.gw_outside.specs.declared.backends.Began.TheVariants as began
 use Rattle.gw_outside.specs.declared.backends.Heard.{Heard}
@@ -111,6 +111,35 @@ module _ {W : Type 0} (w : world.Ghosts W) (pool : PoolNumbers) (address : Addre
         h.holds name
         ∙ asked-holds ask made (at_address before address) old.holds (no-presents pool before address bearable none) (fares.holds none) name will;
   }
+
+  spared-stands : (ask : Ask) (made : Made) (name : List ℕ) → IsPresent ask → will_stand w address (asked ask) made name ≡ true → is_some (made name) ≡ true
+  spared-stands (Search own key) made name is will = absurd is
+  spared-stands (Present own first count syntax element) made name is will = will
+  spared-stands (Scan dbs scan) made name is will = absurd is
+
+  spared-found : (ask : Ask) (holds : List ℕ → Bool) → IsPresent ask → HoldsFound w pool address (asked ask) holds
+  spared-found (Search own key) holds is = absurd is
+  spared-found (Present own first count syntax element) holds is = tt
+  spared-found (Scan dbs scan) holds is = absurd is
+
+  -- a Present that is spared the link is answered at the first look
+  spared-fares : (keeps : Bool) (ask : Ask) (made : Made) (old new : LinkView) (before after : Happened) → AreBearable pool before
+      → FaresAs w pool address resting 0 made old → new.number ≡ old.number → IsSpared keeps ask old new before after
+      → FaresAs w pool address (asked ask) 0 made new
+  spared-fares keeps ask made old new before after bearable fares number h = record {
+    told = fares.told;
+    linked = subst (λ (n : ℕ). 1 ≤ n) (sym number) fares.linked;
+    replies = in-time pool new.delays 0 (h.delays ∙ ap (λ (ds : List ℕ). 0 ∷ ds) fares.replies)
+        (let early = (bearable.each 0).delay in omega (arith, early));
+    found = spared-found ask new.holds h.present;
+    holds = λ none name will. h.holds name ∙ fares.holds none name (spared-stands ask made name h.present will);
+  }
+
+  begun-fares : (keeps : Bool) (ask : Ask) (made : Made) (old new : LinkView) (before after : Happened) → AreBearable pool before
+      → FaresAs w pool address resting 0 made old → new.number ≡ old.number → IsTakenOrSpared w keeps address ask old new before after
+      → FaresAs w pool address (asked ask) 0 made new
+  begun-fares keeps ask made old new before after bearable fares number (inl h) = asked-fares ask made old new before after bearable fares number h
+  begun-fares keeps ask made old new before after bearable fares number (inr h) = spared-fares keeps ask made old new before after bearable fares number h
 
 -- ---- a look
 
@@ -216,10 +245,10 @@ module _ {W : Type 0} (w : world.Ghosts W) (pool : PoolNumbers) (address : Addre
   found-still (asked (Scan dbs scan)) holds other same h = tt
 
   -- a look in vain
-  waiting-fares : (pending : Pending) (looks : ℕ) (made after : Made) (old new : LinkView) (h : Happened)
+  waiting-fares : {keeps : Bool} (pending : Pending) (looks : ℕ) (made after : Made) (old new : LinkView) (h : Happened)
       → FaresAs w pool address pending looks made old → IsPending pending
       → ((name : List ℕ) → after name ≡ made_after pending heard.NotYet made name)
-      → LooksSteadily address h old new heard.NotYet
+      → LooksSteadily keeps address h old new heard.NotYet
       → FaresAs w pool address pending (looks + 1) after new
   waiting-fares pending looks made after old new h fares is makes look = record {
     told = fares.told;
@@ -232,8 +261,8 @@ module _ {W : Type 0} (w : world.Ghosts W) (pool : PoolNumbers) (address : Addre
         ∙ fares.holds none name (sym (will-same pending made after name (makes name ∙ not-made pending made name)) ∙ will);
   }
 
-  waiting-looks : (pending : Pending) (looks : ℕ) (made : Made) (old new : LinkView) (h : Happened) → FaresAs w pool address pending looks made old
-      → IsPending pending → LooksSteadily address h old new heard.NotYet → looks + 1 < pool.patience
+  waiting-looks : {keeps : Bool} (pending : Pending) (looks : ℕ) (made : Made) (old new : LinkView) (h : Happened) → FaresAs w pool address pending looks made old
+      → IsPending pending → LooksSteadily keeps address h old new heard.NotYet → looks + 1 < pool.patience
   waiting-looks pending looks made old new h fares is look =
       (waited pool looks old.delays new.delays (due pool pending looks old.delays is fares.replies) look.delays).1
 
@@ -263,9 +292,9 @@ module _ {W : Type 0} (w : world.Ghosts W) (pool : PoolNumbers) (address : Addre
   stands-after (asked (Search own key)) made heard.Memory name is fits reply worlds stands = absurd reply
 
   -- a reply
-  reply-fares : (pending : Pending) (looks : ℕ) (made after : Made) (old new : LinkView) (h : Happened) (answer : Heard) → IsReply answer
+  reply-fares : {keeps : Bool} (pending : Pending) (looks : ℕ) (made after : Made) (old new : LinkView) (h : Happened) (answer : Heard) → IsReply answer
       → FaresAs w pool address pending looks made old → IsPending pending → Fits pending answer → IsWorlds w address made pending answer
-      → ((name : List ℕ) → after name ≡ made_after pending answer made name) → LooksSteadily address h old new answer
+      → ((name : List ℕ) → after name ≡ made_after pending answer made name) → LooksSteadily keeps address h old new answer
       → FaresAs w pool address resting 0 after new
   reply-fares pending looks made after old new h answer reply fares is fits worlds makes look = record {
     told = fares.told;
@@ -303,27 +332,27 @@ module _ {W S : Type 0} (w : world.Ghosts W) (t : sitting.Ghosts S W) (pool : Po
   -- an ask that is sent leaves a session waiting for its reply
   pub ask-fares : (due ask : Ask) (before after : S) (h moved : Happened) → AreBearable pool h → FaresAt w t pool resting 0 before
       → IsAsked w t due ask before after began.Started
-      → AsksSteadily w (t.address before) ask (t.link before) (t.link after) h moved began.Started → FaresAt w t pool (asked ask) 0 after
+      → AsksSteadily w t.keeps (t.address before) ask (t.link before) (t.link after) h moved began.Started → FaresAt w t pool (asked ask) 0 after
   ask-fares due ask before after h moved bearable is a steady =
       as-before before after (asked ask) 0 a.address a.waits
-      (asked-fares w pool (t.address before) ask (t.made after) (t.link before) (t.link after) h moved bearable
+      (begun-fares w pool (t.address before) t.keeps ask (t.made after) (t.link before) (t.link after) h moved bearable
       (made-as (t.address before) (t.made before) (t.made after) (t.link before) a.made is.fares) steady.number steady.taken)
 
   module _ (pending : Pending) (looks : ℕ) (before after : S) (h : Happened) (is : IsPending pending) (at : FaresAt w t pool pending looks before) where
     -- a look in vain leaves it waiting, one look less
-    pub look-waits : IsLook w t before after heard.NotYet → LooksSteadily (t.address before) h (t.link before) (t.link after) heard.NotYet
+    pub look-waits : IsLook w t before after heard.NotYet → LooksSteadily t.keeps (t.address before) h (t.link before) (t.link after) heard.NotYet
         → FaresAt w t pool pending (looks + 1) after
     look-waits look steady =
         as-before before after pending (looks + 1) look.address (look.waits ∙ at.waits)
         (waiting-fares w pool (t.address before) pending looks (t.made before) (t.made after) (t.link before) (t.link after) h at.fares is
         (λ name. look.made name ∙ ap (λ (p : Pending). made_after p heard.NotYet (t.made before) name) at.waits) steady)
 
-    pub look-in-time : LooksSteadily (t.address before) h (t.link before) (t.link after) heard.NotYet → looks + 1 < pool.patience
+    pub look-in-time : LooksSteadily t.keeps (t.address before) h (t.link before) (t.link after) heard.NotYet → looks + 1 < pool.patience
     look-in-time steady = waiting-looks w pool (t.address before) pending looks (t.made before) (t.link before) (t.link after) h at.fares is steady
 
     -- a reply leaves it at rest
     pub look-rests : (answer : Heard) → IsReply answer → IsLook w t before after answer
-        → LooksSteadily (t.address before) h (t.link before) (t.link after) answer → FaresAt w t pool resting 0 after
+        → LooksSteadily t.keeps (t.address before) h (t.link before) (t.link after) answer → FaresAt w t pool resting 0 after
     look-rests answer reply look steady =
         as-before before after resting 0 look.address (look.waits ∙ rests-after (t.pending before) answer reply)
         (reply-fares w pool (t.address before) pending looks (t.made before) (t.made after) (t.link before) (t.link after) h answer reply at.fares is

@@ -10,7 +10,7 @@ use Rattle.z_types.specs.declared.sitting.Sitting as sitting
 use Rattle.z_types.specs.declared.world.World as world
 use Rattle.gw_outside.specs.Happened.{Happened, AreQuiet, at_address, is_cut}
 use Rattle.gw_outside.specs.Sessions.{Fits, IsNewSession, IsWorlds, Made, made_after, made_by, pending_after}
-use Rattle.gw_outside.specs.Steady.{AsksSteadily, HasNewLink, LooksSteadily, TakesAsk, IfStands, finds, holds_after, is_good, looked_by}
+use Rattle.gw_outside.specs.Steady.{AsksSteadily, HasNewLink, LooksSteadily, IsPresent, IsSpared, IsTakenOrSpared, TakesAsk, IfStands, finds, holds_after, is_good, looked_by}
 use Rattle.gw_outside.specs.Wires.{DelaysLooked}
 use Rattle.gw_outside.specs.declared.backends.Began.{Began}
 use Rattle.gw_outside.specs.declared.backends.Began.TheVariants as began
@@ -106,6 +106,33 @@ module _ {W : Type 0} (w : world.Ghosts W) (address : Address) where
     holds = λ name will. h.holds name ∙ asked-holds ask made before old.holds quiet whole.holds name will;
   }
 
+  -- a Present that is spared the link finds its set
+  spared-finds : (keeps : Bool) (ask : Ask) (old new : LinkView) (before after : Happened) → IsSpared keeps ask old new before after → FindsItsSet ask new
+  spared-finds keeps (Search own key) old new before after h = tt
+  spared-finds keeps (Present own first count syntax element) old new before after h = h.gone
+  spared-finds keeps (Scan dbs scan) old new before after h = tt
+
+  -- and makes no set
+  spared-stands : (ask : Ask) (made : Made) (name : List ℕ) → IsPresent ask → will_stand w address (asked ask) made name ≡ true → is_some (made name) ≡ true
+  spared-stands (Search own key) made name is will = absurd is
+  spared-stands (Present own first count syntax element) made name is will = will
+  spared-stands (Scan dbs scan) made name is will = absurd is
+
+  spared-whole : (keeps : Bool) (ask : Ask) (made : Made) (old new : LinkView) (before after : Happened) → IsWholeAs w address resting made old
+      → new.number ≡ old.number → IsSpared keeps ask old new before after → IsWholeAs w address (asked ask) made new
+  spared-whole keeps ask made old new before after whole number h = record {
+    told = whole.told;
+    linked = subst (λ (n : ℕ). 1 ≤ n) (sym number) whole.linked;
+    replies = (h.delays ∙ ap (λ (ds : List ℕ). 0 ∷ ds) whole.replies, spared-finds keeps ask old new before after h);
+    holds = λ name will. h.holds name ∙ whole.holds name (spared-stands ask made name h.present will);
+  }
+
+  begun-whole : (keeps : Bool) (ask : Ask) (made : Made) (old new : LinkView) (before after : Happened) → AreQuiet before
+      → IsWholeAs w address resting made old → IsOfMade ask made → new.number ≡ old.number → IsTakenOrSpared w keeps address ask old new before after
+      → IsWholeAs w address (asked ask) made new
+  begun-whole keeps ask made old new before after quiet whole is number (inl h) = asked-whole ask made old new before after quiet whole is number h
+  begun-whole keeps ask made old new before after quiet whole is number (inr h) = spared-whole keeps ask made old new before after whole number h
+
 -- ---- a look
 
 -- a reply is due now
@@ -182,8 +209,8 @@ waited old new due h =
     absurd (omega (arith, is.0))
 
 module _ {W : Type 0} (w : world.Ghosts W) (address : Address) where
-  pub heard-well : (pending : Pending) (made : Made) (old new : LinkView) (h : Happened) (answer : Heard) → AreQuiet h
-      → IsWholeAs w address pending made old → IsPending pending → Fits pending answer → LooksSteadily address h old new answer
+  pub heard-well : {keeps : Bool} (pending : Pending) (made : Made) (old new : LinkView) (h : Happened) (answer : Heard) → AreQuiet h
+      → IsWholeAs w address pending made old → IsPending pending → Fits pending answer → LooksSteadily keeps address h old new answer
       → IsHeardWell answer
   heard-well p made old new h heard.Opened quiet whole is fits look = tt
   heard-well p made old new h (heard.Hits hits) quiet whole is fits look = tt
@@ -222,9 +249,9 @@ module _ {W : Type 0} (w : world.Ghosts W) (address : Address) where
   stands-after (asked (Search own key)) made heard.Failed name is fits reply worlds stands = absurd reply
   stands-after (asked (Search own key)) made heard.Memory name is fits reply worlds stands = absurd reply
 
-  reply-whole : (pending : Pending) (made after : Made) (old new : LinkView) (h : Happened) (answer : Heard) → IsReply answer
+  reply-whole : {keeps : Bool} (pending : Pending) (made after : Made) (old new : LinkView) (h : Happened) (answer : Heard) → IsReply answer
       → IsWholeAs w address pending made old → IsPending pending → Fits pending answer → IsWorlds w address made pending answer
-      → ((name : List ℕ) → after name ≡ made_after pending answer made name) → LooksSteadily address h old new answer
+      → ((name : List ℕ) → after name ≡ made_after pending answer made name) → LooksSteadily keeps address h old new answer
       → IsWholeAs w address resting after new
   reply-whole pending made after old new h answer reply whole is fits worlds then look = record {
     told = whole.told;
@@ -271,10 +298,10 @@ module _ {W S : Type 0} (w : world.Ghosts W) (t : sitting.Ghosts S W) where
 
   pub ask-well : (due ask : Ask) (before after : S) (h moved : Happened) (answer : Began) → AreQuiet h → IsWholeAt w t resting before
       → IsOfMade ask (t.made before) → IsAsked w t due ask before after answer
-      → AsksSteadily w (t.address before) ask (t.link before) (t.link after) h moved answer → IsBegunWell ask after answer
+      → AsksSteadily w t.keeps (t.address before) ask (t.link before) (t.link after) h moved answer → IsBegunWell ask after answer
   ask-well due ask before after h moved began.Started quiet is of a steady =
       as-before before after (asked ask) a.address a.waits
-      (asked-whole w (t.address before) ask (t.made after) (t.link before) (t.link after) h moved quiet
+      (begun-whole w (t.address before) t.keeps ask (t.made after) (t.link before) (t.link after) h moved quiet
       (made-as (t.address before) (t.made before) (t.made after) (t.link before) a.made (as-pending before resting is.waits is.whole))
       (of-as ask (t.made before) (t.made after) a.made of) steady.number steady.taken)
   ask-well due ask before after h moved began.Failed quiet is of a steady =
@@ -283,13 +310,13 @@ module _ {W S : Type 0} (w : world.Ghosts W) (t : sitting.Ghosts S W) where
 
   -- a look hears a reply, or lacks memory
   pub look-well : (before after : S) (h : Happened) (answer : Heard) → AreQuiet h → IsWhole w t before → IsPending (t.pending before)
-      → IsLook w t before after answer → LooksSteadily (t.address before) h (t.link before) (t.link after) answer → IsHeardWell answer
+      → IsLook w t before after answer → LooksSteadily t.keeps (t.address before) h (t.link before) (t.link after) answer → IsHeardWell answer
   look-well before after h answer quiet whole is look steady =
       heard-well w (t.address before) (t.pending before) (t.made before) (t.link before) (t.link after) h answer quiet whole is look.fits steady
 
   -- a reply leaves it at rest
   pub look-rests : (before after : S) (h : Happened) (answer : Heard) → IsReply answer → IsWhole w t before → IsPending (t.pending before)
-      → IsLook w t before after answer → LooksSteadily (t.address before) h (t.link before) (t.link after) answer
+      → IsLook w t before after answer → LooksSteadily t.keeps (t.address before) h (t.link before) (t.link after) answer
       → IsWholeAt w t resting after
   look-rests before after h answer reply whole is look steady =
       as-before before after resting look.address (look.waits ∙ rests-after (t.pending before) answer reply)

@@ -78,7 +78,7 @@ module _ {W S : Type 0} (w : world.Ghosts W) (t : sitting.Ghosts S W) where
   turn-told terms task now old new a b answer door after backend moved (Some p) e told h go borne is =
       let less = deed-less w t h.deed backend.happened moved.happened h.backend_moves.happened in
       let worse = less-no-worse backend.happened moved.happened less in
-      let on = deed-bears w t terms door.counts.most task now a.gones backend moved p after.pool told borne.bearable borne.cut go worse is.borne.few_gone borne.idle
+      let on = deed-bears w t terms door.counts.most task now a.gones backend moved p after.pool told borne.bearable borne.cut go worse is.borne.few_gone borne.idle borne.uncut
       old h.deed h.due h.links h.backend_moves.counts is.stands
       (subst (λ (q : Option (Pool S)). PoolMoves terms task now old h.deed q after.pool) e h.pool) in
       let gone : b.gones ≡ more (rises_of (want_of task) h.deed).gones a.gones = ap (λ (x : Account). x.gones) h.account in
@@ -99,6 +99,7 @@ module _ {W S : Type 0} (w : world.Ghosts W) (t : sitting.Ghosts S W) where
           borne = record {
             bearable = less-bearable terms.pool backend.happened moved.happened less borne.bearable;
             cut = still-made backend moved less (dials-on w t true h.deed backend.counts moved.counts h.backend_moves.counts go) borne.cut;
+            uncut = λ keeps target. less.cut target ∙ borne.uncut keeps target;
             idle = on.pool;
           };
           worse = worse;

@@ -52,6 +52,8 @@ impl<W: World> Sitting<W> for FakeSession {
     ghost pending = { λ session. pending_of session.waiting };
 
     ghost link = { λ session. no_link };
+
+    ghost keeps = { false };
 }
 
 impl FakeSession {
@@ -162,7 +164,7 @@ impl<T: Targets> Backend<T> for FakeBackend<T> {
             ≡ made_in session.old.answers.items name }
         ensures happened { AreLess never_steady never_steady }
         ensures steady { T.told session.old.address → never_steady.steady ≡ true
-            → AsksSteadily T.World session.old.address ask.now no_link no_link
+            → AsksSteadily T.World false session.old.address ask.now no_link no_link
             never_steady never_steady result }
         ensures counts { BackendCounts true (Unit {0})
             (start_counted ask.now result) (counts_of self.old) (counts_of self.new) }
@@ -197,7 +199,7 @@ impl<T: Targets> Backend<T> for FakeBackend<T> {
         ensures address { session.new.address ≡ session.old.address }
         ensures happened { AreSame never_steady never_steady }
         ensures steady { T.told session.old.address → never_steady.steady ≡ true
-            → LooksSteadily session.old.address never_steady no_link no_link result }
+            → LooksSteadily false session.old.address never_steady no_link no_link result }
         ensures counts { LookCounts true (T.told session.old.address)
             result (counts_of self.old) (counts_of self.new) }
         ensures planned { (heard_counted result).fault ≡ fails_next self.old.calls }

@@ -1,5 +1,5 @@
 -- What befalls sessions with targets over a steady wire, at addresses that are told (this project's own): calls fail where links are cut alone, replies come after the looks that were stated, and a set is gone where that was made to happen
-use Rattle.std.specs.Prelude.{◌≡◌, ℕ, ◌-◌, Bool, true, false, List, [], ◌∷◌, ◌++◌, nat_lt, Result, Ok, Err, if◌then◌else◌}
+use Rattle.std.specs.Prelude.{◌≡◌, ◌⊎◌, ℕ, ◌-◌, Bool, true, false, List, [], ◌∷◌, ◌++◌, nat_lt, Result, Ok, Err, if◌then◌else◌}
 use Rattle.z_types.specs.Links.{LinkView}
 use Rattle.z_types.specs.Same.{is_same}
 use Rattle.z_types.specs.declared.address.Address.{Address}
@@ -65,6 +65,20 @@ AskHappens (Present name first count syntax element) (Login (site.Test target) l
     IsMade target (λ happening. record happening { presents = happening.presents - 1 }) old new
 AskHappens ask address old new = AreSame old new
 
+-- an ask for records
+abbrev pub IsPresent : Ask → Type 0
+IsPresent (Present name first count syntax element) = Unit {0}
+IsPresent ask = ⊥
+
+-- where sessions keep records a Present may be answered by those: it is not sent over the link, its reply comes at the first look, and nothing becomes of links
+pub record IsSpared (keeps : Bool) (ask : Ask) (old new : LinkView) (before after : Happened) : Type 0 where
+  pub keeps_records : keeps ≡ true
+  pub present : IsPresent ask
+  pub delays : new.delays ≡ 0 ∷ old.delays
+  pub holds : (name : List ℕ) → new.holds name ≡ old.holds name
+  pub gone : new.gone ≡ false
+  pub happened : AreSame before after
+
 module _ {W : Type 0} (w : world.Ghosts W) (address : Address) (ask : Ask) where
   -- an ask is taken over a link
   pub record TakesAsk (old new : LinkView) (before after : Happened) : Type 0 where
@@ -73,9 +87,14 @@ module _ {W : Type 0} (w : world.Ghosts W) (address : Address) (ask : Ask) where
     pub gone : IsGoneWhere ask (at_address before address) old.holds new.gone
     pub happened : AskHappens ask address before after
 
+module _ {W : Type 0} (w : world.Ghosts W) (keeps : Bool) (address : Address) (ask : Ask) where
+  -- it is taken over the link, or spared it
+  abbrev pub IsTakenOrSpared : LinkView → LinkView → Happened → Happened → Type 0
+  IsTakenOrSpared old new before after = TakesAsk w address ask old new before after ⊎ IsSpared keeps ask old new before after
+
   -- one that fails is over a link that is cut
   abbrev pub TakesUnlessCut : LinkView → LinkView → Happened → Happened → Began → Type 0
-  TakesUnlessCut old new before after began.Started = TakesAsk old new before after
+  TakesUnlessCut old new before after began.Started = IsTakenOrSpared old new before after
   TakesUnlessCut old new before after began.Failed = is_cut (at_address before address) old.number ≡ true
   TakesUnlessCut old new before after began.Memory = Unit {0}
 
@@ -98,12 +117,12 @@ IfStands heard.Failed P = Unit {0}
 IfStands heard.Memory P = Unit {0}
 IfStands answer P = P
 
--- a reply comes when it is due, over a link that is not cut; a set is gone where its target said so; and a look that fails is at a link that is
-pub record LooksSteadily (address : Address) (h : Happened) (old new : LinkView) (answer : Heard) : Type 0 where
+-- a reply comes when it is due, and where no records are kept over a link that is not cut; a set is gone where its target said so; and a look that fails is at a link that is
+pub record LooksSteadily (keeps : Bool) (address : Address) (h : Happened) (old new : LinkView) (answer : Heard) : Type 0 where
   pub number : new.number ≡ old.number
   pub delays : DelaysLooked old.delays new.delays (looked_by answer)
   pub holds : IfStands answer ((name : List ℕ) → new.holds name ≡ old.holds name)
   pub gone : answer ≡ heard.Gone → old.gone ≡ true
   pub still_gone : answer ≡ heard.NotYet → new.gone ≡ old.gone
   pub fails : answer ≡ heard.Failed → is_cut (at_address h address) old.number ≡ true
-  pub arrives : looked_by answer ≡ looked.Arrived → is_cut (at_address h address) old.number ≡ false
+  pub arrives : keeps ≡ false → looked_by answer ≡ looked.Arrived → is_cut (at_address h address) old.number ≡ false

@@ -94,7 +94,7 @@ pub trait Backend<W: World>: Watched {
         ensures happened { AreLess (Self.happened self.old) (Self.happened self.new) }
         ensures steady { W.told (Self.Session.address session.old)
             → (Self.happened self.old).steady ≡ true
-            → AsksSteadily W.World (Self.Session.address session.old) ask.now
+            → AsksSteadily W.World Self.Session.keeps (Self.Session.address session.old) ask.now
             (Self.Session.link session.old) (Self.Session.link session.new)
             (Self.happened self.old) (Self.happened self.new) result }
         ensures counts { BackendCounts Self.exact (Unit {0})
@@ -116,7 +116,7 @@ pub trait Backend<W: World>: Watched {
         ensures happened { AreSame (Self.happened self.old) (Self.happened self.new) }
         ensures steady { W.told (Self.Session.address session.old)
             → (Self.happened self.old).steady ≡ true
-            → LooksSteadily (Self.Session.address session.old) (Self.happened self.old)
+            → LooksSteadily Self.Session.keeps (Self.Session.address session.old) (Self.happened self.old)
             (Self.Session.link session.old) (Self.Session.link session.new) result }
         ensures counts { LookCounts Self.exact (W.told (Self.Session.address session.old))
             result (Self.counts self.old) (Self.counts self.new) };

@@ -23,8 +23,8 @@ module _ {W S : Type 0} (w : world.Ghosts W) (t : sitting.Ghosts S W) (exact : B
       (OpensSteadily t exact (at_address backend.happened (opened_at terms member)) moved.counts.dials made)
   LinksMove (began ask answer after) phase = IfSome (session_of phase) (λ before.
       IfSteadyAt (t.address before)
-      (AsksSteadily w (t.address before) ask (t.link before) (t.link after) backend.happened moved.happened answer))
+      (AsksSteadily w t.keeps (t.address before) ask (t.link before) (t.link after) backend.happened moved.happened answer))
   LinksMove (heard reply after) phase = IfSome (session_of phase) (λ before.
       IfSteadyAt (t.address before)
-      (LooksSteadily (t.address before) backend.happened (t.link before) (t.link after) reply))
+      (LooksSteadily t.keeps (t.address before) backend.happened (t.link before) (t.link after) reply))
   LinksMove deed phase = Unit {0}

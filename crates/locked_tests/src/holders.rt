@@ -1,6 +1,6 @@
 //! Sessions with targets of which nothing is told.
 
-ghost use Rattle.std.specs.Prelude.{refl, Some};
+ghost use Rattle.std.specs.Prelude.{false, refl, Some};
 ghost use Rattle.z_types.specs.Links.{no_link};
 ghost use Rattle.z_types.specs.Pending.{resting};
 ghost use Rattle.locked_tests.specs.Quiet.{no_hits, none_is_a_count, no_record, no_scan};
@@ -44,6 +44,8 @@ impl<W: World> Sitting<W> for Holder {
     ghost pending = { λ holder. resting };
 
     ghost link = { λ session. no_link };
+
+    ghost keeps = { false };
 }
 
 /// The key of a search for a number, which names no databases.

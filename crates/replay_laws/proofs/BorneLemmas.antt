@@ -25,7 +25,7 @@ use Rattle.front_conn.specs.steps.Steps.{StepsFrom, answering_of}
 use Rattle.script.specs.declared.event.Event.{Event}
 use Rattle.script.specs.declared.event.Event.TheVariants.{Feed, End, Step, Run, Tick, Gone, Cut, Slow}
 use Rattle.script.specs.Events.{client_of, named, seconds_of}
-use Rattle.conn_quiet.specs.steps.Bearing.{AreBearable, AreCutOnceMade, AreNoWorse, DialsGoOn, HasBorne, IsBearable, IsBorneBy, LegBears}
+use Rattle.conn_quiet.specs.steps.Bearing.{AreBearable, AreCutOnceMade, AreNoWorse, DialsGoOn, HasBorne, IsBearable, IsBorneBy, LegBears, NoneIsCut}
 use Rattle.conn_quiet.specs.steps.Laws.{BearingStays, PackagesBear, PackagesDialOn}
 use Rattle.replay.specs.Clients.{AreNone, ClientState, client_at, client_or_new}
 use Rattle.replay.specs.Trace.{ArePlayed, AreSteps, BefallsIf, HasRun, IsBefallen, IsClientStep, IsRunOf, PlaysFor, PlaysOf, Playing, Point, closing, closings, moment_behind, test_number}
@@ -155,20 +155,50 @@ module _ (pool : PoolNumbers) where
         cut = made-as IsCutAs number (slowed looks) old.happened new.happened h.happens (λ x. refl) (λ x. refl);
       }))
 
-  befallen-so : {S : Type 0} (exact : Bool) (route : Route) (event : Event) (clients : List (Option (ClientState S))) (old new : BackendView)
-      → exact ≡ true → HasBorneNumber pool event → FallsBetween event clients → AreBearable pool old.happened → AreCutOnceMade old
+  befallen-so : {S : Type 0} (keeps exact : Bool) (route : Route) (event : Event) (clients : List (Option (ClientState S))) (old new : BackendView)
+      → exact ≡ true → HasBorneNumber keeps pool event → FallsBetween event clients → AreBearable pool old.happened → AreCutOnceMade old
       → IsBefallen exact route event old new → BefallsSo (IsNoneInWork clients) old new
-  befallen-so exact route (Feed client octets) clients old new is few falls bearable cuts h = same-so (IsNoneInWork clients) old new bearable cuts h
-  befallen-so exact route (End client) clients old new is few falls bearable cuts h = same-so (IsNoneInWork clients) old new bearable cuts h
-  befallen-so exact route (Step client) clients old new is few falls bearable cuts h = same-so (IsNoneInWork clients) old new bearable cuts h
-  befallen-so exact route (Run client) clients old new is few falls bearable cuts h = same-so (IsNoneInWork clients) old new bearable cuts h
-  befallen-so exact route (Tick seconds) clients old new is few falls bearable cuts h = same-so (IsNoneInWork clients) old new bearable cuts h
-  befallen-so exact route (Gone target presents) clients old new is few falls bearable cuts h =
+  befallen-so keeps exact route (Feed client octets) clients old new is few falls bearable cuts h = same-so (IsNoneInWork clients) old new bearable cuts h
+  befallen-so keeps exact route (End client) clients old new is few falls bearable cuts h = same-so (IsNoneInWork clients) old new bearable cuts h
+  befallen-so keeps exact route (Step client) clients old new is few falls bearable cuts h = same-so (IsNoneInWork clients) old new bearable cuts h
+  befallen-so keeps exact route (Run client) clients old new is few falls bearable cuts h = same-so (IsNoneInWork clients) old new bearable cuts h
+  befallen-so keeps exact route (Tick seconds) clients old new is few falls bearable cuts h = same-so (IsNoneInWork clients) old new bearable cuts h
+  befallen-so keeps exact route (Gone target presents) clients old new is few falls bearable cuts h =
       if-gone exact (IsNoneInWork clients) target presents (test_number route target) old new falls few bearable cuts h
-  befallen-so exact route (Cut target) clients old new is few falls bearable cuts h =
+  befallen-so keeps exact route (Cut target) clients old new is few falls bearable cuts h =
       if-cut exact (IsNoneInWork clients) target (test_number route target) old new falls is bearable cuts h
-  befallen-so exact route (Slow target looks) clients old new is few falls bearable cuts h =
+  befallen-so keeps exact route (Slow target looks) clients old new is few falls bearable cuts h =
       if-slow exact (IsNoneInWork clients) target looks (test_number route target) old new few bearable cuts h
+
+  -- ---- where sessions keep records, what is borne cuts no link
+
+  same-uncut : (old new : BackendView) → new ≡ old → NoneIsCut old.happened → NoneIsCut new.happened
+  same-uncut old new e none = subst (λ (b : BackendView). NoneIsCut b.happened) (sym e) none
+
+  gone-uncut : (exact : Bool) (target presents : ℕ) (number : Option ℕ) (old new : BackendView) → BefallsIf exact (Gone target presents) number old new
+      → NoneIsCut old.happened → NoneIsCut new.happened
+  gone-uncut exact target presents None old new h none = same-uncut old new h none
+  gone-uncut exact target presents (Some number) old new h none =
+      made-all (λ (x : Happening). x.cut ≡ 0) number (deleted presents) old.happened new.happened h.happens (none number) none
+
+  slow-uncut : (exact : Bool) (target looks : ℕ) (number : Option ℕ) (old new : BackendView) → BefallsIf exact (Slow target looks) number old new
+      → NoneIsCut old.happened → NoneIsCut new.happened
+  slow-uncut exact target looks None old new h none = same-uncut old new h none
+  slow-uncut exact target looks (Some number) old new h none =
+      made-all (λ (x : Happening). x.cut ≡ 0) number (slowed looks) old.happened new.happened h.happens (none number) none
+
+  uncut-so : (keeps exact : Bool) (route : Route) (event : Event) (old new : BackendView) → HasBorneNumber keeps pool event
+      → IsBefallen exact route event old new → keeps ≡ true → NoneIsCut old.happened → NoneIsCut new.happened
+  uncut-so keeps exact route (Feed client octets) old new few h kept none = same-uncut old new h none
+  uncut-so keeps exact route (End client) old new few h kept none = same-uncut old new h none
+  uncut-so keeps exact route (Step client) old new few h kept none = same-uncut old new h none
+  uncut-so keeps exact route (Run client) old new few h kept none = same-uncut old new h none
+  uncut-so keeps exact route (Tick seconds) old new few h kept none = same-uncut old new h none
+  uncut-so keeps exact route (Gone target presents) old new few h kept none =
+      gone-uncut exact target presents (test_number route target) old new h none
+  uncut-so keeps exact route (Cut target) old new few h kept none = let no_way : true ≡ false = sym kept ∙ few in absurd cc
+  uncut-so keeps exact route (Slow target looks) old new few h kept none =
+      slow-uncut exact target looks (test_number route target) old new h none
 
 -- ---- connections
 
@@ -375,12 +405,12 @@ module _ {W S : Type 0} (w : world.Ghosts W) (t : sitting.Ghosts S W) (exact : B
         | inr ne ↦ subst (λ (c : Option (ClientState S)). Here h c) (sym (client_at-other clients place other here ne)) (all other)
       ]
 
-  event-goes : (event : Event) (client : Option ℕ) (now : ℕ) (old new : Playing S) → HasBorneNumber route.pool event
+  event-goes : (event : Event) (client : Option ℕ) (now : ℕ) (old new : Playing S) → HasBorneNumber t.keeps route.pool event
       → FallsBetween event old.clients → DialsGoOn new.outside.backend.counts → AllGo old → PlaysOf w t exact route client event now old new → AllGo new
   event-goes event None now old new few falls count go h =
       let old_h = old.outside.backend.happened in
       let new_h = new.outside.backend.happened in
-      let so = befallen-so route.pool exact route event old.clients old.outside.backend new.outside.backend is few falls
+      let so = befallen-so route.pool t.keeps exact route event old.clients old.outside.backend new.outside.backend is few falls
       go.sound.bearable go.sound.cut h.backend in
       record {
         clients = subst (λ (cs : List (Option (ClientState S))). (place : ℕ) → Here new_h (client_at cs place)) (sym h.clients)
@@ -391,6 +421,7 @@ module _ {W S : Type 0} (w : world.Ghosts W) (t : sitting.Ghosts S W) (exact : B
         sound = record {
           bearable = so.bearable;
           cut = so.cut;
+          uncut = λ kept. uncut-so route.pool t.keeps exact route event old.outside.backend new.outside.backend few h.backend kept (go.sound.uncut kept);
           idle = (subst (λ (d : DoorView S). IsBorneBy w t route.pool d.pool old.outside.backend) (sym h.door) go.sound).idle;
         };
       }
@@ -406,7 +437,7 @@ module _ {W S : Type 0} (w : world.Ghosts W) (t : sitting.Ghosts S W) (exact : B
         sound = one.sound;
       }
 
-  events-go : (events : List Event) (now : ℕ) (old new : Playing S) → AllByRecursion (HasBorneNumber route.pool) events
+  events-go : (events : List Event) (now : ℕ) (old new : Playing S) → AllByRecursion (HasBorneNumber t.keeps route.pool) events
       → (h : ArePlayed w t exact route events now old new) → FallBetween w t exact route events now old new h
       → DialsGoOn new.outside.backend.counts → AllGo old → AllGo new
   events-go [] now old new few h falls count go = subst (λ (p : Playing S). AllGo p) (sym h) go
@@ -418,7 +449,7 @@ module _ {W S : Type 0} (w : world.Ghosts W) (t : sitting.Ghosts S W) (exact : B
 
   -- ---- behind the last event
 
-  closings-few : (clients : List ℕ) → AllByRecursion (HasBorneNumber route.pool) (flat_map closing clients)
+  closings-few : (clients : List ℕ) → AllByRecursion (HasBorneNumber t.keeps route.pool) (flat_map closing clients)
   closings-few [] = tt
   closings-few (client ∷ clients) = (tt, (tt, closings-few clients))
 

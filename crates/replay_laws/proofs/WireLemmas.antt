@@ -28,7 +28,7 @@ use Rattle.replay.specs.steps.Room.{FindsRoom}
 use Rattle.replay.proofs.MovesLemmas.{HasNoSession, IsNewPool}
 use Rattle.replay.proofs.UndisturbedLemmas.{most-as, new-door}
 use Rattle.replay_laws.specs.Between.{DisturbsNobody}
-use Rattle.replay_laws.specs.Borne.{AreBorneMarks, BorneIsPlain, BorneIsPlainOrFull, WentThrough, IsBorneIf, IsBorneRun, MayBeBorne, WasNeverFull}
+use Rattle.replay_laws.specs.Borne.{AreBorneMarks, BorneIsPlain, BorneIsPlainOrFull, HasBorneNumber, IsBorneIf, IsBorneRun, MayBeBorne, WasNeverFull, WentThrough}
 use Rattle.replay_laws.specs.Quiet.{QuietDisturbsNobody}
 
 -- ---- at the start
@@ -56,6 +56,7 @@ new-borne : {W S : Type 0} (w : world.Ghosts W) (t : sitting.Ghosts S W) (route 
 new-borne w t route before new numbers quiet = record {
   bearable = quiet-bearable route.pool before.backend.happened numbers quiet;
   cut = quiet-cuts before.backend quiet;
+  uncut = λ kept target. ap (λ (x : Happening). x.cut) (quiet.nothing target);
   idle = none-idle (FaresAt w t route.pool resting 0) before.door.pool new.none;
 }
 
@@ -77,45 +78,45 @@ over-dials false wire counts own is e go = absurd cc
 
 module _ {W S : Type 0} (w : world.Ghosts W) (t : sitting.Ghosts S W) (exact : Bool) (route : Route) (events : List Event)
     (before behind : Outside S) (report : Report) (run : IsRunOf w t exact route events before behind report) where
-  borne-run : IsNewPool route before → ArePoolNumbers route.pool → MayBeBorne w route events before.backend.happened
+  borne-run : t.keeps ≡ false → IsNewPool route before → ArePoolNumbers route.pool → MayBeBorne w route events before.backend.happened
       → DisturbsNobody w t exact route events before behind report run → DialsGoOn behind.backend.counts
       → IsBorneRun w t exact route events before behind report run
-  borne-run new numbers may between go = record {
+  borne-run own new numbers may between go = record {
     told = may.told;
-    few = may.few;
+    few = subst (λ (keeps : Bool). AllByRecursion (HasBorneNumber keeps route.pool) events) (sym own) may.few;
     between = between;
     start = new-borne w t route before new numbers may.quiet;
     counted = go;
   }
 
-  borne-marks : BorneIsPlainOrFull w t → BorneIsPlain w t → IsNewPool route before → ArePoolNumbers route.pool
+  borne-marks : t.keeps ≡ false → BorneIsPlainOrFull w t → BorneIsPlain w t → IsNewPool route before → ArePoolNumbers route.pool
       → (w1 : Counts) (own1 : Own) → behind.backend.counts ≡ counts_over exact w1 own1 → HaveCauses route.pool report before behind
       → FindsRoom route report before behind → exact ≡ true → MayBeBorne w route events before.backend.happened
       → DisturbsNobody w t exact route events before behind report run → DialsGoOn w1 → AreBorneMarks route report
-  borne-marks marks plain new numbers w1 own1 f causes room is may between go =
-      let one = borne-run new numbers may between (over-dials exact w1 behind.backend.counts own1 is f go) in record {
+  borne-marks own marks plain new numbers w1 own1 f causes room is may between go =
+      let one = borne-run own new numbers may between (over-dials exact w1 behind.backend.counts own1 is f go) in record {
         marks = marks exact route events before behind report run is one;
         places = λ enough.
             plain exact route events before behind report run is one causes (never-full route report before behind new room enough);
       }
 
--- so a replay went through what its backend did, which is over the wire, and counts by it behind the replay
+-- so a replay went through what its backend did, which is over the wire, keeps no records, and counts by the wire behind the replay
 pub through_ok : {E : Type 0} (W S : Type 0) (w : world.Ghosts W) (t : sitting.Ghosts S W) (exact : Bool) (route : Route) (events : List Event)
     (before behind : Outside S) (result : Result Report E) → IfOk result (IsRunOf w t exact route events before behind)
     → BorneIsPlainOrFull w t → BorneIsPlain w t → IsNewPool route before → ArePoolNumbers route.pool
     → (w1 : Counts) (own1 : Own) → behind.backend.counts ≡ counts_over exact w1 own1
     → IfOk result (λ report. HaveCauses route.pool report before behind) → IfOk result (λ report. FindsRoom route report before behind)
-    → IfOk result (WentThrough w t exact route events before.backend.happened w1)
-through_ok W S w t exact route events before behind (Ok report) run marks plain new numbers w1 own1 f causes room = record {
+    → t.keeps ≡ false → IfOk result (WentThrough w t exact route events before.backend.happened w1)
+through_ok W S w t exact route events before behind (Ok report) run marks plain new numbers w1 own1 f causes room own = record {
   before = before;
   behind = behind;
   run = run;
   begins = λ target. refl;
   own = own1;
   ends = f;
-  borne = borne-marks w t exact route events before behind report run marks plain new numbers w1 own1 f causes room;
+  borne = borne-marks w t exact route events before behind report run own marks plain new numbers w1 own1 f causes room;
 }
-through_ok W S w t exact route events before behind (Err err) run marks plain new numbers w1 own1 f causes room = tt
+through_ok W S w t exact route events before behind (Err err) run marks plain new numbers w1 own1 f causes room own = tt
 
 -- whatever it went through, a quiet script disturbs nobody
 pub borne_through : {E : Type 0} (W S : Type 0) (w : world.Ghosts W) (t : sitting.Ghosts S W) (exact : Bool) (route : Route)

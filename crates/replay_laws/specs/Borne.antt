@@ -1,5 +1,5 @@
 -- What befalls the links of a replay and marks no request but where the pool was full (this project's own)
-use Rattle.std.specs.Prelude.{◌≡◌, ℕ, ◌*◌, ◌<◌, ◌≤◌, Bool, true, List, length}
+use Rattle.std.specs.Prelude.{◌≡◌, ℕ, ◌*◌, ◌<◌, ◌≤◌, Bool, true, false, List, length}
 use Rattle.std.specs.List.{AllByRecursion}
 use Rattle.z_types.specs.declared.sitting.Sitting as sitting
 use Rattle.z_types.specs.declared.world.World as world
@@ -9,7 +9,7 @@ use Rattle.route_config.specs.declared.route.PoolNumbers.{PoolNumbers}
 use Rattle.route_config.specs.declared.route.Route.{Route}
 use Rattle.front_conn.specs.steps.Answering.{Outside}
 use Rattle.script.specs.declared.event.Event.{Event}
-use Rattle.script.specs.declared.event.Event.TheVariants.{Gone, Slow}
+use Rattle.script.specs.declared.event.Event.TheVariants.{Cut, Gone, Slow}
 use Rattle.z_client.specs.Counts.{counts_over}
 use Rattle.z_client.specs.declared.own.Own.{Own}
 use Rattle.conn_costs.specs.steps.Growth.{last64}
@@ -25,11 +25,13 @@ use Rattle.replay.specs.declared.reports.Report.{Report}
 use Rattle.replay_laws.specs.Between.{DisturbsNobody}
 use Rattle.replay_laws.specs.Quiet.{IsQuiet}
 
--- no more Presents find their sets deleted than the pool repeats, and replies come within its patience
-abbrev pub HasBorneNumber : PoolNumbers → Event → Type 0
-HasBorneNumber pool (Gone target presents) = presents ≤ pool.repeats
-HasBorneNumber pool (Slow target looks) = looks < pool.patience
-HasBorneNumber pool event = Unit {0}
+-- no more Presents find their sets deleted than the pool repeats, replies come within its patience, and no link is cut where sessions keep
+-- records
+abbrev pub HasBorneNumber : (keeps : Bool) → PoolNumbers → Event → Type 0
+HasBorneNumber keeps pool (Gone target presents) = presents ≤ pool.repeats
+HasBorneNumber keeps pool (Cut target) = keeps ≡ false
+HasBorneNumber keeps pool (Slow target looks) = looks < pool.patience
+HasBorneNumber keeps pool event = Unit {0}
 
 -- each request was answered as it asks, or found the pool full
 abbrev pub AreAllPlainOrFull : List ClientReport → Type 0
@@ -38,11 +40,11 @@ AreAllPlainOrFull clients = AllByRecursion (λ client. AllByRecursion IsPlainOrF
 -- ---- a replay
 
 -- each target of the route tells what it answers, each number of a deletion or a delay is borne, no cut and no deletion falls while a
--- request is in work, no more was made to happen before than is borne, and links that are made go on to be counted
+-- request is in work, none is cut where sessions keep records, no more was made to happen before than is borne, and links that are made go on to be counted
 pub record IsBorneRun {W S : Type 0} (w : world.Ghosts W) (t : sitting.Ghosts S W) (exact : Bool) (route : Route) (events : List Event)
     (before behind : Outside S) (report : Report) (run : IsRunOf w t exact route events before behind report) : Type 0 where
   pub told : AreTold w route
-  pub few : AllByRecursion (HasBorneNumber route.pool) events
+  pub few : AllByRecursion (HasBorneNumber t.keeps route.pool) events
   pub between : DisturbsNobody w t exact route events before behind report run
   pub start : IsBorneBy w t route.pool before.door.pool before.backend
   pub counted : DialsGoOn behind.backend.counts
@@ -69,10 +71,10 @@ BorneIsPlain {W} {S} w t =
 
 -- ---- over a wire
 
--- each number of a deletion or a delay is borne, nothing was made to happen to any target before, and each target of the route tells what
--- it answers
+-- over sessions that keep no records: each number of a deletion or a delay is borne, nothing was made to happen to any target before, and
+-- each target of the route tells what it answers
 pub record MayBeBorne {W : Type 0} (w : world.Ghosts W) (route : Route) (events : List Event) (happened : Happened) : Type 0 where
-  pub few : AllByRecursion (HasBorneNumber route.pool) events
+  pub few : AllByRecursion (HasBorneNumber false route.pool) events
   pub quiet : AreQuiet happened
   pub told : AreTold w route
 

@@ -153,21 +153,21 @@ module _ {W : Type 0} (w : world.Ghosts W) (address : Address) (made : Made) (as
       (is : IsRequestUnit unit (request_of ask)) where
     -- one that was sent
     pub sent_steadily : PeerTakes w unit h (l.peer old) (l.peer new) → IsShortRequest (request_of ask) → SendsSteadily l unit old new h then_ sent.Sent
-        → AsksSteadily w address ask (link_of l old) (link_of l new) h then_ began.Started
+        → AsksSteadily w false address ask (link_of l old) (link_of l new) h then_ began.Started
     sent_steadily takes short s =
         let both = took unit (l.peer old) (l.peer new) t steady takes is short in
         record {
           number = s.number;
-          taken = record {
+          taken = inl (record {
             delays = s.delays steady refl (request_of ask) is ∙ ap (λ here. l.delays old ++ here.delay ∷ []) (told_at w address made resting h (l.peer old) t);
             holds = both.0;
             gone = both.1;
             happened = asked_happens h then_ ask address (sent_happens (l.peer old) t (s.happened (request_of ask) is));
-          };
+          });
         }
 
     -- one that failed
-    pub unsent_steadily : SendsSteadily l unit old new h then_ sent.Failed → AsksSteadily w address ask (link_of l old) (link_of l new) h then_ began.Failed
+    pub unsent_steadily : SendsSteadily l unit old new h then_ sent.Failed → AsksSteadily w false address ask (link_of l old) (link_of l new) h then_ began.Failed
     unsent_steadily s = record {
       number = s.number;
       taken = sym (ap (λ here. is_cut here (l.number old)) (told_at w address made resting h (l.peer old) t)) ∙ s.fails refl steady;

@@ -69,11 +69,11 @@ if_stands Memory P is = tt
 
 module _ {L : Type 0} (l : linked.Ghosts L) (address : Address) (h : Happened) (p : Pending) (old new : L) where
   abbrev Looks : Heard → Type 0
-  Looks answer = LooksSteadily address h (link_of l old) (link_of l new) answer
+  Looks answer = LooksSteadily false address h (link_of l old) (link_of l new) answer
 
   -- where memory did not suffice
   pub memory_steadily : l.number new ≡ l.number old → Looks Memory
-  memory_steadily number = record { number = number; delays = tt; holds = tt; gone = λ e. absurd cc; still_gone = λ e. absurd cc; fails = λ e. absurd cc; arrives = λ e. absurd cc }
+  memory_steadily number = record { number = number; delays = tt; holds = tt; gone = λ e. absurd cc; still_gone = λ e. absurd cc; fails = λ e. absurd cc; arrives = λ own e. absurd cc }
 
   -- where no reply was due
   pub not_yet_steadily : AwaitsSteadily l h old new NotCome → l.peer new ≡ l.peer old → Looks NotYet
@@ -84,7 +84,7 @@ module _ {L : Type 0} (l : linked.Ghosts L) (address : Address) (h : Happened) (
     gone = λ e. absurd cc;
     still_gone = λ e. ap owes_gone same;
     fails = λ e. absurd cc;
-    arrives = λ e. absurd cc;
+    arrives = λ own e. absurd cc;
   }
 
   -- where the link is cut
@@ -96,7 +96,7 @@ module _ {L : Type 0} (l : linked.Ghosts L) (address : Address) (h : Happened) (
     gone = λ e. absurd cc;
     still_gone = λ e. absurd cc;
     fails = λ e. sym (ap (λ here. is_cut here (l.number old)) at) ∙ a.fails refl;
-    arrives = λ e. absurd cc;
+    arrives = λ own e. absurd cc;
   }
 
   module _ (mid : L) (size : ℕ) (a : AwaitsSteadily l h old mid (Whole size)) (same : IsSameLink l mid new)
@@ -110,7 +110,7 @@ module _ {L : Type 0} (l : linked.Ghosts L) (address : Address) (h : Happened) (
       gone = λ e. owed_gone p (l.peer old) (subst (λ said. IsOwed (l.peer old) p said) e owed);
       still_gone = λ e. let no_way : looked.Arrived ≡ looked.NotYet = sym is ∙ ap looked_by e in absurd cc;
       fails = λ e. let no_way : looked.Arrived ≡ looked.Failed = sym is ∙ ap looked_by e in absurd cc;
-      arrives = λ e. sym (ap (λ here. is_cut here (l.number old)) at) ∙ a.uncut refl;
+      arrives = λ own e. sym (ap (λ here. is_cut here (l.number old)) at) ∙ a.uncut refl;
     }
 
     -- what was found of it

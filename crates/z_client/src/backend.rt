@@ -133,7 +133,7 @@ impl<W: World, N: Wire<W>> Backend<W> for ZBackend<N> {
             (N.Link.peer session.old.link) (N.Link.peer session.new.link) }
         ensures happened { AreLess (N.happened self.old.wire) (N.happened self.new.wire) }
         ensures steady { W.told session.old.address → (N.happened self.old.wire).steady ≡ true
-            → AsksSteadily W.World session.old.address ask.now
+            → AsksSteadily W.World false session.old.address ask.now
             (link_of N.Link.Linked session.old.link) (link_of N.Link.Linked session.new.link)
             (N.happened self.old.wire) (N.happened self.new.wire) result }
         ensures counts { BackendCounts N.exact (Unit {0}) (start_counted ask.now result)
@@ -166,7 +166,7 @@ impl<W: World, N: Wire<W>> Backend<W> for ZBackend<N> {
         ensures address { session.new.address ≡ session.old.address }
         ensures happened { AreSame (N.happened self.old.wire) (N.happened self.new.wire) }
         ensures steady { W.told session.old.address → (N.happened self.old.wire).steady ≡ true
-            → LooksSteadily session.old.address (N.happened self.old.wire)
+            → LooksSteadily false session.old.address (N.happened self.old.wire)
             (link_of N.Link.Linked session.old.link) (link_of N.Link.Linked session.new.link)
             result }
         ensures counts { LookCounts N.exact (W.told session.old.address) result

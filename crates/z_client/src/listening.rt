@@ -36,7 +36,7 @@ pub(crate) fn listen<W: World, N: Wire<W>>(
     ensures owed { W.told parts.old.address → IsOwed (N.Link.peer parts.old.link)
         (pending_of parts.old.waiting) (answer_of result) }
     ensures steady { W.told parts.old.address → (N.happened wire.old).steady ≡ true
-        → LooksSteadily parts.old.address (N.happened wire.old)
+        → LooksSteadily false parts.old.address (N.happened wire.old)
         (link_of N.Link.Linked parts.old.link) (link_of N.Link.Linked parts.new.link)
         (answer_of result) }
     ensures happened { AreSame (N.happened wire.old) (N.happened wire.new) }

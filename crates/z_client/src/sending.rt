@@ -81,7 +81,7 @@ pub(crate) fn send_ask<W: World, N: Wire<W>>(
     ensures sent { result ≡ Began.Started → Takes W.World (N.happened wire.old)
         (request_of ask) (N.Link.peer parts.old.link) (N.Link.peer parts.new.link) }
     ensures steady { W.told parts.old.address → (N.happened wire.old).steady ≡ true
-        → AsksSteadily W.World parts.old.address ask
+        → AsksSteadily W.World false parts.old.address ask
         (link_of N.Link.Linked parts.old.link) (link_of N.Link.Linked parts.new.link)
         (N.happened wire.old) (N.happened wire.new) result }
     ensures happened { AreLess (N.happened wire.old) (N.happened wire.new) }

@@ -1,5 +1,6 @@
 //! A session with a target over a link.
 
+ghost use Rattle.std.specs.Prelude.{false};
 ghost use Rattle.z_client.specs.Links.{link_of};
 ghost use Rattle.z_client.specs.Sets.{made_in, pending_of};
 
@@ -58,4 +59,6 @@ impl<W: World, L: Linked> Sitting<W> for ZSession<W, L> {
     ghost pending = { λ session. pending_of session.waiting };
 
     ghost link = { λ session. link_of L.Linked session.link };
+
+    ghost keeps = { false };
 }

@@ -1,6 +1,6 @@
 //! A session with a target, as proofs see it. No code has what it says.
 
-ghost use Rattle.std.specs.Prelude.{ℕ, List, Option};
+ghost use Rattle.std.specs.Prelude.{ℕ, Bool, List, Option};
 ghost use Rattle.z_types.specs.Links.{LinkView};
 ghost use Rattle.z_types.specs.Pending.{Pending};
 ghost use Rattle.z_types.specs.declared.key.SetKey.{SetKey};
@@ -23,4 +23,7 @@ pub trait Sitting<W: World>: Drop {
 
     /// How its link stands. Where its address is not told this says nothing.
     ghost link: { Self → LinkView };
+
+    /// Whether a Present may be answered by records that are kept, and not over the link.
+    ghost keeps: { Bool };
 }

@@ -12,7 +12,7 @@ use Rattle.z_types.specs.declared.world.World as world
 use Rattle.gw_outside.specs.Counts.{Counts}
 use Rattle.gw_outside.specs.Happened.{Happened, at_address, is_cut}
 use Rattle.gw_outside.specs.Sessions.{Made}
-use Rattle.gw_outside.specs.Steady.{is_good}
+use Rattle.gw_outside.specs.Steady.{IsPresent, is_good}
 use Rattle.gw_outside.specs.declared.happenings.Happening.{Happening}
 use Rattle.pool_sets.specs.Kept.{slot_name}
 use Rattle.pool_sets.specs.Plain.{Pool}
@@ -25,7 +25,7 @@ use Rattle.leg.specs.declared.accounts.Account.{Account}
 use Rattle.leg.specs.declared.phases.Held.{Held}
 use Rattle.leg.specs.declared.phases.Phase.{Phase}
 use Rattle.leg.specs.declared.phases.Phase.TheVariants.{Begin, Dialling, Dialled, Ready, Searching, Presenting, Fetching, Scanning, Returning, Redialling}
-use Rattle.conn_quiet.specs.steps.Whole.{AreIdle, IsPresent, IsScan, IsSearchUnder, will_stand}
+use Rattle.conn_quiet.specs.steps.Whole.{AreIdle, IsScan, IsSearchUnder, will_stand}
 
 -- ---- what was made to happen
 
@@ -43,6 +43,10 @@ module _ (pool : PoolNumbers) where
 -- links are cut once they were made: none has a number above the count of those that were
 abbrev pub AreCutOnceMade : BackendView → Type 0
 AreCutOnceMade backend = (target : ℕ) → (backend.happened.of_target target).cut ≤ backend.counts.dials
+
+-- no link is cut
+abbrev pub NoneIsCut : Happened → Type 0
+NoneIsCut h = (target : ℕ) → (h.of_target target).cut ≡ 0
 
 -- links that are made go on to be counted: their count is below its last value, at which it would stand still
 abbrev pub DialsGoOn : Counts → Type 0
@@ -90,11 +94,12 @@ module _ {W S : Type 0} (w : world.Ghosts W) (t : sitting.Ghosts S W) (pool : Po
     pub fares : FaresAs w pool (t.address session) pending looks (t.made session) (t.link session)
     pub waits : t.pending session ≡ pending
 
-  -- nothing is made to happen that a leg does not bear, links are cut once they were made, and the sessions of the pool that are idle
-  -- fare so at rest
+  -- nothing is made to happen that a leg does not bear; links are cut once they were made, and none where sessions keep records: an answer
+  -- of what is kept tells nothing of a link; and the sessions of the pool that are idle fare so at rest
   pub record IsBorneBy (sessions : Option (Pool S)) (backend : BackendView) : Type 0 where
     pub bearable : AreBearable pool backend.happened
     pub cut : AreCutOnceMade backend
+    pub uncut : t.keeps ≡ true → NoneIsCut backend.happened
     pub idle : AreIdle (FaresAt resting 0) sessions
 
 -- ---- a leg

@@ -11,7 +11,7 @@ use Rattle.z_types.specs.declared.ask.Ask.TheVariants.{Search, Present, Scan}
 use Rattle.z_types.specs.declared.sitting.Sitting as sitting
 use Rattle.z_types.specs.declared.world.World as world
 use Rattle.gw_outside.specs.Sessions.{Made}
-use Rattle.gw_outside.specs.Steady.{is_good}
+use Rattle.gw_outside.specs.Steady.{IsPresent, is_good}
 use Rattle.pool_sets.specs.Kept.{slot_name}
 use Rattle.pool_sets.specs.Plain.{Pool}
 use Rattle.pool_sets.specs.Sessions.{Session}
@@ -71,10 +71,6 @@ module _ {W S : Type 0} (w : world.Ghosts W) (t : sitting.Ghosts S W) where
 abbrev pub IsSearchUnder : ℕ → Ask → Type 0
 IsSearchUnder slot (Search name key) = name ≡ slot_name slot
 IsSearchUnder slot ask = ⊥
-
-abbrev pub IsPresent : Ask → Type 0
-IsPresent (Present name first count syntax element) = Unit {0}
-IsPresent ask = ⊥
 
 abbrev pub IsScan : Ask → Type 0
 IsScan (Scan dbs ask) = Unit {0}

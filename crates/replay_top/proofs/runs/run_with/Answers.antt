@@ -30,7 +30,7 @@ returns-clause-through g c =
     through_ok _ _ _ _ _ _ _ _ _ c.run_over.result c.run_over.ensures.run c.borne_is_plain_or_full.ensures c.borne_is_plain.ensures
     (new_pool_is c.args.route.now c.in_ok-door.door _ c.in_ok-door.ensures.new c.parts.ensures.sound.pool) c.parts.ensures.sound.pool
     (g.N.Watched.counts c.run_over.new.backend.wire) c.run_over.new.backend.own refl
-    c.run_over.ensures.causes c.run_over.ensures.room
+    c.run_over.ensures.causes c.run_over.ensures.room refl
 
 pub returns-clause-borne : goal.returns-clause-borne
 returns-clause-borne g c =
