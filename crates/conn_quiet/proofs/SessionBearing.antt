@@ -1,5 +1,5 @@
 -- One session, while no more befalls links than a leg bears: how it fares once it was opened, asked or looked at
-use Rattle.std.proofs.Common.{◌≡◌, ◌∙◌, ℕ, ◌+◌, ◌<◌, ◌≤◌, Bool, true, false, cond, if◌then◌else◌, List, [], ◌∷◌, ◌++◌, nat_lt, is_some, Option, refl, sym, ap, subst, arith}
+use Rattle.std.proofs.Common.{◌≡◌, ◌∙◌, ℕ, ◌+◌, ◌<◌, ◌≤◌, Bool, true, false, cond, if◌then◌else◌, inl, inr, List, [], ◌∷◌, ◌++◌, nat_lt, is_some, Option, refl, sym, ap, subst, arith}
 use Rattle.std.proofs.lemmas.Cmp.{nat_list_eq_equiv}
 use Rattle.z_types.specs.Links.{LinkView}
 use Rattle.z_types.specs.Pending.{IsPending, Pending, resting, opening, asked, broken}
@@ -26,6 +26,7 @@ use Rattle.leg.specs.Turns.{IsAsked, IsLook}
 use Rattle.route_config.specs.declared.route.PoolNumbers.{PoolNumbers}
 use Rattle.conn_quiet.specs.steps.Bearing.{AreBearable, AreNoWorse, ComesInTime, FaresAs, FaresAt, HoldsFound, IsBearable, RepliesInTime}
 use Rattle.conn_quiet.specs.steps.Whole.{will_stand}
+use Rattle.conn_quiet.proofs.SessionLemmas.{spared-stands}
 
 -- ---- what was made to happen
 
@@ -112,11 +113,6 @@ module _ {W : Type 0} (w : world.Ghosts W) (pool : PoolNumbers) (address : Addre
         ∙ asked-holds ask made (at_address before address) old.holds (no-presents pool before address bearable none) (fares.holds none) name will;
   }
 
-  spared-stands : (ask : Ask) (made : Made) (name : List ℕ) → IsPresent ask → will_stand w address (asked ask) made name ≡ true → is_some (made name) ≡ true
-  spared-stands (Search own key) made name is will = absurd is
-  spared-stands (Present own first count syntax element) made name is will = will
-  spared-stands (Scan dbs scan) made name is will = absurd is
-
   spared-found : (ask : Ask) (holds : List ℕ → Bool) → IsPresent ask → HoldsFound w pool address (asked ask) holds
   spared-found (Search own key) holds is = absurd is
   spared-found (Present own first count syntax element) holds is = tt
@@ -132,7 +128,7 @@ module _ {W : Type 0} (w : world.Ghosts W) (pool : PoolNumbers) (address : Addre
     replies = in-time pool new.delays 0 (h.delays ∙ ap (λ (ds : List ℕ). 0 ∷ ds) fares.replies)
         (let early = (bearable.each 0).delay in omega (arith, early));
     found = spared-found ask new.holds h.present;
-    holds = λ none name will. h.holds name ∙ fares.holds none name (spared-stands ask made name h.present will);
+    holds = λ none name will. h.holds name ∙ fares.holds none name (spared-stands w address ask made name h.present will);
   }
 
   begun-fares : (keeps : Bool) (ask : Ask) (made : Made) (old new : LinkView) (before after : Happened) → AreBearable pool before

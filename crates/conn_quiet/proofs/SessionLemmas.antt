@@ -1,5 +1,5 @@
 -- One session over a quiet backend: it is whole once it was opened, asked or looked at, and none of these fails
-use Rattle.std.proofs.Common.{◌≡◌, ◌∙◌, ℕ, ◌-◌, ◌<◌, ◌≤◌, Bool, true, false, cond, List, [], ◌∷◌, ◌++◌, is_some, refl, sym, ap, subst, arith}
+use Rattle.std.proofs.Common.{◌≡◌, ◌∙◌, ℕ, ◌-◌, ◌<◌, ◌≤◌, Bool, true, false, cond, inl, inr, List, [], ◌∷◌, ◌++◌, is_some, refl, sym, ap, subst, arith}
 use Rattle.z_types.specs.Links.{LinkView}
 use Rattle.z_types.specs.Pending.{IsPending, Pending, resting, opening, asked, broken}
 use Rattle.z_types.specs.Same.{is_same}
@@ -113,7 +113,7 @@ module _ {W : Type 0} (w : world.Ghosts W) (address : Address) where
   spared-finds keeps (Scan dbs scan) old new before after h = tt
 
   -- and makes no set
-  spared-stands : (ask : Ask) (made : Made) (name : List ℕ) → IsPresent ask → will_stand w address (asked ask) made name ≡ true → is_some (made name) ≡ true
+  pub spared-stands : (ask : Ask) (made : Made) (name : List ℕ) → IsPresent ask → will_stand w address (asked ask) made name ≡ true → is_some (made name) ≡ true
   spared-stands (Search own key) made name is will = absurd is
   spared-stands (Present own first count syntax element) made name is will = will
   spared-stands (Scan dbs scan) made name is will = absurd is

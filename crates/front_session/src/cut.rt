@@ -13,12 +13,7 @@ use z_write::weight;
 
 /// What is given of what was fetched, where so many records were asked for, which is no more. A
 /// diagnostic in place of all records stays.
-pub(crate) fn cut_of(
-    alloc: Global,
-    sizes: Sizes,
-    asked: u32,
-    fetched: Fetched,
-) -> Result<Fetched, Memory>
+pub fn cut_of(alloc: Global, sizes: Sizes, asked: u32, fetched: Fetched) -> Result<Fetched, Memory>
     ensures { IfOk result (λ given. given ≡ cut_of sizes asked fetched) }
 {
     match fetched {

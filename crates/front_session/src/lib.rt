@@ -16,4 +16,5 @@ mod session;
 mod settle;
 
 pub use admitted::Admitted;
+pub use cut::cut_of;
 pub use session::FrontSession;

@@ -1,6 +1,6 @@
 //! The calls that the cases name.
 
-use crate::{databases, inits, laws, limits, memory, merged, parts};
+use crate::{cuts, databases, inits, laws, limits, memory, merged, parts, users};
 use case_files::{Answer, Answers, NoAnswer};
 use std::alloc::Global;
 
@@ -18,7 +18,9 @@ impl Answers for Calls {
             || limits::is_answered(call, subject, out)?
             || databases::is_answered(alloc, call, subject, out)?
             || parts::is_answered(alloc, call, subject, out)?
+            || users::is_answered(alloc, call, subject, out)?
             || inits::is_answered(alloc, call, subject, out)?
+            || cuts::is_answered(alloc, call, subject, out)?
             || laws::is_answered(call, subject, out)?
             || memory::is_answered(alloc, call, subject, out)?
         {

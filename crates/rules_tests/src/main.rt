@@ -1,8 +1,9 @@
 //! Cases of the rules of the gateway and of what they stand on: merged sets, limits, virtual databases,
-//! routes, the answer to an Init, the laws at a world, and the outside in memory.
+//! routes, the answer to an Init, replies cut to its sizes, the laws at a world, and the outside in memory.
 #![tactic(auto)]
 
 mod calls;
+mod cuts;
 mod databases;
 mod inits;
 mod laws;
@@ -10,6 +11,7 @@ mod limits;
 mod memory;
 mod merged;
 mod parts;
+mod users;
 mod words;
 
 use calls::Calls;

@@ -58,7 +58,7 @@ fn put_numbers(alloc: Global, out: &mut Answer) -> Result<(), NoAnswer> {
 }
 
 /// Whether parts make a route.
-fn put_soundness(out: &mut Answer, parts: &RouteParts) {
+pub(crate) fn put_soundness(out: &mut Answer, parts: &RouteParts) {
     out.put(if parts.are_sound() {
         "sound"
     } else {

@@ -1,5 +1,5 @@
 -- What a look at a session over a steady wire hears, at an address that is told (this project's own)
-use Rattle.std.proofs.Common.{◌≡◌, ◌∙◌, ℕ, Bool, true, List, ◌∷◌, Option, None, Some, IsSome, refl, sym, ap, subst}
+use Rattle.std.proofs.Common.{◌≡◌, ◌∙◌, ℕ, Bool, true, false, List, ◌∷◌, Option, None, Some, IsSome, refl, sym, ap, subst}
 use Rattle.z_types.specs.Pending.{Pending}
 use Rattle.z_types.specs.declared.address.Address.{Address}
 use Rattle.z_types.specs.declared.world.World as world

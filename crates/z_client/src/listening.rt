@@ -1,6 +1,6 @@
 //! A look of a session at its link: what is heard of the unit that has arrived, or a breach.
 
-ghost use Rattle.std.specs.Prelude.{◌≡◌, ◌≤◌, length, take, drop, Some, IfOk, OnOk, true};
+ghost use Rattle.std.specs.Prelude.{◌≡◌, ◌≤◌, length, take, drop, Some, IfOk, OnOk, true, false};
 ghost use Rattle.z_types.specs.Pending.{IsPending};
 ghost use Rattle.gw_outside.specs.Happened.{AreSame};
 ghost use Rattle.gw_outside.specs.Steady.{LooksSteadily};
