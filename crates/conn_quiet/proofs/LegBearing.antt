@@ -245,9 +245,6 @@ module _ {W S : Type 0} (w : world.Ghosts W) (t : sitting.Ghosts S W) (terms : T
   abbrev Held_ : Pending → ℕ → Held S → ℕ → Type 0
   Held_ waits looks held gones = IsBorneAt w t terms h waits looks held gones
 
-  abbrev Rests : S → Type 0
-  Rests session = FaresAt w t terms.pool resting 0 session
-
   fault-borne : (waits : Pending) (looks : ℕ) (held : Held S) (gones : ℕ) → Held_ waits looks held gones → In (after_fault held) gones
   fault-borne waits looks held gones is = (elim held.given as (λ (b : Bool). (b ≡ true → gones ≡ 0) → In (cond b (Redialling held.seat) (Losing held.seat (answer.Marked mark.Link))) gones) [
     | true ↦ λ first. first refl

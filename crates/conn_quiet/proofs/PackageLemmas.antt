@@ -55,12 +55,6 @@ both-true false b h = absurd cc
 no-memory : (answer : Turned) → is_memory answer ≡ false → answer ≢ turned.Memory
 no-memory answer has says = let wrong : true ≡ false = sym (ap is_memory says) ∙ has in absurd cc
 
-has-memory : (answer : Turned) → answer ≢ turned.Memory → is_memory answer ≡ false
-has-memory turned.Went h = refl
-has-memory turned.NotYet h = refl
-has-memory turned.Done h = refl
-has-memory turned.Memory h = absurd (h refl)
-
 -- some legs had memory in a round, or all are done behind it
 abbrev pub HadMemories : {S : Type 0} → Round → List (LegView S) → Type 0
 HadMemories last news = (last.lacks ≡ false) ⊎ (all_done news ≡ true)

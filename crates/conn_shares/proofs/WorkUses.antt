@@ -62,9 +62,6 @@ module _ (route : Route) (now : ℕ) where
       ∙ ap (λ (u : Use). u ∷ map (use_in query) others) (sym (by-there query leg h.0 h.2))
   there-one query leg others inside (inr h) = absurd (omega (arith, inside, h.0))
 
-  IsThere : ℕ → Type 0
-  IsThere leg = leg < length route.legs
-
   there-uses : (query : Option RpnQuery) (legs : List ℕ) → AllByRecursion (λ leg. leg < length route.legs) legs
       → map (use_in query) (filter_map (slice_get route.legs) legs) ≡ map (use_by query) legs
   there-uses query [] there = refl
@@ -228,10 +225,6 @@ module _ (legs : List ℕ) where
         | false ↦ rest
       ])
 
-  any-append : (test : ℕ → Bool) (xs ys : List ℕ) → list_any test ys ≡ true → list_any test (xs ++ ys) ≡ true
-  any-append test [] ys is = is
-  any-append test (x ∷ xs) ys is = ap (λ (b : Bool). test x || b) (any-append test xs ys is) ∙ or-true (test x)
-
   module _ (places : List Place) where
     -- the span of a leg that has ranks is among them
     span-among : (leg from count : ℕ) → from ≤ leg → leg < from + count → 1 ≤ length (ranks_of leg places)
@@ -260,9 +253,6 @@ module _ (legs : List ℕ) where
         not-same : (a b : ℕ) → nat_eq a b ≡ false → b ≢ a
         not-same a b apart same =
             let is : nat_eq a b ≡ true = ap (nat_eq a) same ∙ nat_eq_equiv.refl a in absurd cc
-
-    IsHad : ℕ → Type 0
-    IsHad leg = list_any (nat_eq leg) (map (λ (s : Span). leg_of legs s.leg) (spans_of (length legs) places)) ≡ true
 
     had-at : (place : Place) (found : Option ℕ) → slice_get legs place.leg ≡ found → Contains places place
         → AllByRecursion (λ leg. list_any (nat_eq leg) (map (λ (s : Span). leg_of legs s.leg) (spans_of (length legs) places)) ≡ true) (option_to_list found)

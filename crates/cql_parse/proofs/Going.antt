@@ -1,5 +1,5 @@
 -- What one part of a query answers, from what its own parts answer.
-use Rattle.std.proofs.Common.{◌≡◌, ◌↔◌, ℕ, suc, ◌<◌, ◌≤◌, true, List, [], ◌∷◌, Option, Some, None, option_map, Result, Ok, Err, Bor, ⊎_elim, inl, inr, refl, sym, ◌∙◌, subst, ap, arith}
+use Rattle.std.proofs.Common.{◌≡◌, ◌↔◌, ℕ, ◌<◌, ◌≤◌, true, List, [], ◌∷◌, Option, Some, None, option_map, Result, Ok, Err, Bor, ⊎_elim, inl, inr, refl, sym, ◌∙◌, subst, ap, arith}
 use Rattle.cql_lex.specs.declared.token.Token.{Token}
 use Rattle.cql_parse.specs.declared.tree.Modifier.{Modifier}
 use Rattle.cql_parse.specs.declared.tree.Head.{Head}
@@ -19,11 +19,10 @@ use Rattle.cql_parse.specs.Lexemes.{Lexeme, lexemes}
 use Rattle.cql_parse.specs.Grammar.{Due, operand, after, join, IsClause, IsPrefix, AreModifiers, AreKeys, IsQuery}
 use Rattle.cql_parse.specs.Nesting.{nesting}
 use Rattle.cql_parse.specs.ParserAnswers.{Finds}
-use Rattle.cql_parse.specs.ParserBrackets.{IsFull}
 use Rattle.cql_parse.specs.ParserState.{left_of, due_of, Makes, Ends, Completes, Goes, Unwinds, Finishes, Builds, Shallow}
 use Rattle.std.proofs.lemmas.Bool.{cases_lt}
 use Rattle.cql_parse.proofs.Steps.{bracket_step, clause_step, prefix_step, boolean_step, sort_step, end_step, close_step}
-use Rattle.cql_parse.proofs.Deeper.{completes_deep, ends_deep, nesting_least, nesting_open}
+use Rattle.cql_parse.proofs.Deeper.{completes_deep, ends_deep}
 use Rattle.z_types.specs.Bounds.{most_query_depth}
 
 -- where a part is not found and nothing goes on without it, no query goes on
@@ -37,11 +36,6 @@ pub Goes_deep : (text : List ℕ) (n : ℕ) (due : Due) (old new : List Frame) (
 Goes_deep text n due old new ts made NoQuery has h = absurd h
 Goes_deep text n due old new ts made Deep has h = λ t c. inl (omega (arith, h, has t c))
 Goes_deep text n due old new ts made Memory has h = tt
-
-pub open_full : (text : List ℕ) (n : ℕ) (due : Due) (old new : List Frame) (x : Lexeme) (ts : List Lexeme) (e : Stop) → is_open x.class ≡ true → IsFull n e → Goes text n due old (x ∷ ts) new (Err e)
-open_full text n due old new x ts NoQuery o h = absurd h
-open_full text n due old new x ts Deep o h = λ t c. inr (rw (nesting_open n x ts o) (omega (arith, h, nesting_least (suc n) ts)))
-open_full text n due old new x ts Memory o h = tt
 
 pub open_goes : (text : List ℕ) (n : ℕ) (left : Option LeftOperand) (old new : List Frame) (x : Lexeme) (rest : Bor (List Token)) → is_open x.class ≡ true → new ≡ Bracket left ∷ old → Goes text n (operand (option_map left_of left)) old (x ∷ lexemes text rest.now) new (Ok (Operand None, rest))
 open_goes text n left old new x rest o e = λ t.

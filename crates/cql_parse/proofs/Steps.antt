@@ -1,6 +1,5 @@
 -- How an unfinished query goes on by one part, with the same trees.
 use Rattle.std.proofs.Common.{◌≡◌, ◌↔◌, ℕ, true, false, List, [], ◌∷◌, Option, Some, None, option_map, refl, sym, ◌∙◌, subst, ap}
-use Rattle.std.proofs.lemmas.Bool.{false≢true}
 use Rattle.cql_parse.specs.declared.tree.Modifier.{Modifier}
 use Rattle.cql_parse.specs.declared.tree.Head.{Head}
 use Rattle.cql_parse.specs.declared.tree.SortKey.{SortKey}
@@ -78,10 +77,6 @@ no_prefix left frames ts t sign none h = go h.0 h.1 (from_operand h.2)
     go q end (by_clause head u r d s) = term_or_greater ts (clause_first ts head u r d) sign
     go q end (by_bracket x y more r inner e o i cl s) = clash (is_greater x.class) (is_greater x.class) (subst (λ (l : List Lexeme). starts is_greater l ≡ true) e sign) (open_no_greater x.class o) refl
     go q end (by_prefix name uri r inner d s eq) = none (name, uri) r d
-
--- where the tokens end a clause is missing
-pub no_more : (left : Option Left) (frames : List Frame) (t : Tree) → Completes (operand left) frames [] t → ⊥
-no_more left frames t h = no_clause left frames [] t refl refl (λ c rest d. false≢true (clause_first [] c.0 c.1 rest d)) h
 
 -- a boolean
 pub boolean_step : (tree : Tree) (frames : List Frame) (x : Lexeme) (ts : List Lexeme) (ms : List Modifier) (rest : List Lexeme) (t : Tree) → is_boolean x.class ≡ true → AreModifiers ts ms rest → Completes (after tree) frames (x ∷ ts) t ↔ Completes (operand (Some (record { tree = tree; boolean = lower x.text; modifiers = ms }))) frames rest t

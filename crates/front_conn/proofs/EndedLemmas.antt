@@ -130,30 +130,10 @@ module _ {S : Type 0} (route : Route) (here old : AnsweringState S) (is : here �
         (answered-by here.session.waiting refl (waited-here here old is view.work one) ended listed),
   )
 
-  pub request-unended : (want : NoMemory) → old.in_work ≡ None → out ≡ here.out → marks ≡ here.marks
-      → IsRequestEndedIf route view old then (Err want)
-  request-unended want rests no_out no_mark = (
-    record {
-      out = no_out ∙ ap (λ (a : AnsweringState S). a.out) is;
-      marks = no_mark ∙ ap (λ (a : AnsweringState S). a.marks) is;
-    },
-    rests-then rests,
-  )
-
   pub request-ready : {W : Type 0} (w : world.Ghosts W) (t : sitting.Ghosts S W) → old.in_work ≡ None → IsReady w t route then
   request-ready w t rests = none-ready w t route then (rests-then rests)
 
-  pub request-totals : then.totals ≡ old.totals
-  request-totals = ap (λ (a : AnsweringState S). a.totals) is
-
 -- ---- what is ended
-
--- a work that is ended is so whichever package was in work, and whatever was summed
-answered-as : {S : Type 0} (route : Route) (view : PackageView S) (here new : AnsweringState S) (works : Option (PackageView S))
-    (totals : List Total) → IsAnsweredBy route view (record here { in_work = works; totals = totals }) new
-    → IsAnsweredBy route view here new
-answered-as route view here new works totals a =
-    record { waiting = a.waiting; waited = a.waited; of_work = a.of_work; ended = a.ended; marks = a.marks }
 
 module _ {S : Type 0} (route : Route) (view : PackageView S) (here new : AnsweringState S) (works : Option (PackageView S)) (totals : List Total)
   where

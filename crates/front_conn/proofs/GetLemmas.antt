@@ -1,5 +1,5 @@
 -- A work of a GET whose legs are done: the GET is answered, or the legs for its fetch are begun.
-use Rattle.std.proofs.Common.{◌≡◌, ◌∙◌, ◌++◌, ℕ, List, Option, Some, None, Result, Ok, Err, OnOk, ap, length, refl, subst, sym, take}
+use Rattle.std.proofs.Common.{◌≡◌, ◌∙◌, ◌++◌, ℕ, List, Option, Some, None, Result, Ok, Err, OnOk, ap, length, subst, sym, take}
 use Rattle.std.specs.Prelude.{IfSome, IsSome, option_to_list}
 use Rattle.z_types.specs.declared.marks.End.{End}
 use Rattle.z_types.specs.declared.marks.Mark.{Mark}
@@ -21,18 +21,9 @@ use Rattle.front_http.proofs.Gets.{get-fetch, get-mark, get-out}
 use Rattle.front_conn.specs.steps.Answering.{AnsweringState, IsGetEndedIf, IsListed, IsReady, IsWorkBegun, get_served}
 use Rattle.front_conn.specs.steps.States.{IsOneWork}
 use Rattle.front_conn.proofs.AnsweringLemmas.{taken-back}
-use Rattle.front_conn.proofs.EndedLemmas.{none-ready}
 use Rattle.front_conn.proofs.HeadLemmas.{get-waits}
 
 -- ---- what is ended
-
-is-there : (thing : Option Work) (job : Work) → thing ≡ Some job → IsSome thing
-is-there None job h = absurd cc
-is-there (Some own) job h = refl
-
-if-there : (thing : Option Work) (job : Work) (got : Outcome) → thing ≡ Some job → FitsWork job got → IfSome thing (λ work. FitsWork work got)
-if-there None job got h fits = tt
-if-there (Some own) job got h fits = let same : job ≡ own = cc in subst (λ (j : Work). FitsWork j got) same fits
 
 module _ {S : Type 0} (route : Route) (here old : AnsweringState S) (is : here ≡ old) (job : Work) (works : work_of route old.stage ≡ Some job)
   where
@@ -106,24 +97,6 @@ module _ {W S : Type 0} (w : world.Ghosts W) (t : sitting.Ghosts S W) (route : R
       → IsListed mark end written mid new listed → IsGetEndedIf route view old new listed
   get-written law mark end written listed is_length h l = ended-of listed (written-by law mark end written listed is_length h l)
 
-  listed-ready : (mark : Option Mark) (end : Option End) (written : ℕ) (listed : Result (Option End) Memory)
-      → IsListed mark end written mid new listed → OnOk listed (IsReady w t route new)
-  listed-ready mark end written (Ok ended) l = none-ready w t route new (ap (λ (a : AnsweringState S). a.in_work) l.1 ∙ rests-here)
-  listed-ready mark end written (Err want) l = tt
-
-  pub get-listed-ready : (mark : Option Mark) (end : Option End) (written : ℕ) (listed : Result (Option End) Memory)
-      → IsListed mark end written mid new listed → OnOk listed (IsReady w t route new)
-  get-listed-ready mark end written listed l = listed-ready mark end written listed l
-
-  listed-totals : (mark : Option Mark) (end : Option End) (written : ℕ) (listed : Result (Option End) Memory)
-      → IsListed mark end written mid new listed → new.totals ≡ old.totals
-  listed-totals mark end written (Ok ended) l = ap (λ (a : AnsweringState S). a.totals) l.1 ∙ ap (λ (a : AnsweringState S). a.totals) is
-  listed-totals mark end written (Err want) l = ap (λ (a : AnsweringState S). a.totals) l ∙ ap (λ (a : AnsweringState S). a.totals) is
-
-  pub get-listed-totals : (mark : Option Mark) (end : Option End) (written : ℕ) (listed : Result (Option End) Memory)
-      → IsListed mark end written mid new listed → new.totals ≡ old.totals
-  get-listed-totals mark end written listed l = listed-totals mark end written listed l
-
   -- its fetch is begun
   works-by : (job : Work) (started : Result (Option End) Memory) → IsEnded route got (get_served here) (get_served mid) (get.Work job)
       → IsWorkBegun w t route job mid new started → IsGetEndedIf route view here new started
@@ -156,11 +129,6 @@ module _ {W S : Type 0} (w : world.Ghosts W) (t : sitting.Ghosts S W) (route : R
             (get-waits route here.session.waiting job stage awaits.waits);
       }
   get-works-ready job (Err want) awaits s = tt
-
-  pub get-works-totals : (job : Work) (started : Result (Option End) Memory) → IsWorkBegun w t route job mid new started
-      → new.totals ≡ old.totals
-  get-works-totals job (Ok ended) s = ap (λ (a : AnsweringState S). a.totals) s.1 ∙ ap (λ (a : AnsweringState S). a.totals) is
-  get-works-totals job (Err want) s = ap (λ (a : AnsweringState S). a.totals) s ∙ ap (λ (a : AnsweringState S). a.totals) is
 
   -- memory was wanting
   pub get-unended : (want : Memory) → IsEnded route got (get_served here) (get_served mid) get.Memory → new ≡ mid

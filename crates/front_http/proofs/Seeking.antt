@@ -26,9 +26,6 @@ drop_next xs i below = rw (add-one i, drop-cons xs i 0) refl
 or-false : (a b : Bool) → a ≡ false → (a || b) ≡ b
 or-false a b e = rw e refl
 
-or-true : (a b : Bool) → a ≡ true → (a || b) ≡ true
-or-true a b e = rw e refl
-
 -- an octet at which no head ends is passed
 pub ends-more : (xs : List ℕ) (i : ℕ) → i < length xs → ends_here (drop i xs) ≡ false
     → is_some (head_length (drop i xs)) ≡ is_some (head_length (drop (i + 1) xs))
@@ -36,12 +33,6 @@ ends-more xs i below none =
     let e = drop_next xs i below in
     ap (λ o. is_some (head_length o)) e ∙ ends-cons (get_or xs i 0) (drop (i + 1) xs)
     ∙ or-false (ends_here (get_or xs i 0 ∷ drop (i + 1) xs)) _ (ap ends_here (sym e) ∙ none)
-
-pub ends-at : (xs : List ℕ) (i : ℕ) → i < length xs → ends_here (drop i xs) ≡ true → is_some (head_length (drop i xs)) ≡ true
-ends-at xs i below ends =
-    let e = drop_next xs i below in
-    ap (λ o. is_some (head_length o)) e ∙ ends-cons (get_or xs i 0) (drop (i + 1) xs)
-    ∙ or-true (ends_here (get_or xs i 0 ∷ drop (i + 1) xs)) _ (ap ends_here (sym e) ∙ ends)
 
 -- ---- behind octets that were looked through
 

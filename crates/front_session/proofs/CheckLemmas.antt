@@ -13,19 +13,6 @@ use Rattle.front_session.specs.Refusals.{IsRefusal, FailsWith, first_diagnostic}
 use Rattle.front_session.specs.declared.refusal.Refusal.{Refusal}
 use Rattle.front_session.specs.declared.refusal.Refusal.TheVariants.{Refused, Memory}
 
--- the first check refuses
-pub refused : (c : Option Diag) (cs : List (Option Diag)) (e : Refusal) → IsRefusal c e → IsRefusal (first_diagnostic (c ∷ cs)) e
-refused c cs (Refused diag) h = rw h refl
-refused c cs Memory h = tt
-
--- the first check passes, and a later one refuses
-pub later : (c : Option Diag) (cs : List (Option Diag)) (e : Refusal) → c ≡ None → IsRefusal (first_diagnostic cs) e → IsRefusal (first_diagnostic (c ∷ cs)) e
-later c cs e none h = rw none h
-
--- all checks pass
-pub none_first : (c : Option Diag) (cs : List (Option Diag)) → c ≡ None → first_diagnostic cs ≡ None → first_diagnostic (c ∷ cs) ≡ None
-none_first c cs none h = rw none h
-
 -- where all checks pass, what comes behind them
 pub checked_passes : {A : Type 0} (cs : List (Option Diag)) (behind : Result A Diag) → first_diagnostic cs ≡ None → checked cs behind ≡ behind
 checked_passes [] behind h = refl

@@ -24,7 +24,7 @@ use Rattle.leg.specs.declared.tasks.Task.TheVariants.{Hits, Records, Scan}
 use Rattle.leg.specs.Kept.{IsHeld, ItemsKept, HasOwnSet}
 use Rattle.leg.specs.Phases.{with_session, with_sets}
 use Rattle.leg.specs.Rules.{after_first, first_ask, next_ask}
-use Rattle.leg.specs.Tasks.{want_of, MayDo, IsLeft}
+use Rattle.leg.specs.Tasks.{want_of, MayDo}
 use Rattle.pool_sets.proofs.KeptLemmas as kept_lemmas
 use Rattle.leg.proofs.Heards.{table_along}
 use Rattle.leg.proofs.Own.{own_made}
@@ -110,12 +110,6 @@ module _ {W S : Type 0} (w : world.Ghosts W) (t : sitting.Ghosts S W) where
   own_moved (Records key first count syntax element) held slot hits u h = h
   own_moved (Hits key) held slot hits u h = h
   own_moved (Scan scan) held slot hits u h = h
-
-  pub items_left : (task : Task) (held : Held S) (items : List Item) (slot hits : ℕ) → ItemsKept w t task held items → HasOwnSet w t task held slot hits
-      → IsLeft task items
-  items_left (Records key first count syntax element) held items slot hits h o = h.0
-  items_left (Hits key) held items slot hits h o = o
-  items_left (Scan scan) held items slot hits h o = o
 
   pub may_present : (task : Task) (held : Held S) (items : List Item) (slot hits : ℕ) (due : Ask) → slot < 2 ^ 32 → MayDo task → IsHeld w t resting held
       → ItemsKept w t task held items → HasOwnSet w t task held slot hits → next_ask task items slot ≡ Some due → MayAsk (t.made held.parts.session) due

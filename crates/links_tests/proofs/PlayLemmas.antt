@@ -13,10 +13,6 @@ use Rattle.links_tests.specs.Stories.{set_name, MayAskOf, HasHits, IsOwn, IsStag
 
 -- ---- what may be asked
 
--- a set of no records is none
-pub no_hits : (made : Made) → HasHits made 0
-no_hits made some = absurd (omega (arith, some))
-
 -- a session whose set has `hits` records may be asked
 pub may_ask : (made : Made) (ask : Ask) (hits : ℕ) → HasHits made hits → MayAskOf hits ask → MayAsk made ask
 may_ask made (Search name key) hits has h = rw h.0 h.1

@@ -1,5 +1,5 @@
 -- Each client of a load asks its works in its first run, and nothing more when it is closed
-use Rattle.std.proofs.Common.{◌≡◌, ◌∙◌, ◌+◌, ◌≤◌, ◌<◌, ◌==◌, ℕ, zero, suc, Bool, true, false, if◌then◌else◌, List, [], ◌∷◌, ◌++◌, map, length, drop, flat_map, refl, sym, ap, append_assoc, append-nil, eq-eqb, ne_eqb, eqb-true, arith}
+use Rattle.std.proofs.Common.{◌≡◌, ◌∙◌, ◌+◌, ◌≤◌, ◌<◌, ◌==◌, ℕ, zero, suc, Bool, true, false, if◌then◌else◌, List, [], ◌∷◌, ◌++◌, map, length, drop, flat_map, refl, sym, ap, append_assoc, append-nil, ne_eqb, eqb-true, arith}
 use Rattle.std.specs.List.{AllByRecursion, range_with_len}
 use Rattle.std.proofs.Math.Seq.{drop-length}
 use Rattle.z_types.specs.declared.work.Work.{Work}
@@ -27,9 +27,6 @@ module _ {W : Type 0} (w : world.Ghosts W) where
   -- a client has asked all that it asks
   abbrev HasAsked : List Turn → ℕ → Type 0
   HasAsked before client = asked_before client before ≡ asked_by client
-
-  asked-own : (client : ℕ) (before : List Turn) → HasAsked (run_of w client ∷ before) client
-  asked-own client before = ap (λ (own : Bool). if own then asked_by client else asked_before client before) (eq-eqb client client refl)
 
   asked-other : (client other : ℕ) (before : List Turn) → (other == client) ≡ false
       → asked_before client (run_of w other ∷ before) ≡ asked_before client before

@@ -1,20 +1,18 @@
 -- What a roster keeps, and what is told of it
-use Rattle.std.proofs.Common.{◌≡◌, ℕ, suc, zero, ◌+◌, ◌-◌, ◌^◌, ◌<◌, ◌≤◌, min, nat_lt, true, false, cond, not, List, [], ◌∷◌, ◌++◌, length, get_or, set, map, filter, Contains, position, is_some, IfSome, refl, sym, ◌∙◌, ap, subst, arith, All}
+use Rattle.std.proofs.Common.{◌≡◌, ℕ, suc, zero, ◌+◌, ◌-◌, ◌^◌, ◌<◌, ◌≤◌, min, nat_lt, true, false, cond, not, List, [], ◌∷◌, ◌++◌, length, get_or, set, map, filter, Contains, position, is_some, refl, sym, ◌∙◌, ap, subst, arith, All}
 use Rattle.std.specs.List.Sorted.{IsPermutation}
 use Rattle.std.proofs.lemmas.Bool.Decides.{leb_tells}
 use Rattle.std.proofs.lemmas.List.{map-set, map-append, get_or-map, length-map}
 use Rattle.std.proofs.lemmas.List.Sorted.{Contains-permutation}
 use Rattle.std.proofs.lemmas.List.Elements.{All-filter, All-nil, All-cons, All-map, All-set, All-push, All-weaker}
 use Rattle.z_types.specs.declared.key.SetKey.{SetKey}
-use Rattle.z_types.specs.equality.Key as keys
 use Rattle.z_types.specs.declared.address.Address.{Address}
 use Rattle.pool_sets.specs.declared.pooled.Parts.{Parts}
-use Rattle.pool_sets.specs.declared.sessions.Stand.{Stand}
 use Rattle.pool_sets.specs.declared.sessions.Stand.TheVariants.{Idle, Out}
 use Rattle.pool_sets.specs.declared.doors.Seat.{Seat}
 use Rattle.pool_sets.specs.Table.{Entry}
-use Rattle.pool_sets.specs.Sessions.{Session, idle_parts, idle_with, with_stand}
-use Rattle.pool_sets.specs.Plain.{is_seat, stays_open, with_fresh_sets, without_old_sets, fresh_sessions}
+use Rattle.pool_sets.specs.Sessions.{Session, idle_with, with_stand}
+use Rattle.pool_sets.specs.Plain.{is_seat, stays_open, with_fresh_sets, fresh_sessions}
 use Rattle.pool_core.specs.PoolView.{Ascends, holder_place, at_member}
 use Rattle.pool_core.proofs.Ascending.{ascends_filter, ascends_map, ascends_put}
 use Rattle.pool_keys.specs.declared.index.Pair.{Pair}
@@ -100,17 +98,6 @@ module _ {S : Type 0} where
     -- or out for another member
     pub moved_seen : (b : Berth (Session S)) (member : ℕ) (to : Address) → seen x ttl (record { session = at_member member to b.session; stamp = b.stamp }) ≡ at_member member to (seen x ttl b)
     moved_seen b member to = (elim (nat_lt b.stamp x.count) as (λ t. cond t (with_fresh_sets x.last ttl (at_member member to b.session)) (at_member member to b.session) ≡ at_member member to (cond t (with_fresh_sets x.last ttl b.session) b.session)) [ true ↦ refl | false ↦ refl ])
-
-    parts_same : (now : ℕ) (spot : Address) (s : Stand (Parts S) Address) → IfSome (idle_parts s) (λ p. spot ≡ p.address) → IfSome (idle_parts (without_old_sets now ttl s)) (λ p. spot ≡ p.address)
-    parts_same now spot (Idle parts since) h = h
-    parts_same now spot (Out address) h = h
-
-    -- the address of an idle session is told as it was left
-    pub spot_seen : (spot : Address) (b : Berth (Session S)) → IfSome (idle_parts b.session.stand) (λ p. spot ≡ p.address) → IfSome (idle_parts (seen x ttl b).stand) (λ p. spot ≡ p.address)
-    spot_seen spot b h = (elim (nat_lt b.stamp x.count) as (λ t. IfSome (idle_parts (cond t (with_fresh_sets x.last ttl b.session) b.session).stand) (λ p. spot ≡ p.address)) [
-      | true ↦ parts_same x.last spot b.session.stand h
-      | false ↦ h
-    ])
 
     -- the first of the settled sessions that holds a set is the first that is told to hold one
     pub settled_place : (class : ℕ) (at : List Address) (key : SetKey) (bs : List (Berth (Session S))) → position (λ b. is_some (idle_with class at key b.session)) (map (settled x ttl x.count) bs) ≡ holder_place class at key (told x ttl bs)

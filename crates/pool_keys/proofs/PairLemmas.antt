@@ -87,27 +87,12 @@ from_le d e n f h k = omega arith
 to_le : (d e n m : ℕ) → e * 2 ^ 64 + n ≤ d * 2 ^ 64 + m → e ≡ d → n ≤ m
 to_le d e n m h k = omega arith
 
-is_under : (k i n : ℕ) → k < n → n ≤ i → k < i
-is_under k i n h p = omega arith
-
 module _ (ps : List Pair) (digest from i : ℕ) (point : Point (pair digest from) ps i) where
   -- no pair of the digest and a number from that one on stands before the place
   none_before : (m k : ℕ) → from ≤ m → get_or ps k (pair digest m) ≡ pair digest m → k < i → ⊥
   none_before m k h e p =
       let r = less (rank (get_or ps k (pair digest m))) (rank (pair digest from)) (point.0 k (pair digest m) (omega arith) p) in
       below digest from m (rank (get_or ps k (pair digest m))) h r (ap rank e)
-
-  -- none stands where the pairs end there
-  pub none_next : (whole : Bool) → length ps ≤ i → IsNext (record { pairs = ps; whole = whole }) digest from None
-  none_next whole le = record {
-    there = tt;
-    from_there = tt;
-    least = λ m h s c. none_before m c.0 h c.2 (is_under c.0 i (length ps) c.1 le);
-  }
-
-  -- and the pair of that number stands nowhere
-  pub nowhere : length ps ≤ i → Contains ps (pair digest from) → ⊥
-  nowhere le c = none_before from c.0 (omega arith) c.2 (is_under c.0 i (length ps) c.1 le)
 
   module _ (up : IsNonDecreasingBy rank ps) (p : Pair) (within : i < length ps) (is : p ≡ get_or ps i p) (small : p.number < 2 ^ 64) where
     from_here : digest * 2 ^ 64 + from ≤ p.digest * 2 ^ 64 + p.number

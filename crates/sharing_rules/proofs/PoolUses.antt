@@ -1,5 +1,5 @@
 -- The sessions of a class behind uses of it: what expiry leaves, and what a take of the class gives
-use Rattle.std.proofs.Common.{◌≡◌, ◌==◌, ◌∙◌, ◌-◌, ◌≤◌, ℕ, Bool, true, false, not, cond, List, [], ◌∷◌, map, filter, Option, None, Some, refl, sym, ap, nat_lt, nat_le, arith}
+use Rattle.std.proofs.Common.{◌≡◌, ◌==◌, ◌∙◌, ◌-◌, ◌≤◌, ℕ, true, false, cond, List, [], ◌∷◌, map, filter, Option, None, Some, refl, sym, ap, nat_lt, arith}
 use Rattle.std.specs.Prelude.{length}
 use Rattle.std.specs.Option.{option_or}
 use Rattle.std.proofs.lemmas.List.Sums.{length-filter}
@@ -23,16 +23,6 @@ use Rattle.sharing_rules.proofs.TableUses.{expired, passed}
 pub late_stays : (ttl now later : ℕ) (o : Option ℕ) → now ≤ later → is_late ttl now o ≡ true → is_late ttl later o ≡ true
 late_stays ttl now later None le h = refl
 late_stays ttl now later (Some at) le h = grind (arith, leb_tells)
-
-fresh_or_late : (ttl now since : ℕ) → nat_lt (now - since) ttl ≡ not (is_late ttl now (Some since))
-fresh_or_late ttl now since = (elim (nat_le ttl (now - since)) as (λ b. nat_le ttl (now - since) ≡ b → nat_lt (now - since) ttl ≡ not b) [
-  | true ↦ λ h. grind (arith, leb_tells)
-  | false ↦ λ h. grind (arith, leb_tells)
-]) refl
-
-one_or_none : {X Y : Type 0} (f : X → Y) (b : Bool) (x : X) → length (map f (cond (not b) (x ∷ []) [])) ≡ cond b 0 1
-one_or_none f true x = refl
-one_or_none f false x = refl
 
 -- ---- expiry, class by class
 
@@ -92,20 +82,6 @@ module _ {W S : Type 0} (w : world.Ghosts W) (route : Route) (class : ℕ) (at :
   kept_later now later before [] le h = late_stays route.pool.session_ttl now later (last_at (is_in class) before) le h
   kept_later now later before (o ∷ []) le h = kept_in_later now later before o.stand le h
   kept_later now later before (o ∷ (p ∷ os)) le h = absurd h
-
-  -- none is left exactly where the class was not used for a session's time to live
-  pub none_left_if_late : (now : ℕ) (before : List Use) (os : List (Session S)) → AreKept w route class at now before os
-      → length (afresh now route.pool.session_ttl route.pool.set_ttl os) ≡ cond (is_late route.pool.session_ttl now (last_at (is_in class) before)) 0 1
-  none_left_if_late now before [] h = rw h refl
-  none_left_if_late now before (o ∷ []) h = one_left o.stand refl h
-    where
-      one_left : (stand : Stand (Parts S) Address) → o.stand ≡ stand → IsKeptIn w route class at now before stand
-          → length (afresh now route.pool.session_ttl route.pool.set_ttl (o ∷ [])) ≡ cond (is_late route.pool.session_ttl now (last_at (is_in class) before)) 0 1
-      one_left (Out address) e h = absurd h
-      one_left (Idle parts since) e h =
-          rw (e, h.since_last, fresh_or_late route.pool.session_ttl now since)
-          (one_or_none (with_fresh_sets now route.pool.set_ttl) (is_late route.pool.session_ttl now (Some since)) _)
-  none_left_if_late now before (o ∷ (p ∷ os)) h = absurd h
 
 -- ---- a take of a class sees the sessions of the class alone
 

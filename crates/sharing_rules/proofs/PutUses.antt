@@ -161,26 +161,6 @@ module _ {S : Type 0} where
 pub at_most_itself : (a b : ℕ) → a ≡ b → a ≤ b
 at_most_itself a b e = omega (arith, e)
 
-module _ {W S : Type 0} (w : world.Ghosts W) (route : Route) (now : ℕ) (before : List Use) (key : Option SetKey) (seat : Seat) (parts : Parts S)
-    (given : ℕ) (os : List (Session S)) where
-  -- where the one session of a class is out and is put back at the moment of a use, as the use leaves it, the class is kept
-  pub use_ends : (at : List Address) (o : Session S) → of_class seat.class os ≡ o ∷ [] → is_seat seat o ≡ true → is_among at parts.address ≡ true
-      → HoldsUsed w route seat.class now (used_now seat.class key now ∷ before) parts.table
-      → AreKept w route seat.class at now (used_now seat.class key now ∷ before) (of_class seat.class (put seat parts now (pool_of route given os)).sessions)
-  use_ends at o e s a h =
-      subst (λ ps. AreKept w route seat.class at now (used_now seat.class key now ∷ before) ps)
-      (sym (put_back seat.class seat parts now route given os o e s (at_most_itself parts.table.most route.pool.sets_max h.most)))
-      (kept_put w route seat.class now at before key o parts a h)
-
-  -- and so is each other class
-  pub use_ends_elsewhere : (class : ℕ) (at : List Address) → (seat.class == class) ≡ false → parts.table.most ≤ route.pool.sets_max
-      → AreKept w route class at now before (of_class class os)
-      → AreKept w route class at now (used_now seat.class key now ∷ before) (of_class class (put seat parts now (pool_of route given os)).sessions)
-  use_ends_elsewhere class at n few h =
-      subst (λ ps. AreKept w route class at now (used_now seat.class key now ∷ before) ps)
-      (sym (put_elsewhere class seat parts now route given os (nat_eq_equiv.symm class seat.class ∙ n) few))
-      (kept_elsewhere w route class now at before seat.class key (of_class class os) n h)
-
 -- ---- while a session is out
 
 pub seat_is_out : (a b c : Bool) → ((a && b) && c) ≡ true → c ≡ true

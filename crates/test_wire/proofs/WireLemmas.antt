@@ -1,5 +1,5 @@
 -- How a link with a test target goes on (this project's own)
-use Rattle.std.proofs.Common.{◌≡◌, inl, inr, ◌∙◌, ℕ, ◌^◌, ◌<◌, ◌≤◌, ◌==◌, Bool, true, false, cond, List, [], ◌∷◌, ◌++◌, map, Option, None, Some, Result, Ok, Err, refl, sym, ap, subst, arith}
+use Rattle.std.proofs.Common.{◌≡◌, inl, inr, ◌∙◌, ℕ, ◌≤◌, ◌==◌, Bool, true, false, cond, List, [], ◌∷◌, ◌++◌, map, Option, None, Some, Result, Ok, Err, refl, sym, ap, subst, arith}
 use Rattle.std.specs.Prelude.{nat_lt, unwrap_or, OnOk}
 use Rattle.std.proofs.lemmas.Bool.{eqb-true, eqb-false}
 use Rattle.std.specs.BTreeMap.{is_at}
@@ -11,21 +11,20 @@ use Rattle.z_types.specs.declared.requests.Request.{Request}
 use Rattle.z_types.specs.declared.requests.Request.TheVariants as request
 use Rattle.z_types.specs.declared.world.World as world
 use Rattle.unit_forms.specs.Reading.Units.{IsOnlyReading}
-use Rattle.z_types.specs.Counts.{Rose, one_more}
+use Rattle.z_types.specs.Counts.{one_more}
 use Rattle.gw_outside.specs.declared.happenings.Happening.{Happening}
 use Rattle.gw_outside.specs.declared.links.Linked as linked
 use Rattle.gw_outside.specs.Counts.{Counts, Counted, WireCounts, after}
-use Rattle.gw_outside.specs.Happened.{Happened, AreSame, AreLess, AreCut, AreQuiet, IsMade, happening_after, nothing_happens, sets_found, at_address, is_cut, to_peer}
+use Rattle.gw_outside.specs.Happened.{Happened, AreSame, AreLess, AreCut, AreQuiet, IsMade, happening_after, nothing_happens, sets_found, at_address, to_peer}
 use Rattle.gw_outside.specs.Peers.{NamedSet, AreLeft, IsPeerStep, TakesRequest, held, login_after}
-use Rattle.gw_outside.specs.Wires.{IsRequestUnit, IsReplyUnit, HandsOver, IsSentTo, SendFits, SendsSteadily, SendCounts, LookFits, LooksSteadily, send_counted}
+use Rattle.gw_outside.specs.Wires.{IsRequestUnit, IsReplyUnit, HandsOver, IsSentTo, SendFits, SendsSteadily, SendCounts, LookFits, send_counted}
 use Rattle.gw_outside.specs.Peers as peers
 use Rattle.gw_outside.specs.declared.wires.Looked.{Looked}
 use Rattle.gw_outside.specs.declared.wires.Looked.TheVariants as looked
 use Rattle.gw_outside.specs.declared.wires.Sent.{Sent}
 use Rattle.gw_outside.specs.declared.wires.Sent.TheVariants as sent
 use Rattle.test_target.specs.declared.peers.Peer.{Peer}
-use Rattle.test_target.specs.Peer.{reply_to, sets_after}
-use Rattle.test_target.specs.World.{number_inside, told_of}
+use Rattle.test_target.specs.World.{told_of}
 use Rattle.z_types.specs.Logins.{inside}
 use Rattle.test_wire.specs.Happened.{Table, IsPut, happening_of, happened_in}
 use Rattle.test_wire.specs.Owed.{OwedReply, IsNextOwed}
@@ -83,22 +82,6 @@ module _ (happening : Happening) (req : Request) (old mid new : Peer) (before af
     owed = ap (λ owed. map (λ o. o.reply) owed) a ∙ owed_more before last;
     address = ap at.Test (n ∙ t);
     login = login_is;
-  }
-
-  number_is : number_inside mid.login mid.target ≡ number_inside old.login old.target
-  number_is = ap (λ login. number_inside login mid.target) k ∙ ap (number_inside old.login) t
-
-  -- the same step as what a target answers
-  pub taken : new.sets.items ≡ sets_after (number_inside mid.login mid.target) mid.sets.items req → answer ≡ reply_to (number_inside mid.login mid.target) mid.sets.items req
-      → last.looks ≡ happening.delay → HasTaken happening req old new before after
-  taken f r l = record {
-    target = n ∙ t;
-    sets = f ∙ ap (λ number. sets_after number mid.sets.items req) number_is ∙ ap (λ sets. sets_after (number_inside old.login old.target) sets req) s;
-    login = login_is;
-    last = last;
-    owed = a;
-    reply = e ∙ r ∙ ap (λ number. reply_to number mid.sets.items req) number_is ∙ ap (λ sets. reply_to (number_inside old.login old.target) sets req) s;
-    looks = l;
   }
 
 module _ {W : Type 0} (w : world.Ghosts W) (octets : List ℕ) (h : Happened) where
@@ -266,25 +249,6 @@ module _ {L : Type 0} (l : linked.Ghosts L) (octets : List ℕ) (link_old link_n
 
 -- ---- counts
 
-grows : (b : Bool) (n : ℕ) → n < 2 ^ 64 → n ≤ one_more b n
-grows true n small = omega arith
-grows false n small = omega arith
-
-rose : (b : Bool) (n : ℕ) → b ≡ true → Rose n (one_more b n)
-rose true n e = omega arith
-rose false n e = cc
-
--- a call is counted
-pub counts : (exact : Bool) (call : Counted) (old new : Counts) → old.faults < 2 ^ 64 → new ≡ after call old → WireCounts exact call old new
-counts exact call old new small e =
-    let faults = ap (λ c. c.faults) e in
-    record {
-      waits = ap (λ c. c.waits) e;
-      faults = subst (λ n. old.faults ≤ n) (sym faults) (grows call.fault old.faults small);
-      failed = λ f. subst (λ n. Rose old.faults n) (sym faults) (rose call.fault old.faults f);
-      exactly = λ x. e;
-    }
-
 -- so is one that does not fail
 unfailing : (exact : Bool) (call : Counted) (old new : Counts) → call.fault ≡ false → new ≡ after call old → WireCounts exact call old new
 unfailing exact call old new f e = record {
@@ -319,23 +283,7 @@ none_counts octets counted only = record {
   exactly = λ req is x. absurd (not_one octets req only is);
 }
 
--- a send that fails is counted, whatever the octets are
-pub failed_counts : (octets : List ℕ) (old new : Counts) → old.faults < 2 ^ 64 → new ≡ record old { faults = one_more true old.faults }
-    → SendCounts true octets sent.Failed old new
-failed_counts octets old new small e = record {
-  some = λ req. counts false (send_counted req sent.Failed) old new small e;
-  exactly = λ req is x. e;
-}
-
 -- ---- a look
-
--- a look that finds no reply leaves them owed
-none_next : (old new : List OwedReply) → IsNextOwed old new None → map (λ o. o.reply) new ≡ map (λ o. o.reply) old
-none_next [] new h = ap (λ owed. map (λ o. o.reply) owed) h
-none_next (first ∷ rest) new h = ap (λ owed. map (λ o. o.reply) owed) h.1
-
-pub not_yet : (peer : Peer) (old new : List OwedReply) → IsNextOwed old new None → peer_of peer new ≡ peer_of peer old
-not_yet peer old new h = ap (λ owed. record { address = at.Test peer.target; login = peer.login; sets = peer.sets.items; owed = owed }) (none_next old new h)
 
 -- the first reply comes whole
 pub comes : (peer : Peer) (old new : List OwedReply) (found : OwedReply) → IsNextOwed old new (Some found) → IsReplyUnit found.octets found.reply
@@ -360,33 +308,6 @@ arrives peer still old mid new found before after looked.Arrived n u a e f =
 arrives peer still old mid new found before after looked.NotYet n u a e f = absurd a
 arrives peer still old mid new found before after looked.Failed n u a e f = absurd a
 arrives peer still old mid new found before after looked.Memory n u a e f = tt
-
-delays_next : (old mid : List OwedReply) (found : OwedReply) → IsNextOwed old mid (Some found) → delays_of old ≡ 0 ∷ delays_of mid
-delays_next [] mid found h = absurd h
-delays_next (first ∷ rest) mid found h = ap (λ looks. looks ∷ delays_of rest) h.0 ∙ ap (λ owed. 0 ∷ delays_of owed) (sym h.2)
-
-module _ {L : Type 0} (l : linked.Ghosts L) (link_old link_new : L) (before after : Happened) where
-  -- the look at which it arrives is a steady one
-  pub looks : (old mid new : List OwedReply) (found : OwedReply) (octets from to : List ℕ) (result : Looked) → IsNextOwed old mid (Some found)
-      → HasArrived octets from to result → new ≡ mid → l.delays link_old ≡ delays_of old → l.delays link_new ≡ delays_of new → AreSame before after
-      → l.number link_new ≡ l.number link_old → is_cut (to_peer before (l.peer link_old)) (l.number link_old) ≡ false
-      → LooksSteadily l link_old link_new before after result
-  looks old mid new found octets from to looked.Arrived h a e was is same number uncut = record {
-    fails = λ f. cc;
-    arrives = λ e steady. uncut;
-    happened = same;
-    number = number;
-    delays = λ steady. was ∙ delays_next old mid found h ∙ ap (λ owed. 0 ∷ delays_of owed) (sym e) ∙ ap (λ delays. 0 ∷ delays) (sym is);
-  }
-  looks old mid new found octets from to looked.NotYet h a e was is same number uncut = absurd a
-  looks old mid new found octets from to looked.Failed h a e was is same number uncut = absurd a
-  looks old mid new found octets from to looked.Memory h a e was is same number uncut = record {
-    fails = λ f. cc;
-    arrives = λ f. absurd cc;
-    happened = same;
-    number = number;
-    delays = λ steady. tt;
-  }
 
 -- ---- a new table
 

@@ -273,21 +273,3 @@ close_at-none n zero r b d long fits e more rest c = ok_err b d _ (close_at-clos
 close_at-none zero (suc o) r b d long fits e more rest c = long (err_one d Short _ e refl)
 close_at-none (suc n) (suc o) r b d long fits e more rest c =
     none_step n o r b d long fits (close_at-none n) (step_at r b) (step_at-read r b fits) e more rest c
-
--- ---- no element within is too large
-
-large_step : (k n o r : ℕ) (b : List ℕ) → IsBytes b → ((o r : ℕ) (b : List ℕ) → IsBytes b → close_at n o r b ≡ Err (TooLarge k) → ⊥) → (s : Result (Step × List ℕ) BerFault) → StepRead r b s → close_on (close_at n) o r s ≡ Err (TooLarge k) → ⊥
-large_step k n o r b fits ih (Ok (End, after)) h e = ih o (suc r) after (bytes_of b end_of_contents after fits h) e
-large_step k n o r b fits ih (Ok (Whole, after)) h e = ih (suc o) r after (bytes_of b h.frame after fits h.spelled) e
-large_step k n o r b fits ih (Ok (Open, after)) h e = ih (suc (suc o)) (r - 1) after (bytes_of b h.head after fits h.spelled) e
-large_step k n o r b fits ih (Err Short) h e = absurd cc
-large_step k n o r b fits ih (Err BadTag) h e = absurd cc
-large_step k n o r b fits ih (Err BadLength) h e = absurd cc
-large_step k n o r b fits ih (Err (TooLarge j)) h e = h
-large_step k n o r b fits ih (Err TooDeep) h e = absurd cc
-
--- TooLarge is of a frame's own header alone
-pub never_large : (k n o r : ℕ) (b : List ℕ) → IsBytes b → close_at n o r b ≡ Err (TooLarge k) → ⊥
-never_large k n zero r b fits e = ok_err b (TooLarge k) _ (close_at-closed n r b) e
-never_large k zero (suc o) r b fits e = absurd cc
-never_large k (suc n) (suc o) r b fits e = large_step k n o r b fits (never_large k n) (step_at r b) (step_at-read r b fits) e

@@ -59,9 +59,6 @@ NumberRead high bytes (Err Short) = Numbers high bytes
 NumberRead high bytes (Err BadTag) = (more : List ℕ) → septets_at high (bytes ++ more) ≡ Err BadTag
 NumberRead high bytes (Err _) = ⊥
 
-abbrev pub After : (ℕ × List ℕ) → Result (ℕ × List ℕ) BerFault
-After x = Ok x
-
 number_end-read : (high d : ℕ) (rest : List ℕ) → high < 2 ^ 24 → d < 128 → NumberRead high (d ∷ rest) (number_end (high * 128 + d) rest)
 number_end-read high d rest hl lt =
     elim (cases_lt (high * 128 + d) 31) [

@@ -31,20 +31,6 @@ impl Tag {
         }
     }
 
-    /// A constructed tag of the universal class, such as 16 for SEQUENCE.
-    pub const fn constructed_universal(number: u32) -> Tag
-        requires { number < 2 ^ 31 }
-        ensures value { result ≡ record { class = 0; constructed = true; number = number } }
-        ensures valid { IsTag result }
-        ensures form { result.constructed ≡ true }
-    {
-        Tag {
-            class: 0,
-            constructed: true,
-            number,
-        }
-    }
-
     /// A primitive tag of the context class.
     pub const fn context(number: u32) -> Tag
         requires { number < 2 ^ 31 }

@@ -23,13 +23,6 @@ again (Tcp host port) = refl
 again (Login (site.Test n) login) = refl
 again (Login (site.Tcp host port) login) = refl
 
--- it is inside none
-pub inner_plain : (address : Address) → login_of (inner address) ≡ None
-inner_plain (Test n) = refl
-inner_plain (Tcp host port) = refl
-inner_plain (Login (site.Test n) login) = refl
-inner_plain (Login (site.Tcp host port) login) = refl
-
 -- what happens at an address happens at its site
 site_is : (h : Happened) (address : Address) → at_address h address ≡ at_site h (site_of address)
 site_is h (Test n) = refl

@@ -1,13 +1,12 @@
 -- What is made to happen to links stays, or becomes less (this project's own)
-use Rattle.std.proofs.Common.{◌≡◌, ◌∙◌, ◌≢◌, ◌⊎◌, inl, inr, ℕ, ◌≤◌, true, false, Option, None, Some, List, refl, sym, subst}
+use Rattle.std.proofs.Common.{◌≡◌, ◌∙◌, ◌≢◌, ◌⊎◌, inl, inr, ℕ, true, false, Option, None, Some, List, refl, sym, subst}
 use Rattle.std.proofs.Math.Dec.{eqb}
 use Rattle.std.proofs.lemmas.Bool.Decides.{eqb_tells}
 use Rattle.z_types.specs.declared.address.Address.{Address}
 use Rattle.z_types.specs.declared.address.Address.TheVariants.{Test, Tcp, Login}
 use Rattle.z_types.specs.declared.address.Site.TheVariants as site
-use Rattle.gw_outside.specs.declared.backends.Opening.TheVariants as opened
 use Rattle.gw_outside.specs.declared.wires.Sent.TheVariants as sent
-use Rattle.gw_outside.specs.Happened.{Happened, AreSame, AreLess, IsMade, IsAsked}
+use Rattle.gw_outside.specs.Happened.{Happened, AreSame, IsMade, IsAsked}
 use Rattle.gw_outside.specs.declared.links.Linked as linked
 use Rattle.gw_outside.specs.Peers.{Peer}
 use Rattle.gw_outside.specs.Wires.{SendHappens, IsSentTo, IsRequestUnit, IsSameLink}
@@ -18,15 +17,6 @@ same_self h = record { steady = refl; lent = refl; of_target = λ target. refl }
 
 pub same_again : (a b c : Happened) → AreSame a b → AreSame b c → AreSame a c
 same_again a b c s t = record { steady = t.steady ∙ s.steady; lent = t.lent ∙ s.lent; of_target = λ target. t.of_target target ∙ s.of_target target }
-
-pub same_less : (a b c : Happened) → AreSame a b → AreLess b c → AreLess a c
-same_less a b c s l = record {
-  steady = l.steady ∙ s.steady;
-  lent = l.lent ∙ s.lent;
-  presents = λ target. subst (λ h. (c.of_target target).presents ≤ h.presents) (s.of_target target) (l.presents target);
-  delay = λ target. subst (λ h. (c.of_target target).delay ≡ h.delay) (s.of_target target) (l.delay target);
-  cut = λ target. subst (λ h. (c.of_target target).cut ≡ h.cut) (s.of_target target) (l.cut target);
-}
 
 -- nothing of a link changes
 pub same_link : {L : Type 0} (l : linked.Ghosts L) (link : L) → IsSameLink l link link

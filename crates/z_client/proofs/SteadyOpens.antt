@@ -1,23 +1,17 @@
 -- The link of a session that is opened over a steady wire, at an address that is told (this project's own)
 use Rattle.std.proofs.Common.{◌≡◌, ◌∙◌, ℕ, Bool, true, false, List, [], ◌∷◌, ◌++◌, Option, None, Some, refl, sym, ap}
 use Rattle.z_types.specs.declared.address.Address.{Address}
-use Rattle.z_types.specs.declared.sitting.Sitting as sitting
 use Rattle.z_types.specs.declared.world.World as world
-use Rattle.gw_outside.specs.declared.backends.Opening.{Opening}
-use Rattle.gw_outside.specs.declared.backends.Opening.TheVariants as opened
 use Rattle.gw_outside.specs.declared.links.Linked as linked
 use Rattle.gw_outside.specs.declared.wires.Sent.TheVariants as sent
 use Rattle.gw_outside.specs.Counts.{Counts}
-use Rattle.gw_outside.specs.Happened.{Happened, AreSame, at_address, is_cut, to_peer}
+use Rattle.gw_outside.specs.Happened.{Happened, at_address, is_cut, to_peer}
 use Rattle.gw_outside.specs.Peers.{Peer}
-use Rattle.gw_outside.specs.Steady.{OpensSteadily}
 use Rattle.gw_outside.specs.Wires.{IsNewLink, IsNewPeer, IsRequestUnit, SendCounts, SendsSteadily}
-use Rattle.z_client.specs.declared.own.Own.{Own}
-use Rattle.z_client.specs.Counts.{counts_over}
 use Rattle.z_client.specs.Units.{init_request}
 use Rattle.z_types.specs.Logins.{inner, login_of}
 use Rattle.z_client.proofs.AddressLemmas.{at_inner}
-use Rattle.z_client.proofs.SteadyArrivals.{address_again, cut_again}
+use Rattle.z_client.proofs.SteadyArrivals.{cut_again}
 
 -- what happens to a new link happens at its address
 new_at : (told : Type 0) (address : Address) (h : Happened) (peer : Option Peer) → told → IsNewPeer told address peer → to_peer h peer ≡ at_address h address
@@ -43,25 +37,3 @@ module _ {W L : Type 0} (w : world.Ghosts W) (l : linked.Ghosts L) (exact : Bool
         → is_cut (at_address h address) now.dials ≡ true
     ungreeted_cut s c x = cut_again (to_peer h (l.peer old)) (at_address h address) (l.number old) now.dials true there
         (fresh.number x ∙ sym (ap (λ (count : Counts). count.dials) (c.exactly (init_request (login_of address)) is x))) (s.fails refl steady)
-
--- ---- by what a backend counts
-
-over_dials : (exact : Bool) (wire : Counts) (own : Own) → exact ≡ true → (counts_over exact wire own).dials ≡ wire.dials
-over_dials true wire own x = refl
-over_dials false wire own x = absurd cc
-
-module _ {W S : Type 0} (t : sitting.Ghosts S W) (exact : Bool) (address : Address) (h then_ : Happened) (wire : Counts) (own : Own) (same : AreSame h then_) where
-  -- a session that was greeted is one that was opened
-  pub opened_steadily : (result : Opening S) → OpensSteadily t exact (at_address then_ address) wire.dials result
-      → OpensSteadily t exact (at_address h address) (counts_over exact wire own).dials result
-  opened_steadily (opened.Session session) o = record {
-    number = λ x. o.number x ∙ sym (over_dials exact wire own x);
-    delays = o.delays ∙ ap (λ here. here.delay ∷ []) (address_again h then_ address same);
-  }
-  opened_steadily (opened.Failed linked) o = (
-    o.0,
-    λ x.
-        cut_again (at_address then_ address) (at_address h address) wire.dials (counts_over exact wire own).dials true (address_again h then_ address same)
-        (sym (over_dials exact wire own x)) (o.1 x),
-  )
-  opened_steadily opened.Memory o = tt

@@ -15,8 +15,3 @@ IsReadAs IsOfKind spell bytes (Some x) = IsOfKind x × (bytes ≡ spell x)
 abbrev pub IsReadInFront : {A : Type 0} → (A → Type 0) → (A → List ℕ) → List ℕ → Option (A × Bor (List ℕ)) → Type 0
 IsReadInFront {A} IsOfKind spell bytes None = (x : A) (rest : List ℕ) → IsOfKind x → bytes ≡ spell x ++ rest → ⊥
 IsReadInFront IsOfKind spell bytes (Some x) = IsOfKind x.0 × (bytes ≡ spell x.0 ++ x.1.now)
-
--- octets of a kind, which are lent, and their written form
-abbrev pub IsLentAs : (List ℕ → Type 0) → (List ℕ → List ℕ) → List ℕ → Option (Bor (List ℕ)) → Type 0
-IsLentAs IsOfKind spell bytes None = (octets : List ℕ) → IsOfKind octets → bytes ≡ spell octets → ⊥
-IsLentAs IsOfKind spell bytes (Some octets) = IsOfKind octets.now × (bytes ≡ spell octets.now)

@@ -1,22 +1,14 @@
 use Rattle.std.specs.Option.{option_copied}
-use Rattle.std.proofs.Common.{◌==◌, ◌≡◌, ◌+◌, ◌∙◌, ℕ, List, ◌∷◌, Result, Ok, Err, refl, ap, arith, sym, subst, length}
+use Rattle.std.proofs.Common.{◌==◌, ◌≡◌, ◌+◌, ◌∙◌, ℕ, List, ◌∷◌, Result, Ok, refl, ap, arith, sym, subst, length}
 use Rattle.std.proofs.lemmas.List.Sums.{count_by-le-length}
 use Rattle.std.proofs.lemmas.List.Splits.{length-slice_split}
 use Rattle.script.specs.declared.event.Event.{Event}
 use Rattle.script.specs.declared.faults.ScriptFault.{ScriptFault}
-use Rattle.script.specs.declared.faults.ScriptFault.TheVariants.{Line, TooMany, Memory}
 use Rattle.script.specs.Events.{AreEvents}
 use Rattle.script.specs.Lines.{said_by}
-use Rattle.script.specs.Script.{script_of, events_of, put_said, lines, lines_behind, go_on, IsAnswer}
+use Rattle.script.specs.Script.{script_of, events_of, put_said, lines, lines_behind}
 use Rattle.script.proofs.OrderLemmas.{no_events}
 use Rattle.script.proofs.read.read_script.Goals as goal
-
--- a line that is refused refuses the script
-refused : (wanted : Result (List Event) ScriptFault) (others : List Event → Result (List Event) ScriptFault) (fault : ScriptFault)
-    → IsAnswer wanted (Err fault) → IsAnswer (go_on wanted others) (Err fault)
-refused wanted others (Line number) h = ap (λ w. go_on w others) h
-refused wanted others (TooMany number) h = ap (λ w. go_on w others) h
-refused wanted others Memory h = tt
 
 pub loop-rest-init : goal.loop-rest-init
 unfolding script_of
