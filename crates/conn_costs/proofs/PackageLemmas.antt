@@ -1,7 +1,8 @@
 -- The turns of legs, and of a package: what holds of one turn after another
-use Rattle.std.proofs.Common.{◌≡◌, ◌∙◌, ◌⊎◌, ◌&&◌, ◌||◌, ℕ, ◌+◌, Bool, true, false, inl, inr, if◌then◌else◌, List, [], ◌∷◌, ◌++◌, map, refl, sym, ap, subst}
+use Rattle.std.proofs.Common.{◌≡◌, ◌∙◌, ◌⊎◌, ℕ, ◌+◌, Bool, true, false, inl, inr, if◌then◌else◌, List, [], ◌∷◌, ◌++◌, map, refl, sym, ap, subst}
 use Rattle.std.specs.List.{sum_by}
 use Rattle.std.proofs.lemmas.List.Sums.{sum_by-append, sum_by-cons}
+use Rattle.std.proofs.lemmas.Bool.{and_parts, or_parts}
 use Rattle.z_types.specs.declared.sitting.Sitting as sitting
 use Rattle.z_types.specs.declared.world.World as world
 use Rattle.route_config.specs.declared.route.Route.{Route}
@@ -17,14 +18,6 @@ use Rattle.package.specs.steps.Packages.{AsksSo, IsPlanned, PackageView, answers
 use Rattle.package.specs.steps.Turns.{GoesOn, HadTurn, HasTurned, HaveTurned, IsPackageTurn, Plans, TakesTurn, all_done, is_memory, no_round, round_after}
 use Rattle.package_rules.specs.Planned.{then_asked_by}
 use Rattle.conn_costs.proofs.TurnLemmas.{HadMemory}
-
-both-true : (a b : Bool) → (a && b) ≡ true → (a ≡ true) × (b ≡ true)
-both-true true b h = (refl, h)
-both-true false b h = absurd cc
-
-neither : (a b : Bool) → (a || b) ≡ false → (a ≡ false) × (b ≡ false)
-neither false b h = (refl, h)
-neither true b h = absurd cc
 
 -- some legs had memory in a round, or all are done behind it
 abbrev HadMemories : {S : Type 0} → Round → List (LegView S) → Type 0
@@ -52,7 +45,7 @@ module _ {W S : Type 0} (w : world.Ghosts W) (t : sitting.Ghosts S W) (exact : B
       → HasTurned w t exact route now done old new round next door after backend moved → next.lacks ≡ false → round.lacks ≡ false
   first-lacks true old new round next door after backend moved h has = ap (λ (r : Round). r.lacks) (sym h.1) ∙ has
   first-lacks false old new round next door after backend moved h has =
-      (neither round.lacks (is_memory h.0) (ap (λ (r : Round). r.lacks) (sym h.1) ∙ has)).0
+      (or_parts round.lacks (is_memory h.0) (ap (λ (r : Round). r.lacks) (sym h.1) ∙ has)).0
 
   -- and behind the others
   lacks-kept : (olds news : List (LegView S)) (round last : Round) (door after : DoorView S) (backend moved : BackendView)
@@ -68,12 +61,12 @@ module _ {W S : Type 0} (w : world.Ghosts W) (t : sitting.Ghosts S W) (exact : B
   leg-memory : (answer : Turned) (new : LegView S) (news : List (LegView S)) (round next last : Round) → next ≡ round_after round answer
       → (last.lacks ≡ false → next.lacks ≡ false) → HadMemories last (new ∷ news) → HadMemory answer new.phase
   leg-memory answer new news round next last is kept (inl has) =
-      inl (no-memory answer ((neither round.lacks (is_memory answer) (ap (λ (r : Round). r.lacks) (sym is) ∙ kept has)).1))
-  leg-memory answer new news round next last is kept (inr done) = inr ((both-true (is_done new.phase) (all_done news) done).0)
+      inl (no-memory answer ((or_parts round.lacks (is_memory answer) (ap (λ (r : Round). r.lacks) (sym is) ∙ kept has)).1))
+  leg-memory answer new news round next last is kept (inr done) = inr ((and_parts (is_done new.phase) (all_done news) done).0)
 
   rest-memory : (new : LegView S) (news : List (LegView S)) (last : Round) → HadMemories last (new ∷ news) → HadMemories last news
   rest-memory new news last (inl has) = inl has
-  rest-memory new news last (inr done) = inr ((both-true (is_done new.phase) (all_done news) done).1)
+  rest-memory new news last (inr done) = inr ((and_parts (is_done new.phase) (all_done news) done).1)
 
   -- one leg
   first-turned : (done : Bool) (old new : LegView S) (news : List (LegView S)) (round next last : Round) (door after : DoorView S)

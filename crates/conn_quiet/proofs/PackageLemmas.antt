@@ -1,8 +1,9 @@
 -- The legs of a request over a quiet backend
-use Rattle.std.proofs.Common.{◌≡◌, ◌≢◌, ◌∙◌, ◌⊎◌, ◌&&◌, ◌||◌, ◌<◌, ◌≤◌, ℕ, Bool, true, false, if◌then◌else◌, inl, inr, List, [], ◌∷◌, ◌++◌, map, length, get_or, slice_get, Contains, Option, None, Some, refl, sym, ap, subst}
+use Rattle.std.proofs.Common.{◌≡◌, ◌≢◌, ◌∙◌, ◌⊎◌, ◌<◌, ◌≤◌, ℕ, Bool, true, false, if◌then◌else◌, inl, inr, List, [], ◌∷◌, ◌++◌, map, length, get_or, slice_get, Contains, Option, None, Some, refl, sym, ap, subst}
 use Rattle.std.specs.Option.{option_map_or}
 use Rattle.std.proofs.lemmas.List.Elements.{All-contains, All-nil, Contains-get_or}
 use Rattle.std.proofs.lemmas.Option.{slice_get_cases}
+use Rattle.std.proofs.lemmas.Bool.{and_parts, or_parts}
 use Rattle.z_types.specs.declared.address.Address.{Address}
 use Rattle.z_types.specs.declared.sitting.Sitting as sitting
 use Rattle.z_types.specs.declared.work.Work.{Work}
@@ -43,14 +44,6 @@ module _ {W : Type 0} (w : world.Ghosts W) where
   leg-told route leg told = members-told route.classes (class_of route leg) told (slice_get_cases route.classes (class_of route leg)).1
 
 -- ---- memory
-
-neither : (a b : Bool) → (a || b) ≡ false → (a ≡ false) × (b ≡ false)
-neither false b h = (refl, h)
-neither true b h = absurd cc
-
-both-true : (a b : Bool) → (a && b) ≡ true → (a ≡ true) × (b ≡ true)
-both-true true b h = (refl, h)
-both-true false b h = absurd cc
 
 no-memory : (answer : Turned) → is_memory answer ≡ false → answer ≢ turned.Memory
 no-memory answer has says = let wrong : true ≡ false = sym (ap is_memory says) ∙ has in absurd cc
@@ -103,7 +96,7 @@ module _ {W S : Type 0} (w : world.Ghosts W) (t : sitting.Ghosts S W) (exact : B
       → HasTurned w t exact route now done old new round next door after backend moved → next.lacks ≡ false → round.lacks ≡ false
   first-lacks true old new round next door after backend moved h has = ap (λ (r : Round). r.lacks) (sym h.1) ∙ has
   first-lacks false old new round next door after backend moved h has =
-      (neither round.lacks (is_memory h.0) (ap (λ (r : Round). r.lacks) (sym h.1) ∙ has)).0
+      (or_parts round.lacks (is_memory h.0) (ap (λ (r : Round). r.lacks) (sym h.1) ∙ has)).0
 
   -- and behind the others
   pub lacks-kept : (olds news : List (LegView S)) (round last : Round) (door after : DoorView S) (backend moved : BackendView)
@@ -120,13 +113,13 @@ module _ {W S : Type 0} (w : world.Ghosts W) (t : sitting.Ghosts S W) (exact : B
       → next ≡ round_after round answer → (last.lacks ≡ false → next.lacks ≡ false) → HadMemories last (new ∷ news)
       → HadMemory answer old.phase new.phase
   leg-memory answer old new news round next last goes is kept (inl has) =
-      inl (no-memory answer ((neither round.lacks (is_memory answer) (ap (λ (r : Round). r.lacks) (sym is) ∙ kept has)).1))
+      inl (no-memory answer ((or_parts round.lacks (is_memory answer) (ap (λ (r : Round). r.lacks) (sym is) ∙ kept has)).1))
   leg-memory answer old new news round next last goes is kept (inr done) =
-      inr (goes, (both-true (is_done new.phase) (all_done news) done).0)
+      inr (goes, (and_parts (is_done new.phase) (all_done news) done).0)
 
   pub rest-memory : (new : LegView S) (news : List (LegView S)) (last : Round) → HadMemories last (new ∷ news) → HadMemories last news
   rest-memory new news last (inl has) = inl has
-  rest-memory new news last (inr done) = inr ((both-true (is_done new.phase) (all_done news) done).1)
+  rest-memory new news last (inr done) = inr ((and_parts (is_done new.phase) (all_done news) done).1)
 
   module _ (e : exact ≡ true) (told : IsToldRoute w route) where
     -- one leg

@@ -4,6 +4,7 @@ use Rattle.std.specs.Option.{option_or}
 use Rattle.std.specs.Cmp.{nat_eq_equiv}
 use Rattle.std.proofs.lemmas.Bool.{eqb-true}
 use Rattle.std.proofs.lemmas.List.Sums.{sum_by-append, sum_by-cons}
+use Rattle.std.proofs.Math.Bool.{and-false, and-true}
 use Rattle.z_types.specs.equality.Tests.{both_true}
 use Rattle.z_types.specs.declared.address.Address.{Address}
 use Rattle.pool_sets.specs.declared.pooled.Parts.{Parts}
@@ -63,14 +64,6 @@ module _ {X : Type 0} (p : X → Bool) where
   ]) refl
 
 -- ---- seats
-
-and-false : (b : Bool) → (b && false) ≡ false
-and-false true = refl
-and-false false = refl
-
-pub and-true : (b : Bool) → (b && true) ≡ b
-and-true true = refl
-and-true false = refl
 
 -- one seat
 pub same-is : (seat other : Seat) → is_same seat other ≡ true → seat ≡ other

@@ -1,6 +1,7 @@
 -- What each function of the plain pool leaves out of it
 use Rattle.std.proofs.Common.{◌≡◌, ◌==◌, ◌&&◌, ◌∙◌, ℕ, ◌+◌, ◌≤◌, Bool, true, false, cond, List, [], ◌∷◌, map, Option, None, Some, refl, ap, arith, nat_lt, nat_le}
 use Rattle.std.proofs.lemmas.Bool.{eqb-true}
+use Rattle.std.proofs.Math.Bool.{and-true}
 use Rattle.z_types.specs.declared.address.Address.{Address}
 use Rattle.z_types.specs.declared.key.SetKey.{SetKey}
 use Rattle.z_types.specs.equality.Tests.{both_true}
@@ -17,7 +18,7 @@ use Rattle.pool_core.specs.PoolView.{Ascends}
 use Rattle.pool_core.proofs.Ascending.{ascends_filter, ascends_map, ascends_push}
 use Rattle.leg.specs.Turns.{lost_seat}
 use Rattle.conn_seats.specs.steps.Seats.{AreOut, held_at, is_same, no_seat, out_of}
-use Rattle.conn_seats.proofs.CountLemmas.{and-true, count-append, count-cons, expired-out, lent-out, lost-out, once, put-out, redialled-out, without}
+use Rattle.conn_seats.proofs.CountLemmas.{count-append, count-cons, expired-out, lent-out, lost-out, once, put-out, redialled-out, without}
 
 -- ---- who holds it
 

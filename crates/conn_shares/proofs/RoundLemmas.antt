@@ -2,6 +2,7 @@
 use Rattle.std.proofs.Common.{◌≡◌, ◌≢◌, ◌∙◌, ◌||◌, ℕ, Bool, true, false, inl, List, [], ◌∷◌, Option, Some, refl, sym, ap, subst, nat_eq}
 use Rattle.std.specs.Cmp.{nat_eq_equiv}
 use Rattle.std.specs.List.{AllByRecursion, IsDistinct, list_any}
+use Rattle.std.proofs.lemmas.Bool.{or_parts}
 use Rattle.z_types.specs.declared.sitting.Sitting as sitting
 use Rattle.z_types.specs.declared.world.World as world
 use Rattle.route_config.specs.declared.route.Route.{Route}
@@ -30,7 +31,6 @@ use Rattle.leg_shares.proofs.TurnLemmas.{turn-shares}
 use Rattle.conn_shares.specs.steps.Together.{AreApart, AreSharing, AreSharingOver, AreUndisturbed, IsOfNone, IsSharing, MayShare, class_in, classes_of}
 use Rattle.conn_shares.proofs.FullLemmas.{turn-unfull}
 use Rattle.conn_shares.proofs.MemoryLemmas.{had-some}
-use Rattle.conn_shares.proofs.UsesLemmas.{either-false}
 
 -- no leg has found the door full
 abbrev pub AreUnfull : {S : Type 0} → List (LegView S) → Type 0
@@ -151,7 +151,7 @@ module _ {W S : Type 0} (w : world.Ghosts W) (t : sitting.Ghosts S W) (exact : B
         );
         unfull = λ none. (one.unfull ∙ none.0, rest.unfull none.1);
         left = λ class none_of.
-            let both = either-false (nat_eq class (class_in route old)) (list_any (nat_eq class) (classes_of route olds)) none_of in
+            let both = or_parts (nat_eq class (class_in route old)) (list_any (nat_eq class) (classes_of route olds)) none_of in
             stay-on route now (of_class class p.sessions) (of_class class one.pool.sessions) (of_class class rest.pool.sessions)
             (one.others class both.0) (rest.left class both.1);
       }

@@ -1,8 +1,8 @@
 -- What the uses of legs that are done leave of each class
-use Rattle.std.proofs.Common.{◌≡◌, ◌∙◌, ◌&&◌, ◌||◌, ℕ, Bool, true, false, cond, List, [], ◌∷◌, find, Some, option_map, refl, sym, ap, subst, nat_eq}
+use Rattle.std.proofs.Common.{◌≡◌, ◌∙◌, ◌||◌, ℕ, Bool, true, false, cond, List, [], ◌∷◌, find, Some, option_map, refl, sym, ap, subst, nat_eq}
 use Rattle.std.specs.Cmp.{nat_eq_equiv}
 use Rattle.std.specs.List.{AllByRecursion, IsDistinct, list_any}
-use Rattle.std.proofs.lemmas.Bool.{eqb-true}
+use Rattle.std.proofs.lemmas.Bool.{eqb-true, and_parts}
 use Rattle.z_types.specs.declared.key.SetKey.{SetKey}
 use Rattle.z_types.specs.declared.sitting.Sitting as sitting
 use Rattle.z_types.specs.declared.world.World as world
@@ -78,10 +78,6 @@ module _ (class : ℕ) where
 
 -- ---- what is kept
 
-pub either-false : (a b : Bool) → (a || b) ≡ false → (a ≡ false) × (b ≡ false)
-either-false false b h = (refl, h)
-either-false true b h = absurd cc
-
 module _ {W S : Type 0} (w : world.Ghosts W) (route : Route) (now : ℕ) (before : List Use) (pool : Pool S) (class : ℕ) where
   -- the class is kept with the use of a leg that goes to it
   abbrev IsKeptWith : LegView S → Type 0
@@ -119,10 +115,6 @@ all-by-last w route now uses others pool same kept = record {
 
 -- ---- legs that are done
 
-pub both-true : (a b : Bool) → (a && b) ≡ true → (a ≡ true) × (b ≡ true)
-both-true true b h = (refl, h)
-both-true false b h = absurd cc
-
 module _ {W S : Type 0} (w : world.Ghosts W) (t : sitting.Ghosts S W) (route : Route) (now : ℕ) (before : List Use) (pool : Pool S) where
   -- a leg that is done had what its use needs, and its class is kept with it
   record IsDoneSo (leg : LegView S) : Type 0 where
@@ -154,14 +146,14 @@ module _ {W S : Type 0} (w : world.Ghosts W) (t : sitting.Ghosts S W) (route : R
       → AllByRecursion (HadItsCost w route now before) legs
   all-costs [] done are = tt
   all-costs (leg ∷ legs) done are =
-      let both = both-true (is_done leg.phase) (all_done legs) done in
+      let both = and_parts (is_done leg.phase) (all_done legs) done in
       ((done-so leg.leg leg.task leg.phase leg.account both.0 are.0).cost, all-costs legs both.1 are.1)
 
   all-kept-with : (class : ℕ) (legs : List (LegView S)) → all_done legs ≡ true → AllByRecursion (IsSharing w t route now before pool) legs
       → AllByRecursion (IsKeptWith w route now before pool class) legs
   all-kept-with class [] done are = tt
   all-kept-with class (leg ∷ legs) done are =
-      let both = both-true (is_done leg.phase) (all_done legs) done in
+      let both = and_parts (is_done leg.phase) (all_done legs) done in
       let kept = (done-so leg.leg leg.task leg.phase leg.account both.0 are.0).kept in (
         λ e. subst (λ (c : ℕ). IsKeptBehind w route c now (use_of route now leg ∷ before) pool) (sym (eqb-true class (class_in route leg) e)) kept,
         all-kept-with class legs both.1 are.1,

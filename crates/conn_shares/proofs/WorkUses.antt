@@ -8,6 +8,7 @@ use Rattle.std.specs.Set.{unique_keys}
 use Rattle.std.proofs.lemmas.Bool.{eqb-true}
 use Rattle.std.proofs.lemmas.List.Elements.{All-contains_itself, recursion_from_All}
 use Rattle.std.proofs.lemmas.Option.{get_or_from_slice_get, slice_get_cases, slice_get_within}
+use Rattle.std.proofs.Math.Bool.{or-true}
 use Rattle.z_types.specs.MergedOrder.{Place}
 use Rattle.z_types.specs.declared.key.SetKey.{SetKey}
 use Rattle.z_types.specs.declared.query.RpnQuery.{RpnQuery}
@@ -25,7 +26,7 @@ use Rattle.package_rules.proofs.LegsAsked.{IsLegOf, first_of}
 use Rattle.sharing_rules.specs.Uses.{Use, key_if, use_at}
 use Rattle.sharing_rules.specs.steps.Shared.{use_now}
 use Rattle.conn_shares.specs.steps.Requests.{uses_at}
-use Rattle.conn_shares.proofs.OnceLemmas.{IsOfNone, IsTheOne, among-contains, among-each, apart-distinct, apart-unique, each-unique, one-or-none, or-true, range-map, same-truth, unique-among, unique-distinct}
+use Rattle.conn_shares.proofs.OnceLemmas.{IsOfNone, IsTheOne, among-contains, among-each, apart-distinct, apart-unique, each-unique, one-or-none, range-map, same-truth, unique-among, unique-distinct}
 use Rattle.conn_shares.proofs.OwnUses.{own_of}
 
 -- the use of what is asked

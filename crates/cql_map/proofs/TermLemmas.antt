@@ -5,6 +5,7 @@ use Rattle.cql_lex.specs.Characters.{is_space}
 use Rattle.cql_map.specs.declared.term.Character.{Character}
 use Rattle.std.proofs.lemmas.List.{take-append-drop}
 use Rattle.std.proofs.lemmas.List.Folds.{list_all_more}
+use Rattle.std.proofs.lemmas.Bool.{and_parts, not-true}
 use Rattle.cql_map.specs.declared.fault.MapFault.TheVariants as fault
 use Rattle.cql_map.proofs.NameLemmas.{drop_item}
 use Rattle.cql_map.specs.Terms.{character, characters, is_bare, has_space, parts_words, is_of_word, begins, in_front, words, is_star, ends_star, before_star}
@@ -87,14 +88,6 @@ word_more cs i x below e all h = list_all_more is_of_word cs i x below ∙ rw (a
 pub word_ends : (cs : List Character) (i : ℕ) (x : Character) → i < length cs → x ≡ get_or cs i x → parts_words x ≡ true → begins parts_words (drop i cs) ≡ true
 word_ends cs i x below e h = rw (drop_item cs i x below e) h
 
-both_true : (a b : Bool) → (a && b) ≡ true → (a ≡ true) × (b ≡ true)
-both_true true b h = (refl, h)
-both_true false b h = cc
-
-not_true : (a : Bool) → not a ≡ true → a ≡ false
-not_true true h = cc
-not_true false h = refl
-
 not_of_word : (cs : List Character) → (0 < length cs → begins parts_words cs ≡ true) → begins is_of_word cs ≡ false
 not_of_word [] h = refl
 not_of_word (c ∷ cs) h = let e : parts_words c ≡ true = h (omega arith) in rw e refl
@@ -103,12 +96,12 @@ not_of_word (c ∷ cs) h = let e : parts_words c ≡ true = h (omega arith) in r
 words_front : (w rest : List Character) → 0 < length w → list_all is_of_word w ≡ true → begins is_of_word rest ≡ false → words (w ++ rest) ≡ w ∷ words rest
 words_front [] rest some all ends = absurd (omega (arith, some))
 words_front (c ∷ []) rest some all ends =
-    let h : parts_words c ≡ false = not_true (parts_words c) (both_true (is_of_word c) true all).0 in
+    let h : parts_words c ≡ false = not-true (parts_words c) (and_parts (is_of_word c) true all).0 in
     rw (h, ends) refl
 words_front (c ∷ d ∷ w) rest some all ends =
-    let two = both_true (is_of_word c) (list_all is_of_word (d ∷ w)) all in
-    let h : parts_words c ≡ false = not_true (parts_words c) two.0 in
-    let k : is_of_word d ≡ true = (both_true (is_of_word d) (list_all is_of_word w) two.1).0 in
+    let two = and_parts (is_of_word c) (list_all is_of_word (d ∷ w)) all in
+    let h : parts_words c ≡ false = not-true (parts_words c) two.0 in
+    let k : is_of_word d ≡ true = (and_parts (is_of_word d) (list_all is_of_word w) two.1).0 in
     let more = words_front (d ∷ w) rest (omega arith) two.1 ends in
     in_word c d (w ++ rest) h k ∙ ap (in_front c) more
   where

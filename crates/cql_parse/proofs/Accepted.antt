@@ -1,6 +1,6 @@
 -- What the phases accept is a query.
-use Rattle.std.proofs.Common.{◌≡◌, ℕ, zero, suc, ◌<◌, ◌≤◌, Bool, true, false, List, [], ◌∷◌, length, Option, Some, None, ◌⊎◌, inl, inr, ⊎_elim, refl, sym, ◌∙◌, subst, ap, arith}
-use Rattle.std.proofs.lemmas.Bool.{false≢true, eqb-true}
+use Rattle.std.proofs.Common.{◌≡◌, ℕ, zero, suc, ◌<◌, ◌≤◌, Bool, true, false, List, [], ◌∷◌, length, Option, Some, None, ◌⊎◌, ⊎_elim, refl, sym, ◌∙◌, subst, ap, arith}
+use Rattle.std.proofs.lemmas.Bool.{false≢true, eqb-true, cases_Bool}
 use Rattle.cql_parse.specs.declared.tree.Modifier.{Modifier}
 use Rattle.cql_parse.specs.declared.tree.Head.{Head}
 use Rattle.cql_parse.specs.declared.tree.SortKey.{SortKey}
@@ -18,24 +18,19 @@ use Rattle.cql_parse.specs.ParserPhases.{spot, step_of, accepts}
 use Rattle.cql_parse.proofs.Faults.{accepts_some, accepts_none}
 use Rattle.cql_parse.proofs.Accepting.{phase_of, on_clause_term, on_bare, on_operand, on_end, on_open, on_close, on_unvalued, on_unequal, on_sign, on_sortby, modifiers_end, term_no_slash, close_no_boolean, close_no_sortby}
 
--- a test goes one of two ways
-decided : (b : Bool) → (b ≡ true) ⊎ (b ≡ false)
-decided true = inl refl
-decided false = inr refl
-
 -- where a phase has no next one for a token, it accepts none
 refuse : {A : Type 0} (p : Phase) (n : ℕ) (x : Lexeme) (rest : List Lexeme) → step_of p n x.class ≡ None → accepts p n (x ∷ rest) ≡ true → A
 refuse p n x rest e h = absurd (false≢true (sym (accepts_none p n x rest e) ∙ h))
 
 -- a word where only a word may come, a term where only a term may
 need_word : (owner : Owner) (n : ℕ) (x : Lexeme) (rest : List Lexeme) → accepts (Slash owner) n (x ∷ rest) ≡ true → (is_word x.class ≡ true) × (accepts (Named owner) n rest ≡ true)
-need_word owner n x rest h = ⊎_elim (λ e. (e, sym (accepts_some (Slash owner) n x rest (spot (Named owner) n) (rw e refl)) ∙ h)) (λ e. refuse (Slash owner) n x rest (rw e refl) h) (decided (is_word x.class))
+need_word owner n x rest h = ⊎_elim (λ e. (e, sym (accepts_some (Slash owner) n x rest (spot (Named owner) n) (rw e refl)) ∙ h)) (λ e. refuse (Slash owner) n x rest (rw e refl) h) (cases_Bool (is_word x.class))
 
 need_value : (owner : Owner) (n : ℕ) (x : Lexeme) (rest : List Lexeme) → accepts (Value owner) n (x ∷ rest) ≡ true → (is_term x.class ≡ true) × (accepts (Modified owner) n rest ≡ true)
-need_value owner n x rest h = ⊎_elim (λ e. (e, sym (accepts_some (Value owner) n x rest (spot (Modified owner) n) (rw e refl)) ∙ h)) (λ e. refuse (Value owner) n x rest (rw e refl) h) (decided (is_term x.class))
+need_value owner n x rest h = ⊎_elim (λ e. (e, sym (accepts_some (Value owner) n x rest (spot (Modified owner) n) (rw e refl)) ∙ h)) (λ e. refuse (Value owner) n x rest (rw e refl) h) (cases_Bool (is_term x.class))
 
 need_uri : (n : ℕ) (x : Lexeme) (rest : List Lexeme) → accepts Uri n (x ∷ rest) ≡ true → (is_term x.class ≡ true) × (accepts Clause n rest ≡ true)
-need_uri n x rest h = ⊎_elim (λ e. (e, sym (accepts_some Uri n x rest (spot Clause n) (rw e refl)) ∙ h)) (λ e. refuse Uri n x rest (rw e refl) h) (decided (is_term x.class))
+need_uri n x rest h = ⊎_elim (λ e. (e, sym (accepts_some Uri n x rest (spot Clause n) (rw e refl)) ∙ h)) (λ e. refuse Uri n x rest (rw e refl) h) (cases_Bool (is_term x.class))
 
 -- modifiers, as far as they go
 pub record HasModifiers (owner : Owner) (n : ℕ) (ts : List Lexeme) : Type 0 where
@@ -71,7 +66,7 @@ has_modifier owner n x rest slash h = at_name rest (sym (accepts_some (Modified 
     at_value : (w : Lexeme) (more : List Lexeme) → is_word w.class ≡ true → accepts (Named owner) n more ≡ true → HasModifier owner n (x ∷ w ∷ more)
     at_value w [] e a = unvalued w [] e refl a
     at_value w (s ∷ more) e a =
-        ⊎_elim (λ f. at_term w s more e f (sym (accepts_some (Named owner) n s more (spot (Value owner) n) (rw f refl)) ∙ a)) (λ f. unvalued w (s ∷ more) e f a) (decided (is_symbol s.class))
+        ⊎_elim (λ f. at_term w s more e f (sym (accepts_some (Named owner) n s more (spot (Value owner) n) (rw f refl)) ∙ a)) (λ f. unvalued w (s ∷ more) e f a) (cases_Bool (is_symbol s.class))
 
     at_name : (ts : List Lexeme) → accepts (Slash owner) n ts ≡ true → HasModifier owner n (x ∷ ts)
     at_name [] a = absurd (false≢true a)
@@ -128,7 +123,7 @@ first_key n (x ∷ ts) h =
     let s = term_no_slash x.class e in
     let a = sym (accepts_some SortBy n x ts (spot (Modified Key) n) (rw e refl)) ∙ h in
     (e, s, accepts_some (Modified Key) n x ts (spot (Modified Key) n) (rw (s, e) refl) ∙ a))
-    (λ e. refuse SortBy n x ts (rw e refl) h) (decided (is_term x.class))
+    (λ e. refuse SortBy n x ts (rw e refl) h) (cases_Bool (is_term x.class))
 
 -- a clause
 pub record HasClause (n : ℕ) (ts : List Lexeme) : Type 0 where
@@ -162,7 +157,7 @@ has_clause n x [] e a = record { head = None; text = x.text; rest = []; is = rec
 has_clause n x (r ∷ more) e a =
     ⊎_elim (λ f. compared n x r more e f (sym (accepts_some Term n r more (spot (Modified Relation) n) (rw f refl)) ∙ a))
     (λ f. record { head = None; text = x.text; rest = r ∷ more; is = record { term = x; tokens = refl; is_term = e; spelled = refl; alone = f }; accepted = sym (on_bare n (r ∷ more) f) ∙ a; shorter = omega arith })
-    (decided (is_relation r.class))
+    (cases_Bool (is_relation r.class))
 
 -- a prefix assignment
 pub record HasPrefix (n : ℕ) (ts : List Lexeme) : Type 0 where
@@ -175,7 +170,7 @@ pub record HasPrefix (n : ℕ) (ts : List Lexeme) : Type 0 where
 
 pub has_prefix : (n : ℕ) (x : Lexeme) (ts : List Lexeme) → is_greater x.class ≡ true → accepts Sign n ts ≡ true → HasPrefix n (x ∷ ts)
 has_prefix n x [] g a = absurd (false≢true a)
-has_prefix n x (w ∷ ts) g a = ⊎_elim (λ e. at_word ts e (sym (accepts_some Sign n w ts (spot PrefixWord n) (rw e refl)) ∙ a)) (λ e. at_quoted e) (decided (is_word w.class))
+has_prefix n x (w ∷ ts) g a = ⊎_elim (λ e. at_word ts e (sym (accepts_some Sign n w ts (spot PrefixWord n) (rw e refl)) ∙ a)) (λ e. at_quoted e) (cases_Bool (is_word w.class))
   where
     word_term : (c : Class) → is_word c ≡ true → is_term c ≡ true
     word_term class.Word h = refl
@@ -195,11 +190,11 @@ has_prefix n x (w ∷ ts) g a = ⊎_elim (λ e. at_word ts e (sym (accepts_some 
 
     at_word : (more : List Lexeme) → is_word w.class ≡ true → accepts PrefixWord n more ≡ true → HasPrefix n (x ∷ w ∷ more)
     at_word [] e b = absurd (false≢true b)
-    at_word (q ∷ more) e b = ⊎_elim (λ f. at_uri q more e f (sym (accepts_some PrefixWord n q more (spot Uri n) (rw f refl)) ∙ b)) (λ f. unnamed (q ∷ more) (word_term w.class e) f (sym (on_unequal n (q ∷ more) f) ∙ b)) (decided (is_equal q.class))
+    at_word (q ∷ more) e b = ⊎_elim (λ f. at_uri q more e f (sym (accepts_some PrefixWord n q more (spot Uri n) (rw f refl)) ∙ b)) (λ f. unnamed (q ∷ more) (word_term w.class e) f (sym (on_unequal n (q ∷ more) f) ∙ b)) (cases_Bool (is_equal q.class))
 
     equal_refused : (more : List Lexeme) → accepts Clause n more ≡ true → starts is_equal more ≡ false
     equal_refused [] b = refl
-    equal_refused (q ∷ more) b = ⊎_elim (λ f. refuse Clause n q more (no_equal q.class f) b) (λ f. f) (decided (is_equal q.class))
+    equal_refused (q ∷ more) b = ⊎_elim (λ f. refuse Clause n q more (no_equal q.class f) b) (λ f. f) (cases_Bool (is_equal q.class))
       where
         no_equal : (c : Class) → is_equal c ≡ true → step_of Clause n c ≡ None
         no_equal class.Equal h = refl
@@ -207,7 +202,7 @@ has_prefix n x (w ∷ ts) g a = ⊎_elim (λ e. at_word ts e (sym (accepts_some 
 
     at_quoted : is_word w.class ≡ false → HasPrefix n (x ∷ w ∷ ts)
     at_quoted e =
-        ⊎_elim (λ (f : is_term w.class ≡ true). let b = sym (accepts_some Sign n w ts (spot Clause n) (rw (e, f) refl)) ∙ a in unnamed ts f (equal_refused ts b) b) (λ (f : is_term w.class ≡ false). refuse Sign n w ts (rw (e, f) refl) a) (decided (is_term w.class))
+        ⊎_elim (λ (f : is_term w.class ≡ true). let b = sym (accepts_some Sign n w ts (spot Clause n) (rw (e, f) refl)) ∙ a in unnamed ts f (equal_refused ts b) b) (λ (f : is_term w.class ≡ false). refuse Sign n w ts (rw (e, f) refl) a) (cases_Bool (is_term w.class))
 
 -- what is due makes some tree of the tokens, up to where the query ends
 pub record Found (due : Due) (n : ℕ) (ts : List Lexeme) : Type 0 where

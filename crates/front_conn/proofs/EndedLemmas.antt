@@ -135,6 +135,13 @@ module _ {S : Type 0} (route : Route) (here old : AnsweringState S) (is : here �
 
 -- ---- what is ended
 
+-- a work that is ended is so whichever package was in work, and whatever was summed
+answered-as : {S : Type 0} (route : Route) (view : PackageView S) (here new : AnsweringState S) (works : Option (PackageView S))
+    (totals : List Total) → IsAnsweredBy route view (record here { in_work = works; totals = totals }) new
+    → IsAnsweredBy route view here new
+answered-as route view here new works totals a =
+    record { waiting = a.waiting; waited = a.waited; of_work = a.of_work; ended = a.ended; marks = a.marks }
+
 module _ {S : Type 0} (route : Route) (view : PackageView S) (here new : AnsweringState S) (works : Option (PackageView S)) (totals : List Total)
   where
     abbrev before : AnsweringState S

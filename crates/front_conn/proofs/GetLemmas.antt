@@ -1,5 +1,5 @@
 -- A work of a GET whose legs are done: the GET is answered, or the legs for its fetch are begun.
-use Rattle.std.proofs.Common.{◌≡◌, ◌∙◌, ◌++◌, ℕ, List, Option, Some, None, Result, Ok, Err, OnOk, ap, length, subst, sym, take}
+use Rattle.std.proofs.Common.{◌≡◌, ◌∙◌, ◌++◌, ℕ, List, Option, Some, None, Result, Ok, Err, OnOk, ap, length, refl, subst, sym, take}
 use Rattle.std.specs.Prelude.{IfSome, IsSome, option_to_list}
 use Rattle.z_types.specs.declared.marks.End.{End}
 use Rattle.z_types.specs.declared.marks.Mark.{Mark}
@@ -9,7 +9,7 @@ use Rattle.z_types.specs.declared.sitting.Sitting as sitting
 use Rattle.z_types.specs.declared.work.Work.{Work}
 use Rattle.z_types.specs.declared.world.World as world
 use Rattle.route_config.specs.declared.route.Route.{Route}
-use Rattle.gateway_rules.specs.Works.{FitsWork, mark_of}
+use Rattle.gateway_rules.specs.Works.{mark_of}
 use Rattle.package.specs.steps.Ends.{cause_in, outcome_in}
 use Rattle.package.specs.steps.Packages.{IsPackageOf, PackageView, answers_of, new_package}
 use Rattle.package_rules.specs.Planned.{AreThere}
@@ -25,6 +25,10 @@ use Rattle.front_conn.proofs.HeadLemmas.{get-waits}
 
 -- ---- what is ended
 
+is-there : (thing : Option Work) (job : Work) → thing ≡ Some job → IsSome thing
+is-there None job h = absurd cc
+is-there (Some own) job h = refl
+
 module _ {S : Type 0} (route : Route) (here old : AnsweringState S) (is : here ≡ old) (job : Work) (works : work_of route old.stage ≡ Some job)
   where
     pub works-here : work_of route here.stage ≡ Some job
@@ -32,10 +36,6 @@ module _ {S : Type 0} (route : Route) (here old : AnsweringState S) (is : here �
 
     pub get-there : IsSome (work_of route here.stage)
     get-there = is-there (work_of route here.stage) job works-here
-
-    pub get-fits : (got given : Outcome) → given ≡ got → FitsWork job got → IfSome (work_of route here.stage) (λ work. FitsWork work given)
-    get-fits got given same fits =
-        if-there (work_of route here.stage) job given works-here (subst (λ (g : Outcome). FitsWork job g) (sym same) fits)
 
 -- the legs of the fetch are those of the search
 pub fetch-there : (route : Route) (got : Outcome) (old new : Served) (done job : Work) → work_of route old.stage ≡ Some done

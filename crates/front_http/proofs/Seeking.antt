@@ -3,7 +3,7 @@ use Rattle.std.proofs.Common.{◌≡◌, ◌∙◌, ◌<◌, ◌+◌, ◌-◌, �
 use Rattle.std.specs.Prelude.{is_some}
 use Rattle.sru_request.specs.Head.{empty_line, head_length, line_behind, or_else}
 use Rattle.std.proofs.Math.Seq.{take_all}
-use Rattle.std.proofs.lemmas.Bool.{lt-ltb}
+use Rattle.std.proofs.lemmas.Bool.{lt-ltb, or_parts}
 use Rattle.sru_request.specs.Request.{IsAnswerIn, IsHeadAnswer, most_head_octets}
 use Rattle.sru_request.specs.declared.faults.HeadFault.TheVariants.{HeadTooLarge}
 use Rattle.sru_request.specs.declared.head.HeadGot.TheVariants.{NeedMore}
@@ -71,10 +71,6 @@ passed-from octets passed above h =
 
 -- ---- by line feeds
 
-or-parts : (a b : Bool) → (a || b) ≡ false → (a ≡ false) × (b ≡ false)
-or-parts true b h = absurd cc
-or-parts false b h = (refl, h)
-
 -- an empty line of LF, or of CR LF, by whether the octets are those
 abbrev empty-by : (line_feed return next : Bool) → Option ℕ
 empty-by line_feed return next = if line_feed then Some 1 else (if return && next then Some 2 else None)
@@ -89,10 +85,10 @@ still-none line_feed return next e h = rw h e
 -- an empty line has a line feed
 no-empty : (rest : List ℕ) → has_line_feed rest ≡ false → empty_line rest ≡ None
 no-empty [] none = refl
-no-empty (a ∷ []) none = none-by (a == 10) (a == 13) (or-parts (a == 10) false none).0
+no-empty (a ∷ []) none = none-by (a == 10) (a == 13) (or_parts (a == 10) false none).0
 no-empty (a ∷ b ∷ rest) none =
-    let parts = or-parts (a == 10) (has_line_feed (b ∷ rest)) none in
-    still-none (a == 10) (a == 13) (b == 10) (none-by (a == 10) (a == 13) parts.0) (or-parts (b == 10) (has_line_feed rest) parts.1).0
+    let parts = or_parts (a == 10) (has_line_feed (b ∷ rest)) none in
+    still-none (a == 10) (a == 13) (b == 10) (none-by (a == 10) (a == 13) parts.0) (or_parts (b == 10) (has_line_feed rest) parts.1).0
 
 -- so none is begun by octets behind which there is no line feed
 no-more-empty : (k : ℕ) (rest : List ℕ) → empty_line (take k rest) ≡ None → has_line_feed (drop k rest) ≡ false → empty_line rest ≡ None
@@ -100,7 +96,7 @@ no-more-empty zero rest e none = no-empty rest none
 no-more-empty (suc k) [] e none = refl
 no-more-empty (suc zero) (a ∷ []) e none = e
 no-more-empty (suc zero) (a ∷ b ∷ rest) e none =
-    still-none (a == 10) (a == 13) (b == 10) e (or-parts (b == 10) (has_line_feed rest) none).0
+    still-none (a == 10) (a == 13) (b == 10) e (or_parts (b == 10) (has_line_feed rest) none).0
 no-more-empty (suc (suc k)) (a ∷ []) e none = e
 no-more-empty (suc (suc k)) (a ∷ b ∷ rest) e none = e
 
@@ -116,7 +112,7 @@ none-or a b e f = rw (e, f) refl
 pub no-new-end : (k : ℕ) (xs : List ℕ) → head_length (take k xs) ≡ None → has_line_feed (drop k xs) ≡ false → head_length xs ≡ None
 no-new-end k [] endless none = refl
 no-new-end zero (x ∷ rest) endless none =
-    let parts = or-parts (x == 10) (has_line_feed rest) none in
+    let parts = or_parts (x == 10) (has_line_feed rest) none in
     none-or (line_behind x rest) (head_length rest) (line-by (x == 10) None (empty_line rest) (rw parts.0 refl) (λ e. no-empty rest parts.1))
     (no-new-end zero rest refl parts.1)
 no-new-end (suc k) (x ∷ rest) endless none =

@@ -1,6 +1,6 @@
 -- How an account goes on
 use Rattle.std.proofs.Common.{◌≡◌, ◌≤◌, ◌+◌, ◌&&◌, ℕ, Bool, true, false, not, max, nat_le, Option, refl, subst, sym, arith}
-use Rattle.std.proofs.lemmas.Bool.Decides.{leb_tells}
+use Rattle.std.proofs.lemmas.Bool.{leb-true}
 use Rattle.z_types.specs.declared.key.SetKey.{SetKey}
 use Rattle.gw_outside.specs.Sessions.{heard_counted}
 use Rattle.gw_outside.specs.declared.backends.Heard.{Heard}
@@ -48,9 +48,6 @@ rest_of : (a b : Bool) → (a && b) ≡ true → b ≡ true
 rest_of true b h = h
 rest_of false b h = cc
 
-at_most : (m n : ℕ) → nat_le m n ≡ true → m ≤ n
-at_most m n h = grind (arith, leb_tells)
-
 enough : (h n : Ahead) (r : Rises) → is_enough h n r ≡ true → Enough h n r
 enough h n r e =
     let e1 = rest_of _ _ e in
@@ -59,13 +56,13 @@ enough h n r e =
     let e4 = rest_of _ _ e3 in
     let e5 = rest_of _ _ e4 in
     record {
-      searches = at_most _ _ (first_of _ _ e);
-      opens = at_most _ _ (first_of _ _ e1);
-      dials = at_most _ _ (first_of _ _ e2);
-      one_open = at_most _ _ (first_of _ _ e3);
-      two_faults = at_most _ _ (first_of _ _ e4);
-      one_full = at_most _ _ (first_of _ _ e5);
-      one_booked = at_most _ _ (rest_of _ _ e5);
+      searches = leb-true _ _ (first_of _ _ e);
+      opens = leb-true _ _ (first_of _ _ e1);
+      dials = leb-true _ _ (first_of _ _ e2);
+      one_open = leb-true _ _ (first_of _ _ e3);
+      two_faults = leb-true _ _ (first_of _ _ e4);
+      one_full = leb-true _ _ (first_of _ _ e5);
+      one_booked = leb-true _ _ (rest_of _ _ e5);
     }
 
 -- one more is so many

@@ -1,6 +1,6 @@
 -- How a leg goes on after a fault, at the end of its patience, for want of memory and once it is done
-use Rattle.std.proofs.Common.{◌≡◌, ◌≤◌, ◌<◌, ◌+◌, ℕ, Bool, true, false, is_some, max, nat_le, refl, ap, subst, sym, arith, if◌then◌else◌}
-use Rattle.std.proofs.lemmas.Bool.Decides.{leb_tells}
+use Rattle.std.proofs.Common.{◌≡◌, ◌≤◌, ◌<◌, ◌+◌, ℕ, Bool, true, false, is_some, max, refl, ap, subst, sym, arith, if◌then◌else◌}
+use Rattle.std.proofs.lemmas.Bool.{le-leb, lt-leb}
 use Rattle.z_types.specs.declared.marks.Mark.TheVariants as mark
 use Rattle.z_types.specs.declared.sitting.Sitting as sitting
 use Rattle.z_types.specs.declared.world.World as world
@@ -26,20 +26,14 @@ use Rattle.leg.proofs.AccountSteps.{account_goes, within_on, within_wait, within
 pub spent_once : (n : ℕ) → 1 ≤ more true n
 spent_once n = omega arith
 
-is_at_most : (a b : ℕ) → a ≤ b → nat_le a b ≡ true
-is_at_most a b h = grind (arith, leb_tells)
-
 pub silent_is : {S : Type 0} (patience looks : ℕ) (held : Held S) (again : Phase S) → patience ≤ looks
     → Losing held.seat (answer.Marked (mark.Silent patience)) ≡ unless_silent patience held looks again
-silent_is patience looks held again h = rw (is_at_most patience looks h) refl
-
-is_more : (a b : ℕ) → b < a → nat_le a b ≡ false
-is_more a b h = grind (arith, leb_tells)
+silent_is patience looks held again h = rw (le-leb patience looks h) refl
 
 -- it is looked again
 pub again_is : {S : Type 0} (patience looks : ℕ) (held : Held S) (again : Phase S) → looks < patience
     → again ≡ unless_silent patience held looks again
-again_is patience looks held again h = rw (is_more patience looks h) refl
+again_is patience looks held again h = rw (lt-leb patience looks h) refl
 
 -- a look in vain is known
 pub wait_account : (wanted given : Bool) (looks class : ℕ) (a b : Account) → b ≡ counted class no_rises given (looks + 1) a

@@ -1,6 +1,7 @@
 -- How a leg goes on with records
 use Rattle.std.proofs.Common.{◌≡◌, ◌≤◌, ◌+◌, ℕ, suc, Bool, true, false, nat_le, List, [], ◌∷◌, ◌++◌, length, Contains, Option, is_some, Result, Err, inl, inr, refl, ap, subst, sym, add-zero, arith, if◌then◌else◌}
 use Rattle.std.proofs.lemmas.Bool.Decides.{leb_tells}
+use Rattle.std.proofs.lemmas.Bool.{leb-true}
 use Rattle.z_types.specs.Pending.{resting}
 use Rattle.z_types.specs.declared.diagnostic.Diag.{Diag}
 use Rattle.z_types.specs.declared.key.SetKey.{SetKey}
@@ -53,9 +54,6 @@ records_join record_at first (item ∷ items) others h k = (
   records_join record_at (first + 1) items others h.1
       (let P : ℕ → Type 0 = λ n. AreRecords record_at n others in subst P (shifted first (length items)) k),
 )
-
-at_most : (a b : ℕ) → nat_le a b ≡ true → a ≤ b
-at_most a b h = grind (arith, leb_tells)
 
 more_than : (a b : ℕ) → nat_le a b ≡ false → b + 1 ≤ a
 more_than a b h = grind (arith, leb_tells)
@@ -135,7 +133,7 @@ module _ {W S : Type 0} (w : world.Ghosts W) (t : sitting.Ghosts S W) where
             account = account_goes (ahead_with 0 held.given) (ahead_with (one_if wanted) false) looks 0 terms.class gone held.given 0 a b e (gone_enough wanted held.given) (omega arith) k;
           };
           stands = among;
-          within = within_gone terms.pool old (Ready left items) terms.class held.given a b e refl (let x = at_most b.gones terms.pool.repeats few in omega arith) n;
+          within = within_gone terms.pool old (Ready left items) terms.class held.given a b e refl (let x = leb-true b.gones terms.pool.repeats few in omega arith) n;
         }
         | false ↦ λ few. record {
           kept = record {

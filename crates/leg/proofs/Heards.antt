@@ -1,7 +1,8 @@
 -- What is known of a session once it was looked at
-use Rattle.std.proofs.Common.{◌≡◌, ◌≢◌, ◌≤◌, ◌<◌, ◌+◌, ◌-◌, ◌^◌, ℕ, Bool, true, false, List, length, Option, None, Some, Result, Ok, Err, refl, sym, ◌∙◌, ap, subst, arith, if◌then◌else◌}
+use Rattle.std.proofs.Common.{◌≡◌, ◌≢◌, ◌≤◌, ◌<◌, ◌+◌, ◌-◌, ◌^◌, ℕ, Bool, false, List, length, Option, None, Some, Result, Ok, Err, refl, sym, ◌∙◌, ap, subst, arith, if◌then◌else◌}
 use Rattle.std.proofs.lemmas.Cmp.{nat_list_eq_equiv}
 use Rattle.std.proofs.lemmas.Fmt.{decimal_injective}
+use Rattle.std.proofs.lemmas.Bool.{false_from_ne_true}
 use Rattle.z_types.specs.Pending.{asked, opening}
 use Rattle.z_types.specs.declared.address.Address.{Address}
 use Rattle.z_types.specs.declared.ask.Ask.TheVariants as ask
@@ -27,14 +28,10 @@ use Rattle.leg.specs.steps.Replies.{InitHeard, SearchHeard, PresentHeard}
 use Rattle.leg.specs.Rules.{next_ask}
 use Rattle.leg.proofs.Own.{own_made}
 
-no_longer : (b : Bool) → (b ≡ true → ⊥) → b ≡ false
-no_longer true h = absurd (h refl)
-no_longer false h = refl
-
 -- the names of two slots are two texts
 other_name : (a b : ℕ) → a < 2 ^ 32 → b < 2 ^ 32 → b ≢ a → is_same (slot_name a) (slot_name b) ≡ false
 other_name a b p q h =
-    no_longer (is_same (slot_name a) (slot_name b)) (λ e.
+    false_from_ne_true (is_same (slot_name a) (slot_name b)) (λ e.
     h (sym (decimal_injective a b (omega arith) (omega arith) (text_exact (slot_name a) (slot_name b) e))))
 
 module _ {W S : Type 0} (w : world.Ghosts W) (t : sitting.Ghosts S W) where

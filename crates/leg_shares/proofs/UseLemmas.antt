@@ -1,6 +1,7 @@
 -- What is kept of a class is decided by the last uses of it and of its keys
-use Rattle.std.proofs.Common.{◌≡◌, ◌∙◌, ◌||◌, ◌-◌, ◌≤◌, ℕ, Bool, true, false, List, [], ◌∷◌, Option, Some, refl, sym, ap, subst, nat_le, arith}
+use Rattle.std.proofs.Common.{◌≡◌, ◌∙◌, ◌||◌, ◌-◌, ◌≤◌, ℕ, Bool, true, false, List, [], ◌∷◌, Option, Some, sym, ap, subst, nat_le, arith}
 use Rattle.std.proofs.lemmas.Bool.Decides.{leb_tells}
+use Rattle.std.proofs.Math.Bool.{or-false}
 use Rattle.z_types.specs.declared.address.Address.{Address}
 use Rattle.z_types.specs.declared.key.SetKey.{SetKey}
 use Rattle.z_types.specs.declared.world.World as world
@@ -35,10 +36,6 @@ module _ {W S : Type 0} (w : world.Ghosts W) (route : Route) (class : ℕ) (at :
 
 not-late : (ttl now : ℕ) → 1 ≤ ttl → nat_le ttl (now - now) ≡ false
 not-late ttl now some = grind (arith, leb_tells)
-
-or-false : (a : Bool) → (a || false) ≡ a
-or-false true = refl
-or-false false = refl
 
 pub again-none : {W : Type 0} (w : world.Ghosts W) (route : Route) (class now : ℕ) (before : List Use) (key : SetKey) → ArePoolNumbers route.pool
     → last_at (is_in class) before ≡ Some now → last_at (is_set_in class key) before ≡ Some now

@@ -9,12 +9,10 @@ use Rattle.std.proofs.lemmas.List.FromFn.{length-range_with_len, get_or-range_wi
 use Rattle.std.proofs.lemmas.List.Folds.{length-flat_map-take}
 use Rattle.std.proofs.lemmas.List.Sums.{sum_by_more}
 use Rattle.std.proofs.lemmas.Option.{slice_get_read, get_or_from_slice_get}
+use Rattle.std.proofs.lemmas.Bool.{lt-leb}
 use Rattle.z_types.specs.MergedOrder.{Place, of_rank, of_rank_from, merged, place_at}
 use Rattle.multi_merge.specs.Ranks.{up_to, IsOfRank}
 use Rattle.multi_merge.proofs.UpTo.{up_to-cons, none_come}
-
-no_le : (a b : ℕ) → b < a → nat_le a b ≡ false
-no_le a b h = grind (arith, h)
 
 -- one leg more has one place more of a rank, where it has a record of that rank
 place-step : (b : Bool) (here : Place) (places : List Place)
@@ -63,7 +61,7 @@ fold-max a (n ∷ hits) = omega (arith, fold-max (max a n) hits)
 none_above : (leg a rank : ℕ) (hits : List ℕ) → fold max a hits < rank → of_rank_from leg hits rank ≡ []
 none_above leg a rank [] h = refl
 none_above leg a rank (n ∷ hits) h =
-    let off : nat_le rank n ≡ false = no_le rank n (omega (arith, fold-max (max a n) hits)) in
+    let off : nat_le rank n ≡ false = lt-leb rank n (omega (arith, fold-max (max a n) hits)) in
     rw off (none_above (leg + 1) (max a n) rank hits h)
 
 -- a position of a rank has fewer records of the rank before it than the rank has

@@ -2,6 +2,7 @@
 use Rattle.std.proofs.Common.{◌≡◌, ◌∙◌, ◌<◌, ◌+◌, ◌&&◌, ℕ, Bool, true, false, List, [], ◌∷◌, ◌++◌, length, take, drop, get_or, Option, None, Some, IfSome, IsTrue, Bor, is_some, ap, sym, refl, subst}
 use Rattle.std.specs.Option.{option_copied}
 use Rattle.std.proofs.lemmas.List.Elements.{All-append, All-cons, All-nil}
+use Rattle.std.proofs.lemmas.Bool.{and_parts}
 use Rattle.leg.specs.LegView.{LegView}
 use Rattle.leg.specs.Phases.{IsDone, answered, is_done}
 use Rattle.leg.specs.declared.answers.LegAnswer.{LegAnswer}
@@ -11,10 +12,6 @@ use Rattle.leg.specs.Right.{AnswerFits}
 use Rattle.package_rules.proofs.Taken.{parted, take_next}
 use Rattle.package.specs.steps.Packages.{AreDone, HasFitting}
 use Rattle.package.specs.steps.Turns.{all_done}
-
-parts : (a b : Bool) → (a && b) ≡ true → (a ≡ true) × (b ≡ true)
-parts true b h = (refl, h)
-parts false b h = absurd cc
 
 -- what is lent is there where its owner is
 pub some_lent : {X : Type 0} (lent : Option (Bor X)) → is_some (option_copied lent) ≡ is_some lent
@@ -59,7 +56,7 @@ module _ {S : Type 0} where
   done_behind : (front legs : List (LegView S)) → all_done front ≡ true → all_done (front ++ legs) ≡ all_done legs
   done_behind [] legs done = refl
   done_behind (leg ∷ front) legs done =
-      let both = parts (is_done leg.phase) (all_done front) done in
+      let both = and_parts (is_done leg.phase) (all_done front) done in
       ap (λ (b : Bool). b && all_done (front ++ legs)) both.0 ∙ done_behind front legs both.1
 
   -- one leg more

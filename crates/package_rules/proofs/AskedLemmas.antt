@@ -1,6 +1,6 @@
 -- A session with a target may be asked for what a work asks of it
-use Rattle.std.proofs.Common.{◌≡◌, ◌||◌, ◌∙◌, Bool, true, false, ℕ, List, length, All, Option, None, Some, IfSome, subst, sym, refl, ap, arith, inl, inr, slice_get, option_map}
-use Rattle.std.proofs.lemmas.Bool.{ltb-false}
+use Rattle.std.proofs.Common.{◌≡◌, ◌∙◌, false, ℕ, List, length, All, Option, None, Some, IfSome, subst, sym, ap, arith, inl, inr, slice_get, option_map}
+use Rattle.std.proofs.lemmas.Bool.{ltb-false, or_parts}
 use Rattle.std.proofs.lemmas.List.Elements.{All-get_or, All-weaker, recursion_from_All}
 use Rattle.std.proofs.lemmas.Option.{slice_get_within, get_or_from_slice_get, option_and_then_some, same_Some}
 use Rattle.z_types.specs.declared.address.Address.{Address}
@@ -59,20 +59,16 @@ dbs_short route place found sound h =
 
 -- ---- searches
 
-neither : (a b : Bool) → (a || b) ≡ false → (a ≡ false) × (b ≡ false)
-neither true b h = absurd cc
-neither false b h = (refl, h)
-
 -- a structure in which no operand is a result set
 no_set : (tree : Tree) → names_a_set tree ≡ false → HasNumbersOnly tree → HasNoSet tree
 no_set (leaf attrs term) h numbers = numbers
 no_set (operand name) h numbers = absurd cc
 no_set (and l r) h numbers =
-    let both = neither (names_a_set l) (names_a_set r) h in (no_set l both.0 numbers.0, no_set r both.1 numbers.1)
+    let both = or_parts (names_a_set l) (names_a_set r) h in (no_set l both.0 numbers.0, no_set r both.1 numbers.1)
 no_set (or l r) h numbers =
-    let both = neither (names_a_set l) (names_a_set r) h in (no_set l both.0 numbers.0, no_set r both.1 numbers.1)
+    let both = or_parts (names_a_set l) (names_a_set r) h in (no_set l both.0 numbers.0, no_set r both.1 numbers.1)
 no_set (and_not l r) h numbers =
-    let both = neither (names_a_set l) (names_a_set r) h in (no_set l both.0 numbers.0, no_set r both.1 numbers.1)
+    let both = or_parts (names_a_set l) (names_a_set r) h in (no_set l both.0 numbers.0, no_set r both.1 numbers.1)
 
 query_of : (asked : Work) (query : RpnQuery) → IsAskable asked → SearchesBy query asked → IsAskableQuery query
 query_of (work.Search login legs by small large medium small_element medium_element syntax room) query asks same =

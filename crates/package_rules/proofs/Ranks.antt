@@ -6,6 +6,7 @@ use Rattle.std.specs.List.{range_with_len}
 use Rattle.std.proofs.lemmas.Bool.Decides.{leb_tells}
 use Rattle.std.proofs.lemmas.List.{map-append}
 use Rattle.std.proofs.lemmas.List.Elements.{filter-append}
+use Rattle.std.proofs.lemmas.Bool.{lt-leb}
 use Rattle.z_types.specs.MergedOrder.{Place, of_rank, of_rank_from, merged, place_at}
 use Rattle.package_rules.specs.Asked.{ranks_of}
 use Rattle.package_rules.specs.steps.Spans.{RunTo}
@@ -88,12 +89,9 @@ of_one_rank : (leg : ℕ) (hits : List ℕ) (rank : ℕ) → 1 ≤ rank
     → ranks_of leg (of_rank hits rank) ≡ cond (nat_le rank (get_or hits leg 0)) (rank ∷ []) []
 of_one_rank leg hits rank some = ap (λ (l : ℕ). ranks_of l (of_rank hits rank)) (omega arith) ∙ one_of_rank 0 leg rank hits some
 
-too_high : (a b : ℕ) → b < a → nat_le a b ≡ false
-too_high a b h = grind (arith, h)
-
 none_of_rank : (leg : ℕ) (hits : List ℕ) (rank : ℕ) → 1 ≤ rank → get_or hits leg 0 < rank → ranks_of leg (of_rank hits rank) ≡ []
 none_of_rank leg hits rank some above =
-    of_one_rank leg hits rank some ∙ ap (λ (b : Bool). cond b (rank ∷ []) []) (too_high rank (get_or hits leg 0) above)
+    of_one_rank leg hits rank some ∙ ap (λ (b : Bool). cond b (rank ∷ []) []) (lt-leb rank (get_or hits leg 0) above)
 
 -- ranks above the hits of a leg have no place of it
 none_above : (leg : ℕ) (hits : List ℕ) (from count : ℕ) → 1 ≤ from → get_or hits leg 0 < from

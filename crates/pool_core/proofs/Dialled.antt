@@ -1,6 +1,5 @@
 -- A session that is dialled
 use Rattle.std.proofs.Common.{◌≡◌, ℕ, ◌+◌, ◌-◌, ◌^◌, ◌<◌, ◌≤◌, min, true, nat_lt, List, [], ◌∷◌, ◌++◌, length, get_or, filter, refl, sym, ◌∙◌, ap, subst, arith, All}
-use Rattle.std.proofs.lemmas.Bool.Decides.{leb_tells}
 use Rattle.std.proofs.lemmas.List.{length-append, get_or_default}
 use Rattle.std.proofs.lemmas.List.Elements.{All-push}
 use Rattle.z_types.specs.declared.address.Address.{Address}
@@ -12,9 +11,6 @@ use Rattle.pool_sets.specs.Sessions.{Session, open_of, member_for}
 use Rattle.pool_sets.specs.Plain.{Pool, address_at, open_one}
 use Rattle.pool_core.specs.PoolView.{IsPool, Rests, Ascends}
 use Rattle.pool_core.proofs.Ascending.{ascends_push}
-
-pub less : (a b : ℕ) → a < b → nat_lt a b ≡ true
-less a b h = grind (arith, leb_tells)
 
 -- all pass
 pub all_pass : {X : Type 0} (xs : List X) → filter (λ _. true) xs ≡ xs

@@ -1,9 +1,8 @@
 -- The session of a seat, at its place
-use Rattle.std.proofs.Common.{◌≡◌, ◌==◌, ◌&&◌, ℕ, suc, zero, ◌<◌, ◌≤◌, ◌^◌, Bool, true, false, cond, nat_lt, nat_le, List, [], ◌∷◌, length, get_or, set, map, find, Option, None, Some, is_some, refl, sym, ◌∙◌, ap, subst, arith, position}
+use Rattle.std.proofs.Common.{◌≡◌, ◌==◌, ◌&&◌, ℕ, suc, zero, ◌<◌, ◌≤◌, ◌^◌, Bool, true, false, cond, nat_lt, List, [], ◌∷◌, length, get_or, set, map, find, Option, None, Some, is_some, refl, sym, ◌∙◌, ap, subst, arith, position}
 use Rattle.std.specs.List.{position_or_len}
 use Rattle.std.specs.Option.{option_map_or}
-use Rattle.std.proofs.lemmas.Bool.Decides.{leb_tells}
-use Rattle.std.proofs.lemmas.Bool.{eqb-true}
+use Rattle.std.proofs.lemmas.Bool.{eqb-true, ltb-true, ltb-false, le-leb, lt-leb}
 use Rattle.std.proofs.lemmas.List.{length-set}
 use Rattle.std.proofs.lemmas.List.Elements.{All-set}
 use Rattle.std.proofs.lemmas.List.Sums.{passes_at_first, fails_before_first}
@@ -16,7 +15,6 @@ use Rattle.pool_sets.specs.declared.doors.Seat.{Seat}
 use Rattle.pool_sets.specs.Sessions.{Session, is_out, member_for}
 use Rattle.pool_sets.specs.Plain.{Pool, address_at, without_seat, redial_member, redial, with_sessions, lost, put, is_seat}
 use Rattle.pool_core.specs.PoolView.{PoolView, IsPool, Rests, Ascends}
-use Rattle.pool_core.proofs.First.{is_below, is_not_below}
 use Rattle.pool_core.proofs.Ascending.{none_below, below_tail, stood, one_changes, ascends_put}
 
 longer : (k n m : ℕ) → k < n → n ≤ m → k < m
@@ -29,7 +27,7 @@ module _ {X : Type 0} (q : X → Bool) where
     | true ↦ λ k.
         let is_i : Some (position_or_len q xs) ≡ Some i = subst (λ b. cond b (Some (position_or_len q xs)) None ≡ Some i) k e in
         let same : position_or_len q xs ≡ i = cc in
-        let within = is_below (position_or_len q xs) (length xs) k in
+        let within = ltb-true (position_or_len q xs) (length xs) k in
         (subst (λ n. n < length xs) same within, λ d. subst (λ n. q (get_or xs n d) ≡ true) same (passes_at_first q xs d within))
     | false ↦ λ k. let bad : ◌≡◌ {A = Option ℕ} None (Some i) = subst (λ b. cond b (Some (position_or_len q xs)) None ≡ Some i) k e in cc
   ]) refl
@@ -38,7 +36,7 @@ module _ {X : Type 0} (q : X → Bool) where
   pub no_place : (xs : List X) → position q xs ≡ None → (k : ℕ) (d : X) → k < length xs → q (get_or xs k d) ≡ false
   no_place xs e k d h = (elim (nat_lt (position_or_len q xs) (length xs)) as (λ b. nat_lt (position_or_len q xs) (length xs) ≡ b → q (get_or xs k d) ≡ false) [
     | true ↦ λ t. let bad : ◌≡◌ {A = Option ℕ} (Some (position_or_len q xs)) None = subst (λ b. cond b (Some (position_or_len q xs)) None ≡ None) t e in cc
-    | false ↦ λ t. fails_before_first q xs k d (longer k (length xs) (position_or_len q xs) h (is_not_below (position_or_len q xs) (length xs) t))
+    | false ↦ λ t. fails_before_first q xs k d (longer k (length xs) (position_or_len q xs) h (ltb-false (position_or_len q xs) (length xs) t))
   ]) refl
 
   head_fails : (x : X) (xs : List X) → ((k : ℕ) (d : X) → k < length (x ∷ xs) → q (get_or (x ∷ xs) k d) ≡ false) → q x ≡ false
@@ -91,28 +89,21 @@ module _ {W S : Type 0} (t : sitting.Ghosts S W) where
   pool_out os given opens place o spot within e k =
       pool_put os given opens opens place (stood o (Out spot)) o within (ap (λ x. x.number) e) tt (omega arith) k
 
--- a rest that is put back
-pub not_le : (a b : ℕ) → b < a → nat_le a b ≡ false
-not_le a b h = grind (arith, leb_tells)
-
-pub is_le : (a b : ℕ) → a ≤ b → nat_le a b ≡ true
-is_le a b h = grind (arith, leb_tells)
-
 module _ {S : Type 0} where
   abbrev pub idle_now : Parts S → ℕ → Session S → Session S
   idle_now parts now o = record { number = o.number; class = o.class; member = o.member; stand = Idle parts now }
 
   pub put_at : (seat : Seat) (parts : Parts S) (now : ℕ) (p : Pool S) (place : ℕ) (o : Session S) → place < length p.sessions → ((d : Session S) → is_seat seat (get_or p.sessions place d) ≡ true) → o ≡ get_or p.sessions place o → Ascends 0 p.given p.sessions → parts.table.most ≤ p.sets_max → with_sessions (set p.sessions place (idle_now parts now o)) p ≡ put seat parts now p
   put_at seat parts now p place o within is e a le =
-      rw (is_le parts.table.most p.sets_max le) (ap (λ os. with_sessions os p)
+      rw (le-leb parts.table.most p.sets_max le) (ap (λ os. with_sessions os p)
       (ap (λ x. set p.sessions place (idle_now parts now x)) e ∙ sym (one_changes (is_seat seat) (idle_now parts now) seat.number (λ x h. (seat_number seat x h).0) 0 p.given place p.sessions o within a (is o))))
 
   pub put_nowhere : (seat : Seat) (parts : Parts S) (now : ℕ) (p : Pool S) → ((k : ℕ) (d : Session S) → k < length p.sessions → is_seat seat (get_or p.sessions k d) ≡ false) → parts.table.most ≤ p.sets_max → p ≡ put seat parts now p
   put_nowhere seat parts now p none le =
-      rw (is_le parts.table.most p.sets_max le) (ap (λ os. with_sessions os p) (sym (none_changes (is_seat seat) (idle_now parts now) p.sessions none)))
+      rw (le-leb parts.table.most p.sets_max le) (ap (λ os. with_sessions os p) (sym (none_changes (is_seat seat) (idle_now parts now) p.sessions none)))
 
   pub put_too_large : (seat : Seat) (parts : Parts S) (now : ℕ) (p : Pool S) → p.sets_max < parts.table.most → lost seat p ≡ put seat parts now p
-  put_too_large seat parts now p h = rw (not_le parts.table.most p.sets_max h) refl
+  put_too_large seat parts now p h = rw (lt-leb parts.table.most p.sets_max h) refl
 
   -- a redialled session stands at its place
   abbrev pub moved : Seat → List Address → ℕ → Session S → Session S

@@ -5,6 +5,8 @@ use Rattle.std.proofs.lemmas.Bool.Decides.{leb_tells}
 use Rattle.std.specs.List.Sorted.{IsNonDecreasingBy, IsPartitionPoint}
 use Rattle.std.proofs.lemmas.List.{get_or_default}
 use Rattle.std.proofs.lemmas.List.Elements.{All-map, All-weaker}
+use Rattle.std.proofs.lemmas.Bool.{false_from_ne_true, lt-ltb, ltb-true, ltb-false}
+use Rattle.std.proofs.Math.Numerals.{one-add}
 use Rattle.z_types.specs.declared.key.SetKey.{SetKey}
 use Rattle.z_types.specs.declared.address.Address.{Address}
 use Rattle.pool_sets.specs.declared.doors.Seat.{Seat}
@@ -19,41 +21,25 @@ use Rattle.pool_index.specs.Told.{seen, told}
 use Rattle.pool_index.specs.RosterView.{Rises, IsPlace, RiseIn, is_holder, IsHolder, IsNoHolder}
 use Rattle.pool_index.proofs.Lazy.{seen_number}
 
-less : (a b : ℕ) → nat_lt a b ≡ true → a < b
-less a b h = grind (arith, leb_tells)
-
-not_less : (a b : ℕ) → nat_lt a b ≡ false → b ≤ a
-not_less a b h = grind (arith, leb_tells)
-
-is_less : (a b : ℕ) → a < b → nat_lt a b ≡ true
-is_less a b h = grind (arith, leb_tells)
-
 no_less : (n : ℕ) → nat_lt n n ≡ false
 no_less n = grind (arith, leb_tells)
 
-one_more : (n : ℕ) → 1 + n ≡ suc n
-one_more n = omega arith
-
 none_under : (i : ℕ) → i < 0 → ⊥
 none_under i h = omega arith
-
-is_false : (b : Bool) → (b ≡ true → ⊥) → b ≡ false
-is_false true h = absurd (h refl)
-is_false false h = refl
 
 module _ {X : Type 0} (q : X → Bool) where
   place_or_len : (xs : List X) (i : ℕ) → i < length xs → ((d : X) → q (get_or xs i d) ≡ true) → ((k : ℕ) (d : X) → k < i → q (get_or xs k d) ≡ false) → position_or_len q xs ≡ i
   place_or_len [] i w h f = absurd (none_under i w)
   place_or_len (x ∷ xs) zero w h f = rw (h x) refl
-  place_or_len (x ∷ xs) (suc i) w h f = rw (f 0 x (omega arith)) (ap (λ n. 1 + n) (place_or_len xs i (omega arith) h (λ k d l. f (suc k) d (omega arith))) ∙ one_more i)
+  place_or_len (x ∷ xs) (suc i) w h f = rw (f 0 x (omega arith)) (ap (λ n. 1 + n) (place_or_len xs i (omega arith) h (λ k d l. f (suc k) d (omega arith))) ∙ one-add i)
 
   -- the place of the first that passes
   pub place_is : (xs : List X) (i : ℕ) → i < length xs → ((d : X) → q (get_or xs i d) ≡ true) → ((k : ℕ) (d : X) → k < i → q (get_or xs k d) ≡ false) → position q xs ≡ Some i
-  place_is xs i w h f = rw (place_or_len xs i w h f, is_less i (length xs) w) refl
+  place_is xs i w h f = rw (place_or_len xs i w h f, lt-ltb i (length xs) w) refl
 
   all_fail : (xs : List X) → All (λ x. q x ≡ false) xs → position_or_len q xs ≡ length xs
   all_fail [] f = refl
-  all_fail (x ∷ xs) f = rw (f 0 x (omega arith)) (ap (λ n. 1 + n) (all_fail xs (λ k d l. f (suc k) d (omega arith))) ∙ one_more (length xs))
+  all_fail (x ∷ xs) f = rw (f 0 x (omega arith)) (ap (λ n. 1 + n) (all_fail xs (λ k d l. f (suc k) d (omega arith))) ∙ one-add (length xs))
 
   -- where none passes, there is no place
   pub no_place_is : (xs : List X) → All (λ x. q x ≡ false) xs → position q xs ≡ None
@@ -80,25 +66,25 @@ module _ {S : Type 0} (index : Indexed) (digest class : ℕ) (at : List Address)
   -- a session that holds one has at least the number that is next
   at_least : (from : ℕ) (n : Option ℕ) → NoneBelow from → IsNext index digest from n → (k : ℕ) (d : Session S) → k < length os → is_holder class at key (get_or os k d) ≡ true → IsAtMost n (get_or os k d).number
   at_least from n none next k d w h = (elim (nat_lt (get_or os k d).number from) as (λ b. nat_lt (get_or os k d).number from ≡ b → IsAtMost n (get_or os k d).number) [
-    | true ↦ λ t. let bad : true ≡ false = sym h ∙ none k d w (less (get_or os k d).number from t) in cc
-    | false ↦ λ t. next.least (get_or os k d).number (not_less (get_or os k d).number from t) (up.small k d w) (found k d w h)
+    | true ↦ λ t. let bad : true ≡ false = sym h ∙ none k d w (ltb-true (get_or os k d).number from t) in cc
+    | false ↦ λ t. next.least (get_or os k d).number (ltb-false (get_or os k d).number from t) (up.small k d w) (found k d w h)
   ]) refl
 
   pub place_found : (from n i : ℕ) → NoneBelow from → IsNext index digest from (Some n) → IsHolder n class at key os i → holder_place class at key os ≡ Some i
   place_found from n i none next is =
-      place_is (is_holder class at key) os i is.within is.holds (λ k d l. is_false (is_holder class at key (get_or os k d)) (λ t.
+      place_is (is_holder class at key) os i is.within is.holds (λ k d l. false_from_ne_true (is_holder class at key (get_or os k d)) (λ t.
       let low = subst (λ m. (get_or os k d).number < m) (is.number_there d) (up.order k i d l is.within) in
       too_low n (get_or os k d).number (at_least from (Some n) none next k d (omega arith) t) low))
 
   pub none_found : (from : ℕ) → NoneBelow from → IsNext index digest from None → holder_place class at key os ≡ None
-  none_found from none next = no_place_is (is_holder class at key) os (λ k d w. is_false (is_holder class at key (get_or os k d)) (λ t. at_least from None none next k d w t))
+  none_found from none next = no_place_is (is_holder class at key) os (λ k d w. false_from_ne_true (is_holder class at key (get_or os k d)) (λ t. at_least from None none next k d w t))
 
   one_case : (n m : ℕ) → n ≤ m → m < n + 1 → m ≡ n
   one_case n m h k = omega arith
 
   -- where that of the number that is next holds none, no session up to that number does
   pub none_more : (from n : ℕ) → NoneBelow from → IsNext index digest from (Some n) → IsNoHolder n class at key os → NoneBelow (n + 1)
-  none_more from n none next lacks k d w l = is_false (is_holder class at key (get_or os k d)) (λ t.
+  none_more from n none next lacks k d w l = false_from_ne_true (is_holder class at key (get_or os k d)) (λ t.
       let bad : true ≡ false = sym t ∙ lacks k d w (one_case n (get_or os k d).number (at_least from (Some n) none next k d w t) l) in cc)
 
   -- no number is above the last
@@ -127,17 +113,17 @@ module _ {S : Type 0} where
   -- numbers that rise do not fall
   pub not_falling : (bs : List (Berth (Session S))) → Rises bs → IsNonDecreasingBy (λ b. b.session.number) bs
   not_falling bs up i j d h w = (elim (nat_lt i j) as (λ t. nat_lt i j ≡ t → (get_or bs i d).session.number ≤ (get_or bs j d).session.number) [
-    | true ↦ λ t. at_most (get_or bs i d).session.number (get_or bs j d).session.number (up i j d (less i j t) w)
-    | false ↦ λ t. number_at bs i j d (same_place i j (not_less i j t) h)
+    | true ↦ λ t. at_most (get_or bs i d).session.number (get_or bs j d).session.number (up i j d (ltb-true i j t) w)
+    | false ↦ λ t. number_at bs i j d (same_place i j (ltb-false i j t) h)
   ]) refl
 
   -- one session has a number
   pub one_place : (number : ℕ) (bs : List (Berth (Session S))) (i : ℕ) → Rises bs → IsPlace number bs i → (k : ℕ) (d : Berth (Session S)) → k < length bs → (get_or bs k d).session.number ≡ number → k ≡ i
   one_place number bs i up is k d w e = (elim (nat_lt k i) as (λ t. nat_lt k i ≡ t → k ≡ i) [
-    | true ↦ λ t. absurd (apart (get_or bs k d).session.number (get_or bs i d).session.number number (up k i d (less k i t) is.within) e (is.number_there d))
+    | true ↦ λ t. absurd (apart (get_or bs k d).session.number (get_or bs i d).session.number number (up k i d (ltb-true k i t) is.within) e (is.number_there d))
     | false ↦ λ t. (elim (nat_lt i k) as (λ u. nat_lt i k ≡ u → k ≡ i) [
-      | true ↦ λ u. absurd (apart (get_or bs i d).session.number (get_or bs k d).session.number number (up i k d (less i k u) w) (is.number_there d) e)
-      | false ↦ λ u. same_place k i (not_less k i t) (not_less i k u)
+      | true ↦ λ u. absurd (apart (get_or bs i d).session.number (get_or bs k d).session.number number (up i k d (ltb-true i k u) w) (is.number_there d) e)
+      | false ↦ λ u. same_place k i (ltb-false k i t) (ltb-false i k u)
     ]) refl
   ]) refl
 
@@ -147,15 +133,15 @@ module _ {S : Type 0} where
   module _ (number : ℕ) (bs : List (Berth (Session S))) (i : ℕ) (point : NumberPoint number bs i) where
     -- no session has the number, where all numbers are less
     pub all_less : length bs ≤ i → All (λ b. b.session.number ≢ number) bs
-    all_less h k d w e = not_under (get_or bs k d).session.number number (less (get_or bs k d).session.number number (point.0 k d (omega arith) (omega arith))) e
+    all_less h k d w e = not_under (get_or bs k d).session.number number (ltb-true (get_or bs k d).session.number number (point.0 k d (omega arith) (omega arith))) e
 
     -- or where the first that is not less is another
     pub other_there : (b : Berth (Session S)) → Rises bs → i < length bs → ((get_or bs i b).session.number ≡ number → ⊥) → All (λ b. b.session.number ≢ number) bs
     other_there b up w other k d l e = (elim (nat_lt k i) as (λ t. nat_lt k i ≡ t → ⊥) [
-      | true ↦ λ t. not_under (get_or bs k d).session.number number (less (get_or bs k d).session.number number (point.0 k d (omega arith) (less k i t))) e
+      | true ↦ λ t. not_under (get_or bs k d).session.number number (ltb-true (get_or bs k d).session.number number (point.0 k d (omega arith) (ltb-true k i t))) e
       | false ↦ λ t.
-          let low = not_falling bs up i k d (not_less k i t) l in
-          let high = not_less (get_or bs i d).session.number number (point.1 i d (omega arith) w) in
+          let low = not_falling bs up i k d (ltb-false k i t) l in
+          let high = ltb-false (get_or bs i d).session.number number (point.1 i d (omega arith) w) in
           let there : (get_or bs i d).session.number ≡ number = same_place (get_or bs i d).session.number number high (subst (λ n. (get_or bs i d).session.number ≤ n) e low) in
           other (ap (λ (c : Berth (Session S)). c.session.number) (get_or_default bs i b d w) ∙ there)
     ]) refl
@@ -170,16 +156,16 @@ module _ {S : Type 0} where
   module _ (seat : Seat) where
     -- where no session has the seat's number, none is the seat's
     pub no_seat : (bs : List (Berth (Session S))) → All (λ b. b.session.number ≢ seat.number) bs → position (λ b. is_seat seat b.session) bs ≡ None
-    no_seat bs none = no_place_is (λ b. is_seat seat b.session) bs (λ k d w. is_false (is_seat seat (get_or bs k d).session) (λ t. none k d w (seat_number seat (get_or bs k d).session t).0))
+    no_seat bs none = no_place_is (λ b. is_seat seat b.session) bs (λ k d w. false_from_ne_true (is_seat seat (get_or bs k d).session) (λ t. none k d w (seat_number seat (get_or bs k d).session t).0))
 
     -- that which has it is
     pub this_seat : (bs : List (Berth (Session S))) (i : ℕ) → Rises bs → IsPlace seat.number bs i → ((d : Berth (Session S)) → is_seat seat (get_or bs i d).session ≡ true) → position (λ b. is_seat seat b.session) bs ≡ Some i
-    this_seat bs i up is there = place_is (λ b. is_seat seat b.session) bs i is.within there (λ k d l. is_false (is_seat seat (get_or bs k d).session) (λ t.
+    this_seat bs i up is there = place_is (λ b. is_seat seat b.session) bs i is.within there (λ k d l. false_from_ne_true (is_seat seat (get_or bs k d).session) (λ t.
         apart (get_or bs k d).session.number (get_or bs i d).session.number seat.number (up k i d l is.within) (seat_number seat (get_or bs k d).session t).0 (is.number_there d)))
 
     -- or that which has it is not, and no other
     pub other_seat : (bs : List (Berth (Session S))) (i : ℕ) → Rises bs → IsPlace seat.number bs i → ((d : Berth (Session S)) → is_seat seat (get_or bs i d).session ≡ false) → position (λ b. is_seat seat b.session) bs ≡ None
-    other_seat bs i up is spent = no_place_is (λ b. is_seat seat b.session) bs (λ k d w. is_false (is_seat seat (get_or bs k d).session) (λ t.
+    other_seat bs i up is spent = no_place_is (λ b. is_seat seat b.session) bs (λ k d w. false_from_ne_true (is_seat seat (get_or bs k d).session) (λ t.
         let same = one_place seat.number bs i up is k d w (seat_number seat (get_or bs k d).session t).0 in
         let bad : true ≡ false = sym t ∙ ap (λ m. is_seat seat (get_or bs m d).session) same ∙ spent d in cc))
 

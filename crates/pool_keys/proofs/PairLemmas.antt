@@ -2,20 +2,13 @@
 use Rattle.std.proofs.Common.{◌≡◌, ◌⊎◌, inl, inr, ℕ, zero, suc, ◌+◌, ◌*◌, ◌^◌, ◌<◌, ◌≤◌, Bool, true, false, if◌then◌else◌, nat_lt, nat_eq, List, ◌∷◌, length, get_or, Contains, None, Some, refl, sym, ◌∙◌, ap, subst, arith}
 use Rattle.std.specs.List.{insert, remove}
 use Rattle.std.specs.List.Sorted.{IsPartitionPoint, IsNonDecreasingBy}
-use Rattle.std.proofs.lemmas.Bool.{eqb-true}
+use Rattle.std.proofs.lemmas.Bool.{eqb-true, ltb-true, ltb-false}
 use Rattle.std.specs.Cmp.{nat_eq_equiv}
-use Rattle.std.proofs.lemmas.Bool.Decides.{leb_tells}
 use Rattle.std.proofs.lemmas.List.{get_or_default}
 use Rattle.std.proofs.lemmas.List.Edits.{length-remove, get_or-remove_below, get_or-remove_above}
 use Rattle.std.proofs.lemmas.List.Sorted.{Contains-permutation, IsPermutation-insert, IsPermutation-sym, IsNonDecreasingBy-insert}
 use Rattle.pool_keys.specs.declared.index.Pair.{Pair}
 use Rattle.pool_keys.specs.Pairs.{rank, is_before, pair, IsAt, IsNext}
-
-less : (a b : ℕ) → nat_lt a b ≡ true → a < b
-less a b h = grind (arith, leb_tells)
-
-not_less : (a b : ℕ) → nat_lt a b ≡ false → b ≤ a
-not_less a b h = grind (arith, leb_tells)
 
 at_most : (a b : ℕ) → a < b → a ≤ b
 at_most a b h = omega arith
@@ -34,10 +27,10 @@ pub removed_order : (ps : List Pair) (i : ℕ) → i < length ps → IsNonDecrea
 removed_order ps i within up j k d le lt =
     let long = length-remove ps i within in
     (elim (nat_lt k i) as (λ t. nat_lt k i ≡ t → rank (get_or (remove ps i) j d) ≤ rank (get_or (remove ps i) k d)) [
-      | true ↦ λ t. let low = less k i t in rw (get_or-remove_below ps i d j (omega arith) within, get_or-remove_below ps i d k low within) (up j k d le (omega arith))
-      | false ↦ λ t. let high = not_less k i t in (elim (nat_lt j i) as (λ u. nat_lt j i ≡ u → rank (get_or (remove ps i) j d) ≤ rank (get_or (remove ps i) k d)) [
-        | true ↦ λ u. rw (get_or-remove_below ps i d j (less j i u) within, get_or-remove_above ps i d k high within) (up j (k + 1) d (omega arith) (omega arith))
-        | false ↦ λ u. rw (get_or-remove_above ps i d j (not_less j i u) within, get_or-remove_above ps i d k high within) (up (j + 1) (k + 1) d (omega arith) (omega arith))
+      | true ↦ λ t. let low = ltb-true k i t in rw (get_or-remove_below ps i d j (omega arith) within, get_or-remove_below ps i d k low within) (up j k d le (omega arith))
+      | false ↦ λ t. let high = ltb-false k i t in (elim (nat_lt j i) as (λ u. nat_lt j i ≡ u → rank (get_or (remove ps i) j d) ≤ rank (get_or (remove ps i) k d)) [
+        | true ↦ λ u. rw (get_or-remove_below ps i d j (ltb-true j i u) within, get_or-remove_above ps i d k high within) (up j (k + 1) d (omega arith) (omega arith))
+        | false ↦ λ u. rw (get_or-remove_above ps i d j (ltb-false j i u) within, get_or-remove_above ps i d k high within) (up (j + 1) (k + 1) d (omega arith) (omega arith))
       ]) refl
     ]) refl
 
@@ -71,8 +64,8 @@ Point q ps i = IsPartitionPoint (λ p. is_before q p ≡ true) (λ p. is_before 
 -- and the pairs stand in order still
 pub put_order : (put : Bool) (xs : List Pair) (i : ℕ) (y : Pair) → i ≤ length xs → Point y xs i → IsNonDecreasingBy rank xs → IsNonDecreasingBy rank (if put then insert xs i y else xs)
 put_order true xs i y l point up =
-    IsNonDecreasingBy-insert rank xs i y up l (λ k d low. at_most (rank (get_or xs k d)) (rank y) (less (rank (get_or xs k d)) (rank y) (point.0 k d (omega arith) low)))
-    (λ k d high w. not_less (rank (get_or xs k d)) (rank y) (point.1 k d high w))
+    IsNonDecreasingBy-insert rank xs i y up l (λ k d low. at_most (rank (get_or xs k d)) (rank y) (ltb-true (rank (get_or xs k d)) (rank y) (point.0 k d (omega arith) low)))
+    (λ k d high w. ltb-false (rank (get_or xs k d)) (rank y) (point.1 k d high w))
 put_order false xs i y l point up = up
 
 below : (d f m r : ℕ) → f ≤ m → r < d * 2 ^ 64 + f → r ≡ d * 2 ^ 64 + m → ⊥
@@ -91,12 +84,12 @@ module _ (ps : List Pair) (digest from i : ℕ) (point : Point (pair digest from
   -- no pair of the digest and a number from that one on stands before the place
   none_before : (m k : ℕ) → from ≤ m → get_or ps k (pair digest m) ≡ pair digest m → k < i → ⊥
   none_before m k h e p =
-      let r = less (rank (get_or ps k (pair digest m))) (rank (pair digest from)) (point.0 k (pair digest m) (omega arith) p) in
+      let r = ltb-true (rank (get_or ps k (pair digest m))) (rank (pair digest from)) (point.0 k (pair digest m) (omega arith) p) in
       below digest from m (rank (get_or ps k (pair digest m))) h r (ap rank e)
 
   module _ (up : IsNonDecreasingBy rank ps) (p : Pair) (within : i < length ps) (is : p ≡ get_or ps i p) (small : p.number < 2 ^ 64) where
     from_here : digest * 2 ^ 64 + from ≤ p.digest * 2 ^ 64 + p.number
-    from_here = subst (λ q. rank (pair digest from) ≤ rank q) (sym is) (not_less (rank (get_or ps i p)) (rank (pair digest from)) (point.1 i p (omega arith) within))
+    from_here = subst (λ q. rank (pair digest from) ≤ rank q) (sym is) (ltb-false (rank (get_or ps i p)) (rank (pair digest from)) (point.1 i p (omega arith) within))
 
     to_there : (m k : ℕ) → i ≤ k → k < length ps → get_or ps k (pair digest m) ≡ pair digest m → p.digest * 2 ^ 64 + p.number ≤ digest * 2 ^ 64 + m
     to_there m k h w e =
@@ -105,9 +98,9 @@ module _ (ps : List Pair) (digest from i : ℕ) (point : Point (pair digest from
 
     one_next : (m : ℕ) → from ≤ m → m < 2 ^ 64 → Contains ps (pair digest m) → (p.digest ≡ digest) × (p.number ≤ m)
     one_next m h s c = (elim (nat_lt c.0 i) as (λ b. nat_lt c.0 i ≡ b → (p.digest ≡ digest) × (p.number ≤ m)) [
-      | true ↦ λ t. absurd (none_before m c.0 h c.2 (less c.0 i t))
+      | true ↦ λ t. absurd (none_before m c.0 h c.2 (ltb-true c.0 i t))
       | false ↦ λ t.
-          let to = to_there m c.0 (not_less c.0 i t) c.1 c.2 in
+          let to = to_there m c.0 (ltb-false c.0 i t) c.1 c.2 in
           let same = same_digest digest p.digest p.number m from from_here to h small s in
           (same, to_le digest p.digest p.number m to same)
     ]) refl

@@ -1,8 +1,8 @@
 -- A pool that was full had opened as many sessions as there may be
 use Rattle.std.proofs.Common.{◌≡◌, ℕ, ◌-◌, ◌^◌, ◌≤◌, Bool, true, false, nat_lt, List, length, Option, None, Some, is_some, refl, arith, ap, subst, sym, ◌∙◌}
 use Rattle.std.specs.Prelude.{if◌then◌else◌}
-use Rattle.std.proofs.lemmas.Bool.Decides.{leb_tells}
 use Rattle.std.proofs.lemmas.List.Sums.{count_by-le-length}
+use Rattle.std.proofs.lemmas.Bool.{ltb-false}
 use Rattle.z_types.specs.declared.key.SetKey.{SetKey}
 use Rattle.z_types.specs.declared.address.Address.{Address}
 use Rattle.z_types.specs.declared.world.World as world
@@ -15,9 +15,6 @@ use Rattle.pool_sets.specs.Sessions.{Idler, first_some, idle_in, idle_with, in_c
 use Rattle.pool_sets.specs.Table.{Entry}
 use Rattle.pool_sets.specs.Plain.{Pool, expire, take_of, open_one, any_idle, one_idle, dial_for, has_number, fresh_of, reuse_of, lend_of}
 use Rattle.pool_locked.specs.Books.{FullOpens}
-
-not_below : (a b : ℕ) → nat_lt a b ≡ false → b ≤ a
-not_below a b h = grind (arith, leb_tells)
 
 -- how many sessions a full pool may have open
 abbrev number_of : {S : Type 0} → Taken S → ℕ
@@ -53,7 +50,7 @@ module _ {S : Type 0} where
       | true ↦ λ x. not_full (dial_for class at (member_for class at p.sessions) p).0 (dial_for class at (member_for class at p.sessions) p).1 q n refl x
       | false ↦ λ x. not_full Memory p q n refl x
     ])
-    | false ↦ λ t x. full_now class at p q n (not_below (open_of class at p.sessions) p.max_sessions t) x
+    | false ↦ λ t x. full_now class at p q n (ltb-false (open_of class at p.sessions) p.max_sessions t) x
   ]) refl e
 
   any_full : (class : ℕ) (at : List Address) (p q : Pool S) (n : ℕ) (i : Option (Idler S)) → IsFull n q (any_idle class at p i) → n ≤ length q.sessions

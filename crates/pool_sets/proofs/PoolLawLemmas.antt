@@ -1,9 +1,10 @@
 -- The laws of the plain pool
-use Rattle.std.proofs.Common.{◌≡◌, ◌==◌, ◌&&◌, ◌-◌, ◌<◌, ◌≤◌, ℕ, Bool, true, false, not, cond, nat_lt, nat_le, arith, List, [], ◌∷◌, map, filter, Option, None, Some, is_some, option_map, refl, sym, ◌∙◌, ap}
+use Rattle.std.proofs.Common.{◌≡◌, ◌==◌, ◌&&◌, ◌-◌, ℕ, Bool, true, false, not, cond, nat_lt, nat_le, arith, List, [], ◌∷◌, map, filter, Option, None, Some, is_some, option_map, refl, sym, ◌∙◌, ap}
 use Rattle.std.specs.Prelude.{if◌then◌else◌}
 use Rattle.std.specs.List.{list_any, list_all}
 use Rattle.std.specs.Option.{option_or}
 use Rattle.std.proofs.lemmas.Bool.Decides.{leb_tells}
+use Rattle.std.proofs.lemmas.Bool.{le-leb, lt-ltb}
 use Rattle.z_types.specs.equality.Tests.{both_true}
 use Rattle.z_types.specs.declared.key.SetKey.{SetKey}
 use Rattle.z_types.specs.declared.address.Address.{Address}
@@ -16,12 +17,6 @@ use Rattle.pool_sets.specs.Sessions.{Session, Idler, first_some, idle_in, idle_w
 use Rattle.pool_sets.specs.Plain.{Pool, with_sessions, expire, take_any, open_one, any_idle, one_idle, dial_for, has_number, is_seat, idle_again, stays_open, with_fresh_sets}
 use Rattle.pool_sets.specs.Counts.{is_full}
 use Rattle.pool_sets.specs.PoolLaws.{PutIsReused, FullExactly, is_reuse, is_full_for}
-
-is_below : (a b : ℕ) → a < b → nat_lt a b ≡ true
-is_below a b h = grind (arith, leb_tells)
-
-is_at_most : (a b : ℕ) → a ≤ b → nat_le a b ≡ true
-is_at_most a b h = grind (arith, leb_tells)
 
 not_below_is : (a b : ℕ) → nat_le b a ≡ not (nat_lt a b)
 not_below_is a b = grind (arith, leb_tells)
@@ -77,8 +72,8 @@ module _ {S : Type 0} where
   put_reused p seat parts at key since now out small among fresh holds =
       let f = idle_with seat.class at key in
       let some = changed_gives f (with_fresh_sets now p.set_ttl) (with_stand (Idle parts since)) (stays_open now p.session_ttl) (is_seat seat)
-      (λ o is. (is_below (now - since) p.session_ttl fresh, holds_then seat parts at key since now p.set_ttl among holds o is)) p.sessions out in
-      rw (is_at_most parts.table.most p.sets_max small) (reuse_case seat.class now at key (expire now (with_sessions (map (idle_again seat parts since) p.sessions) p)) _ some)
+      (λ o is. (lt-ltb (now - since) p.session_ttl fresh, holds_then seat parts at key since now p.set_ttl among holds o is)) p.sessions out in
+      rw (le-leb parts.table.most p.sets_max small) (reuse_case seat.class now at key (expire now (with_sessions (map (idle_again seat parts since) p.sessions) p)) _ some)
 
   -- what holds a set is idle
   not_both_none : (class : ℕ) (at : List Address) (key : SetKey) (os : List (Session S)) → is_some (first_some (idle_with class at key) os) ≡ true → is_some (first_some (idle_in class at) os) ≡ true

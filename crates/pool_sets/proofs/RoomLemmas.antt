@@ -2,7 +2,7 @@
 use Rattle.std.proofs.Common.{◌≡◌, ◌≢◌, ◌<◌, ◌≤◌, ◌+◌, ℕ, zero, suc, Bool, true, false, not, ◌∙◌, cond, List, [], ◌∷◌, map, length, All, None, Some, refl, sym, ap, subst, nat_eq, arith}
 use Rattle.std.specs.List.{AllByRecursion, IsDistinct, list_any, range_with_len}
 use Rattle.std.specs.Map.{keys_of, lookup_entry}
-use Rattle.std.proofs.lemmas.Bool.{eqb-true}
+use Rattle.std.proofs.lemmas.Bool.{eqb-true, not-true, false_from_ne_true}
 use Rattle.pool_sets.specs.declared.table.HeldSet.{HeldSet}
 use Rattle.std.proofs.lemmas.List.{length-map}
 use Rattle.std.proofs.lemmas.List.FromFn.{get_or-range_with_len, length-range_with_len}
@@ -14,14 +14,10 @@ use Rattle.pool_sets.proofs.KeptLemmas.{head_of, rest_of, found_holds}
 use Rattle.pool_sets.proofs.TableLemmas.{find_passes}
 use Rattle.pool_sets.specs.TableView.{entry_of}
 
-not_yes : (b : Bool) → (b ≡ true → ⊥) → b ≡ false
-not_yes true h = absurd (h refl)
-not_yes false h = refl
-
 -- a free slot is none of the keys
 pub free_keys : (slot : ℕ) (es : List (ℕ × HeldSet)) → All (λ (e : Entry). e.slot ≢ slot) (map entry_of es) → AllByRecursion (λ k. nat_eq slot k ≡ false) (keys_of es)
 free_keys slot [] a = tt
-free_keys slot (e ∷ es) a = (not_yes (nat_eq slot e.0) (λ h. head_of (λ (f : Entry). f.slot ≢ slot) (entry_of e) (map entry_of es) a (sym (eqb-true slot e.0 h))), free_keys slot es (rest_of (λ (f : Entry). f.slot ≢ slot) (entry_of e) (map entry_of es) a))
+free_keys slot (e ∷ es) a = (false_from_ne_true (nat_eq slot e.0) (λ h. head_of (λ (f : Entry). f.slot ≢ slot) (entry_of e) (map entry_of es) a (sym (eqb-true slot e.0 h))), free_keys slot es (rest_of (λ (f : Entry). f.slot ≢ slot) (entry_of e) (map entry_of es) a))
 
 -- and finds nothing
 pub finds_none : (slot : ℕ) (es : List (ℕ × HeldSet)) → AllByRecursion (λ k. nat_eq slot k ≡ false) (keys_of es) → lookup_entry (nat_eq slot) es ≡ None
@@ -33,16 +29,12 @@ pub slots_are_keys : (es : List (ℕ × HeldSet)) → slots_of (map entry_of es)
 slots_are_keys [] = refl
 slots_are_keys (e ∷ es) = ap (λ r. e.0 ∷ r) (slots_are_keys es)
 
-no_from_not : (b : Bool) → not b ≡ true → b ≡ false
-no_from_not true h = cc
-no_from_not false h = refl
-
 -- a free slot is none of the slots
 free_of_slots : (slot : ℕ) (es : List Entry) → is_free es slot ≡ true → AllByRecursion (λ k. nat_eq slot k ≡ false) (slots_of es)
 free_of_slots slot [] h = tt
 free_of_slots slot (e ∷ es) h =
     let w = both_true (not (nat_eq slot e.slot)) (is_free es slot) h in
-    (no_from_not (nat_eq slot e.slot) w.0, free_of_slots slot es w.1)
+    (not-true (nat_eq slot e.slot) w.0, free_of_slots slot es w.1)
 
 same_is_equal : (a b : ℕ) → a ≡ b → nat_eq b a ≡ true
 same_is_equal a b e = grind arith

@@ -1,11 +1,12 @@
 -- what one event more does to what a client is fed, whether it is named, and whether its input has ended
-use Rattle.std.proofs.Common.{arith, ◌≤◌, ◌≡◌, ◌≢◌, ◌∙◌, ℕ, zero, suc, Bool, true, false, not, List, [], ◌∷◌, ◌++◌, ◌==◌, ◌||◌, None, Some, if◌then◌else◌, take, slice_get, refl, sym, ap, subst, append-nil, append_assoc}
+use Rattle.std.proofs.Common.{arith, ◌≤◌, ◌≡◌, ◌≢◌, ◌∙◌, ℕ, zero, suc, Bool, true, false, List, [], ◌∷◌, ◌++◌, ◌==◌, ◌||◌, None, Some, if◌then◌else◌, take, slice_get, refl, sym, ap, subst, append-nil, append_assoc}
 use Rattle.std.specs.List.{AllByRecursion}
 use Rattle.std.proofs.lemmas.Option.{none-some, same_Some}
 use Rattle.std.specs.Option.{option_map_or}
-use Rattle.std.proofs.lemmas.Bool.{and_parts, eq-eqb, ne_eqb, or_parts}
+use Rattle.std.proofs.lemmas.Bool.{and_parts, eq-eqb, ne_eqb, or_parts, or_from, not-true}
 use Rattle.std.proofs.lemmas.Grind.{flat_map-append}
 use Rattle.std.proofs.lemmas.List.Folds.{list_any-append}
+use Rattle.std.proofs.Math.Bool.{or-false, or-true}
 use Rattle.script.specs.declared.event.Event.{Event}
 use Rattle.script.specs.declared.event.Event.TheVariants.{Feed, End, Step, Run, Tick, Gone, Cut, Slow}
 use Rattle.script.specs.Events.{most_amount, seconds_of, IsEvent, are_in_order, client_of, ends, fed, has_ended, is_named, is_of, may_follow, octets_of}
@@ -24,14 +25,6 @@ not_own event number other e ne = ap (λ o. option_map_or (λ (n : ℕ). n == ot
 -- one of none
 pub of_none : (event : Event) (other : ℕ) → client_of event ≡ None → is_of other event ≡ false
 of_none event other e = ap (λ o. option_map_or (λ (n : ℕ). n == other) o false) e
-
-or_off : (b : Bool) → (b || false) ≡ b
-or_off true = refl
-or_off false = refl
-
-or_on : (b : Bool) → (b || true) ≡ true
-or_on true = refl
-or_on false = refl
 
 -- ---- what is fed
 
@@ -71,29 +64,29 @@ fed-other before event number e =
 
 named-one : (before : List Event) (event : Event) (number : ℕ) → is_named (before ++ event ∷ []) number ≡ (is_named before number || is_of number event)
 named-one before event number =
-    list_any-append (is_of number) before (event ∷ []) ∙ ap (λ b. is_named before number || b) (or_off (is_of number event))
+    list_any-append (is_of number) before (event ∷ []) ∙ ap (λ b. is_named before number || b) (or-false (is_of number event))
 
 pub named-more : (before : List Event) (event : Event) (number : ℕ) → client_of event ≡ Some number → is_named (before ++ event ∷ []) number ≡ true
-named-more before event number e = named-one before event number ∙ ap (λ b. is_named before number || b) (own event number e) ∙ or_on (is_named before number)
+named-more before event number e = named-one before event number ∙ ap (λ b. is_named before number || b) (own event number e) ∙ or-true (is_named before number)
 
 pub named-other : (before : List Event) (event : Event) (number : ℕ) → is_of number event ≡ false → is_named (before ++ event ∷ []) number ≡ is_named before number
-named-other before event number e = named-one before event number ∙ ap (λ b. is_named before number || b) e ∙ or_off (is_named before number)
+named-other before event number e = named-one before event number ∙ ap (λ b. is_named before number || b) e ∙ or-false (is_named before number)
 
 -- ---- whose input has ended
 
 ended-one : (before : List Event) (event : Event) (number : ℕ) → has_ended (before ++ event ∷ []) number ≡ (has_ended before number || ends number event)
 ended-one before event number =
-    list_any-append (ends number) before (event ∷ []) ∙ ap (λ b. has_ended before number || b) (or_off (ends number event))
+    list_any-append (ends number) before (event ∷ []) ∙ ap (λ b. has_ended before number || b) (or-false (ends number event))
 
 ended_with-is : (event : Event) (number : ℕ) (before : Bool) → client_of event ≡ Some number → (before || ends number event) ≡ ended_with event before
-ended_with-is (End client) number before e = ap (λ b. before || b) (own (End client) number e) ∙ or_on before
-ended_with-is (Feed client octets) number before e = or_off before
-ended_with-is (Step client) number before e = or_off before
-ended_with-is (Run client) number before e = or_off before
-ended_with-is (Tick seconds) number before e = or_off before
-ended_with-is (Gone target presents) number before e = or_off before
-ended_with-is (Cut target) number before e = or_off before
-ended_with-is (Slow target looks) number before e = or_off before
+ended_with-is (End client) number before e = ap (λ b. before || b) (own (End client) number e) ∙ or-true before
+ended_with-is (Feed client octets) number before e = or-false before
+ended_with-is (Step client) number before e = or-false before
+ended_with-is (Run client) number before e = or-false before
+ended_with-is (Tick seconds) number before e = or-false before
+ended_with-is (Gone target presents) number before e = or-false before
+ended_with-is (Cut target) number before e = or-false before
+ended_with-is (Slow target looks) number before e = or-false before
 
 pub ended-more : (before : List Event) (event : Event) (number : ℕ) → client_of event ≡ Some number
     → has_ended (before ++ event ∷ []) number ≡ ended_with event (has_ended before number)
@@ -111,7 +104,7 @@ ends-other (Cut target) number e = refl
 ends-other (Slow target looks) number e = refl
 
 pub ended-other : (before : List Event) (event : Event) (number : ℕ) → is_of number event ≡ false → has_ended (before ++ event ∷ []) number ≡ has_ended before number
-ended-other before event number e = ended-one before event number ∙ ap (λ b. has_ended before number || b) (ends-other event number e) ∙ or_off (has_ended before number)
+ended-other before event number e = ended-one before event number ∙ ap (λ b. has_ended before number || b) (ends-other event number e) ∙ or-false (has_ended before number)
 
 -- ---- a client that is not named
 
@@ -127,26 +120,18 @@ unnamed-fed (event ∷ events) number h =
     let off = or_parts (is_of number event) (is_named events number) h in
     fed_by-other events event number (is_of number event) off.0 (unnamed-fed events number off.1)
 
-both_off : (a b : Bool) → a ≡ false → b ≡ false → (a || b) ≡ false
-both_off true b e f = cc
-both_off false b e f = f
-
 -- and its input has not ended
 pub unnamed-ended : (events : List Event) (number : ℕ) → is_named events number ≡ false → has_ended events number ≡ false
 unnamed-ended [] number h = refl
 unnamed-ended (event ∷ events) number h =
     let off = or_parts (is_of number event) (is_named events number) h in
-    both_off (ends number event) (has_ended events number) (ends-other event number off.0) (unnamed-ended events number off.1)
+    or_from (ends number event) (has_ended events number) (ends-other event number off.0) (unnamed-ended events number off.1)
 
 -- ---- what may follow
 
-not_true : (b : Bool) → not b ≡ true → b ≡ false
-not_true true h = cc
-not_true false h = refl
-
 -- octets may follow for a client whose input has not ended
 pub feeds-open : (before : List Event) (number : ℕ) (octets : List ℕ) → may_follow before (Feed number octets) ≡ true → has_ended before number ≡ false
-feeds-open before number octets h = not_true (has_ended before number) h
+feeds-open before number octets h = not-true (has_ended before number) h
 
 -- of events in order each may follow those before it
 pub follows_at : (before events : List Event) (place : ℕ) (event : Event) → slice_get events place ≡ Some event → are_in_order before events ≡ true

@@ -5,6 +5,7 @@ use Rattle.std.specs.Prelude.{filter_map}
 use Rattle.std.specs.Set.{distinct_count, is_member, unique_keys}
 use Rattle.std.proofs.lemmas.Grind.{flat_map-append}
 use Rattle.std.proofs.lemmas.Map.Made.{length-le_from_is_member}
+use Rattle.std.proofs.Math.Bool.{or-false, or-true}
 use Rattle.z_types.specs.declared.key.SetKey.{SetKey}
 use Rattle.z_types.specs.contracts.key.SetKeyEq.TheImpl.Laws as key_law
 use Rattle.z_types.specs.declared.work.Work.{Work}
@@ -83,19 +84,11 @@ keys-behind class before (one ∷ uses) =
 
 -- ---- the same keys in another order
 
-or-on : (b : Bool) → (b || true) ≡ true
-or-on true = refl
-or-on false = refl
-
-or-off : (b : Bool) → (b || false) ≡ b
-or-off true = refl
-or-off false = refl
-
 -- what is left once each has the members that were there, and none else
 has-all : (q : SetKey) (keys : List SetKey) → is_member same_key (unique_keys same_key keys) q ≡ true → is_member same_key keys q ≡ true
 has-all q [] h = h
 has-all q (key ∷ keys) h = (elim (is_member same_key keys key) as (λ (b : Bool). is_member same_key keys key ≡ b → is_member same_key (cond b (unique_keys same_key keys) (key ∷ unique_keys same_key keys)) q ≡ true → is_member same_key (key ∷ keys) q ≡ true) [
-  | true ↦ λ e m. ap (λ (b : Bool). same_key q key || b) (has-all q keys m) ∙ or-on (same_key q key)
+  | true ↦ λ e m. ap (λ (b : Bool). same_key q key || b) (has-all q keys m) ∙ or-true (same_key q key)
   | false ↦ λ e m. (elim (same_key q key) as (λ (b : Bool). (b || is_member same_key (unique_keys same_key keys) q) ≡ true → (b || is_member same_key keys q) ≡ true) [
     | true ↦ λ n. refl
     | false ↦ λ n. has-all q keys n
@@ -162,7 +155,7 @@ turned-members q class before (one ∷ uses) h =
 pub keys-turned : (class : ℕ) (uses : List Use) → keys_used class (behind [] uses) ≤ keys_used class uses
 keys-turned class uses =
     more-members (filter_map (key_in class) (behind [] uses)) (filter_map (key_in class) uses)
-    (λ q h. sym (or-off (is_member same_key (filter_map (key_in class) uses) q)) ∙ turned-members q class [] uses h)
+    (λ q h. sym (or-false (is_member same_key (filter_map (key_in class) uses) q)) ∙ turned-members q class [] uses h)
 
 -- works that may be done, and then others
 module _ (route : Route) (before : List Use) (works more : List DatedWork) (h : MayDo route before (works ++ more)) where

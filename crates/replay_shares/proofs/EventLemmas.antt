@@ -1,8 +1,8 @@
 -- Which events can be played behind others, the closing ones too
-use Rattle.std.proofs.Common.{◌≡◌, ◌+◌, ◌≤◌, ℕ, zero, suc, Bool, true, false, not, List, [], ◌∷◌, ◌++◌, refl, sym, subst, append_assoc, append-nil, arith}
+use Rattle.std.proofs.Common.{◌≡◌, ◌+◌, ◌≤◌, ℕ, zero, suc, Bool, true, false, List, [], ◌∷◌, ◌++◌, sym, subst, append_assoc, append-nil, arith}
 use Rattle.std.specs.List.{AllByRecursion, flat_map, list_all}
 use Rattle.std.specs.Prelude.{if◌then◌else◌}
-use Rattle.std.proofs.lemmas.Bool.{and_parts}
+use Rattle.std.proofs.lemmas.Bool.{and_parts, not-true}
 use Rattle.z_types.specs.declared.sitting.Sitting as sitting
 use Rattle.z_types.specs.declared.world.World as world
 use Rattle.route_config.specs.declared.route.Route.{Route}
@@ -25,13 +25,9 @@ abbrev pub AllCanCome : (before : List Event) → List Event → Type 0
 AllCanCome before [] = Unit {0}
 AllCanCome before (event ∷ events) = CanCome before event × AllCanCome (before ++ event ∷ []) events
 
-not-ended : (b : Bool) → not b ≡ true → b ≡ false
-not-ended true h = cc
-not-ended false h = refl
-
 one-comes : (targets : ℕ) (before : List Event) (event : Event) → IsEvent targets event → may_follow before event ≡ true → is_calm event ≡ true
     → CanCome before event
-one-comes targets before (Feed client octets) is may calm = (is, not-ended (has_ended before client) may)
+one-comes targets before (Feed client octets) is may calm = (is, not-true (has_ended before client) may)
 one-comes targets before (End client) is may calm = is
 one-comes targets before (Run client) is may calm = is
 one-comes targets before (Tick seconds) is may calm = tt

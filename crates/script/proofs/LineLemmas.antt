@@ -1,8 +1,8 @@
 -- where the first line of a text ends
-use Rattle.std.proofs.Common.{◌≡◌, ◌==◌, ◌+◌, ◌≤◌, ℕ, Bool, true, false, not, List, [], ◌∷◌, take, drop, length, Some, None, position, refl, ap, ◌∙◌, nat_lt, cond, arith}
+use Rattle.std.proofs.Common.{◌≡◌, ◌==◌, ◌+◌, ℕ, Bool, true, false, not, List, [], ◌∷◌, take, drop, length, Some, None, position, refl, ap, ◌∙◌, nat_lt, cond, arith}
 use Rattle.std.specs.List.{position_or_len}
 use Rattle.std.proofs.lemmas.Option.{cond_some}
-use Rattle.std.proofs.lemmas.Bool.{ltb-true}
+use Rattle.std.proofs.lemmas.Bool.{ltb-true, ltb-false, not-true}
 use Rattle.std.proofs.lemmas.List.Splits.{slice_split_first, slice_split_none}
 use Rattle.std.proofs.lemmas.List.Sums.{prefix_len_passes}
 use Rattle.script.specs.Script.{lines}
@@ -21,16 +21,9 @@ not_some : {A : Type 0} (b : Bool) (x : A) → cond b (Some x) None ≡ None →
 not_some true x h = cc
 not_some false x h = refl
 
-was_false : (b : Bool) → not b ≡ true → b ≡ false
-was_false true h = cc
-was_false false h = refl
-
-not_below : (m n : ℕ) → nat_lt m n ≡ false → n ≤ m
-not_below m n h = grind arith
-
 -- a text without LF is one line
 pub lines_whole : (text : List ℕ) → position is_end text ≡ None → lines text ≡ text ∷ []
 lines_whole text h =
     let none = not_some (nat_lt (position_or_len is_end text) (length text)) (position_or_len is_end text) h in
-    let all = not_below (position_or_len is_end text) (length text) none in
-    slice_split_none is_end text (λ k d within. was_false (is_end _) (prefix_len_passes (λ octet. not (is_end octet)) text k d (omega arith)))
+    let all = ltb-false (position_or_len is_end text) (length text) none in
+    slice_split_none is_end text (λ k d within. not-true (is_end _) (prefix_len_passes (λ octet. not (is_end octet)) text k d (omega arith)))

@@ -1,5 +1,6 @@
 -- numbers past a bound
-use Rattle.std.proofs.Common.{◌≡◌, ◌≤◌, ◌<◌, ◌+◌, ◌-◌, ◌*◌, ◌&&◌, ℕ, Bool, true, false, List, [], ◌∷◌, None, nat_le, refl, arith}
+use Rattle.std.proofs.Common.{◌≡◌, ◌≤◌, ◌<◌, ◌+◌, ◌-◌, ◌*◌, ℕ, false, List, [], ◌∷◌, None, nat_le, refl, arith}
+use Rattle.std.proofs.Math.Bool.{and-false}
 use Rattle.script.specs.Lines.{number_after, within}
 
 -- digits behind a number make it no smaller
@@ -7,13 +8,9 @@ number_after-le : (before : ℕ) (digits : List ℕ) → before ≤ number_after
 number_after-le before [] = omega arith
 number_after-le before (digit ∷ digits) = omega (arith, number_after-le (before * 10 + (digit - 48)) digits)
 
-and_false : (b : Bool) → (b && false) ≡ false
-and_false true = refl
-and_false false = refl
-
 -- a number above a bound is not within it, whatever digits stand behind it
 pub within-past : (low high before : ℕ) (digits : List ℕ) → high < before → within low high (number_after before digits) ≡ None
 within-past low high before digits above =
     let more = number_after-le before digits in
     let past : nat_le (number_after before digits) high ≡ false = grind (arith, more) in
-    rw (past, and_false (nat_le low (number_after before digits))) refl
+    rw (past, and-false (nat_le low (number_after before digits))) refl

@@ -8,6 +8,7 @@ use Rattle.std.proofs.lemmas.Bool.{eqb-true}
 use Rattle.std.proofs.lemmas.List.{length-map}
 use Rattle.std.proofs.lemmas.Map.Made.{length-le_from_is_member}
 use Rattle.std.proofs.lemmas.Map.Steps.{le-length_from_below}
+use Rattle.std.proofs.Math.Bool.{or-true}
 use Rattle.z_types.specs.declared.key.SetKey.{SetKey}
 use Rattle.z_types.specs.equality.Key as keys
 use Rattle.z_types.specs.contracts.key.SetKeyEq.TheImpl.Laws as key_law
@@ -29,10 +30,6 @@ key_in class one = if one.class == class then one.key else None
 abbrev keys_in : ℕ → List Use → List SetKey
 keys_in class before = filter_map (key_in class) before
 
-or_true : (b : Bool) → (b || true) ≡ true
-or_true true = refl
-or_true false = refl
-
 -- a use of a key puts it among the keys
 is_its_key : (class : ℕ) (key : SetKey) (one : Use) (k : Option SetKey) → one.key ≡ k → is_set_in class key one ≡ true → (rest : List Use)
     → is_member same_key (keys_in class (one ∷ rest)) key ≡ true
@@ -50,7 +47,7 @@ member_more class key one rest h = by_key (key_in class one) refl
   where
     by_key : (k : Option SetKey) → key_in class one ≡ k → is_member same_key (keys_in class (one ∷ rest)) key ≡ true
     by_key None e = rw e h
-    by_key (Some own) e = rw (e, h) (or_true (same_key key own))
+    by_key (Some own) e = rw (e, h) (or-true (same_key key own))
 
 used_is_member : (class : ℕ) (key : SetKey) (before : List Use) (at : ℕ) → last_at (is_set_in class key) before ≡ Some at → is_member same_key (keys_in class before) key ≡ true
 used_is_member class key [] at h = cc

@@ -1,6 +1,6 @@
 -- What a take gives of a pool that an orderly script has used: a dial exactly where one is needed, and the
 -- set that is wanted exactly where no search is
-use Rattle.std.proofs.Common.{◌≡◌, ◌==◌, ◌||◌, ◌-◌, ◌≤◌, ℕ, Bool, true, false, cond, List, [], ◌∷◌, Option, None, Some, refl, subst, nat_lt, arith}
+use Rattle.std.proofs.Common.{◌≡◌, ◌==◌, ◌-◌, ◌≤◌, ℕ, Bool, true, false, cond, List, [], ◌∷◌, Option, None, Some, refl, subst, nat_lt, arith}
 use Rattle.std.specs.Option.{option_map, option_or}
 use Rattle.std.proofs.lemmas.Bool.Decides.{leb_tells}
 use Rattle.z_types.specs.declared.address.Address.{Address}
@@ -15,10 +15,6 @@ use Rattle.pool_sets.specs.Plain.{Pool, take_any, choice, has_number, one_idle, 
 use Rattle.sharing_rules.specs.Needed.{is_late}
 use Rattle.sharing_rules.specs.steps.Shared.{of_class}
 use Rattle.sharing_rules.proofs.PoolUses.{first_of_class, first_with, open_in_class}
-
-pub or_true : (b : Bool) → (b || true) ≡ true
-or_true true = refl
-or_true false = refl
 
 pub not_late : (ttl now since : ℕ) → nat_lt (now - since) ttl ≡ true → is_late ttl now (Some since) ≡ false
 not_late ttl now since h = grind (arith, leb_tells)

@@ -1,6 +1,7 @@
 -- What a take gives of a pool whose class is kept, with what is out behind it
 use Rattle.std.proofs.Common.{◌≡◌, ◌==◌, ◌∙◌, ◌-◌, ◌≤◌, ◌+◌, ℕ, Bool, true, false, not, cond, List, [], ◌∷◌, ◌++◌, is_some, Option, None, Some, refl, sym, ap, nat_lt, arith}
 use Rattle.std.specs.Cmp.{nat_eq_equiv}
+use Rattle.std.proofs.Math.Bool.{or-true}
 use Rattle.z_types.specs.declared.address.Address.{Address}
 use Rattle.z_types.specs.declared.key.SetKey.{SetKey}
 use Rattle.z_types.specs.declared.world.World as world
@@ -17,7 +18,7 @@ use Rattle.sharing_rules.specs.Uses.{Use}
 use Rattle.sharing_rules.specs.Needed.{is_refused}
 use Rattle.sharing_rules.specs.steps.Shared.{AreInOrder, AreNumbered, HoldsUsed, IsKeptIn, AreKept, IsLent, IsOutWith, LeavesOthers, TakesSo, dial_due, of_class, pool_of, search_due}
 use Rattle.sharing_rules.proofs.TableUses.{class_late, dialled, expired, searched_if_not_held, used_again, used_now}
-use Rattle.sharing_rules.proofs.TakeUses.{too_late, not_late, is_of_class, any_lends, take_dials, choice_is, given_by, one_of, or_true}
+use Rattle.sharing_rules.proofs.TakeUses.{too_late, not_late, is_of_class, any_lends, take_dials, choice_is, given_by, one_of}
 use Rattle.sharing_rules.proofs.PoolUses.{afresh, class_expires}
 use Rattle.sharing_rules.proofs.PutUses.{lent, lent_elsewhere, dialled_in, dialled_elsewhere}
 use Rattle.sharing_rules.proofs.NumberUses.{numbered_afresh, numbered_dialled, numbered_moved, own_number}
@@ -54,7 +55,7 @@ module _ {W S : Type 0} (w : world.Ghosts W) (route : Route) (class : ℕ) (at :
       → search_due w route class now before k ≡ is_some k
   late_needs m late None e = refl
   late_needs m late (Some key) e =
-      rw (class_late route.pool.set_ttl route.pool.session_ttl now moment class key before m.ttl m.falls late) (or_true (is_refused w route class key))
+      rw (class_late route.pool.set_ttl route.pool.session_ttl now moment class key before m.ttl m.falls late) (or-true (is_refused w route class key))
 
   by_number : (b : Bool) (m : MayTake) → of_class class left ≡ [] → dial_due route class now before ≡ true
       → GivenSo (cond b (dial_for class at (member_for class at left) (pool_of route given left)) (Memory, pool_of route given left))

@@ -6,6 +6,7 @@ use Rattle.std.proofs.Common.{◌≡◌, ◌∙◌, ℕ, zero, suc, ℤ, pos, �
 use Rattle.std.specs.Prelude.{bit_and, nat_le, IfOk, OnOk}
 use Rattle.std.proofs.lemmas.Nat.{and_assoc}
 use Rattle.std.proofs.lemmas.List.{length-map}
+use Rattle.std.proofs.lemmas.Bool.{le-leb}
 use Rattle.z_types.specs.equality.Tests.{text_exact}
 use Rattle.z_types.specs.declared.address.Address.{Address}
 use Rattle.z_types.specs.declared.diagnostic.Diag.{Diag}
@@ -154,9 +155,6 @@ reply_with present first hits item found place count wanted answer mid records (
     ∙ ap (λ a. presented present first hits a (given found place (count - 1))) (sym e)
     ∙ ap (λ n. presented present first hits answer (given found place (n - 1))) c
 
-le_true : (a b : ℕ) → a ≤ b → nat_le a b ≡ true
-le_true a b p = grind arith
-
 all_true : (a b c : Bool) → a ≡ true → b ≡ true → c ≡ true → (a && b && c) ≡ true
 all_true a b c p q r = grind arith
 
@@ -165,7 +163,7 @@ within_hits : (start : ℤ) (first number hits : ℕ) → start ≡ pos first �
     → first_within start number hits ≡ Some first
 within_hits start first number hits e p q r =
     ap (λ s. first_within s number hits) e
-    ∙ ap (λ b. cond b (Some first) None) (all_true (nat_le 1 first) (nat_le 1 number) (nat_le (first + number) (hits + 1)) (le_true 1 first p) (le_true 1 number q) (le_true (first + number) (hits + 1) r))
+    ∙ ap (λ b. cond b (Some first) None) (all_true (nat_le 1 first) (nat_le 1 number) (nat_le (first + number) (hits + 1)) (le-leb 1 first p) (le-leb 1 number q) (le-leb (first + number) (hits + 1) r))
 
 -- ---- replies
 

@@ -1,8 +1,8 @@
 -- The contents of a BIT STRING are read as the bits that they stand for, and no others are read.
-use Rattle.std.proofs.Common.{◌≡◌, ◌∙◌, ◌⊎◌, ℕ, ◌+◌, ◌*◌, ◌^◌, ◌<◌, ◌≤◌, Bool, true, false, ◌&&◌, ◌==◌, lit≤, inl, inr, List, [], ◌∷◌, ◌++◌, length, map, reverse, Option, Some, None, sym, ap, arith, refl}
+use Rattle.std.proofs.Common.{◌≡◌, ◌∙◌, ℕ, ◌+◌, ◌*◌, ◌^◌, ◌<◌, ◌≤◌, ◌&&◌, ◌==◌, lit≤, inl, inr, List, [], ◌∷◌, ◌++◌, length, map, reverse, Option, Some, None, sym, ap, arith, refl}
 use Rattle.std.specs.Int.Digits.{digits_of, number_from_digits, AllBelowBase}
 use Rattle.std.proofs.lemmas.Int.Digits.{number_digits_of, all_below_base_digits_of, length-digits_of-le, number_push}
-use Rattle.std.proofs.lemmas.Bool.{cases_lt, lt-ltb, le-ltb, eq-eqb, eqb-true}
+use Rattle.std.proofs.lemmas.Bool.{cases_lt, lt-ltb, le-ltb, eq-eqb, eqb-true, cases_Bool}
 use Rattle.std.proofs.lemmas.List.{length-map, length-reverse, reverse-reverse, reverse-append}
 use Rattle.z_types.specs.equality.Tests.{both_true}
 use Rattle.z_ber.specs.Written.{mirror, unused_bits, bits_octets, mirrored_number}
@@ -37,10 +37,6 @@ some_number x y o p q = cc
 no_number : {P : Type 0} (x : ℕ) (o : Option ℕ) → o ≡ None → o ≡ Some x → P
 no_number x o p q = absurd cc
 
-either_case : (b : Bool) → (b ≡ true) ⊎ (b ≡ false)
-either_case true = inl refl
-either_case false = inr refl
-
 -- the octets of the number that octets make
 octets_back : (octets : List ℕ) → AllBelowBase 256 octets → length octets ≡ length (digits_of 256 (mirrored_number octets)) → map mirror (reverse (digits_of 256 (mirrored_number octets))) ≡ octets
 octets_back octets h k =
@@ -53,7 +49,7 @@ behind_found : (unused v : ℕ) (octets : List ℕ) → AllBelowBase 256 octets 
 unfolding bits_octets
 behind_found unused v octets h e =
     let n : ℕ = mirrored_number octets in
-    elim (either_case ((unused == unused_bits (mirrored_number octets)) && (length octets == length (digits_of 256 (mirrored_number octets))))) [
+    elim (cases_Bool ((unused == unused_bits (mirrored_number octets)) && (length octets == length (digits_of 256 (mirrored_number octets))))) [
       | inl held ↦
           let b = both_true (unused == unused_bits (mirrored_number octets)) (length octets == length (digits_of 256 (mirrored_number octets))) held in
           let on : bits_behind unused (length octets) (mirrored_number octets) ≡ Some (mirrored_number octets) = rw held refl in

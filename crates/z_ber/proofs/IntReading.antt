@@ -1,11 +1,11 @@
 -- The contents of an INTEGER are read as the number that they stand for, and no others are read.
-use Rattle.std.proofs.Common.{◌≡◌, ◌∙◌, ◌⊎◌, ℕ, ◌+◌, ◌-◌, ◌*◌, ◌^◌, ◌/◌, ◌%◌, ◌<◌, ◌≤◌, Bool, true, false, ◌&&◌, leb, lit≤, lit<, inl, inr, zero, suc, ℤ, pos, negsuc, w64, List, [], ◌∷◌, ◌++◌, length, get_or, map, Option, Some, None, sym, ap, subst, append_assoc, arith, refl}
+use Rattle.std.proofs.Common.{◌≡◌, ◌∙◌, ◌⊎◌, ℕ, ◌+◌, ◌-◌, ◌*◌, ◌^◌, ◌/◌, ◌%◌, ◌<◌, ◌≤◌, true, ◌&&◌, leb, lit≤, lit<, inl, inr, zero, suc, ℤ, pos, negsuc, w64, List, [], ◌∷◌, ◌++◌, length, get_or, map, Option, Some, None, sym, ap, subst, append_assoc, arith, refl}
 use Rattle.std.specs.Prelude.{FitsSigned}
 use Rattle.std.specs.Int.Digits.{digits_of, number_from_digits, number_from_digits_after, AllBelowBase}
 use Rattle.std.proofs.lemmas.Int.Digits.{digits_of_step, number_digits_of, length-digits_of-le, first_digits_of}
 use Rattle.std.proofs.lemmas.Nat.{mul-le}
 use Rattle.std.proofs.Math.Nat.{pow-succ', mul_assoc}
-use Rattle.std.proofs.lemmas.Bool.{cases_lt, lt-ltb, le-ltb, le-leb, ne_eqb, ltb-true, leb-true}
+use Rattle.std.proofs.lemmas.Bool.{cases_lt, lt-ltb, le-ltb, le-leb, ne_eqb, ltb-true, leb-true, cases_Bool}
 use Rattle.std.proofs.lemmas.List.{length-map, append-nil, get_or_default}
 use Rattle.z_types.specs.equality.Tests.{both_true}
 use Rattle.z_ber.specs.Written.{natural_octets, int_octets}
@@ -202,15 +202,11 @@ signed-found d ds z h e s =
           rw z-is (sym (ap turned back ∙ turned_twice (d ∷ ds) h))
     ]
 
-either_case : (b : Bool) → (b ≡ true) ⊎ (b ≡ false)
-either_case true = inl refl
-either_case false = inr refl
-
 pub int_at-found : (contents : List ℕ) (z : ℤ) → IsBytes contents → int_at contents ≡ Some z → contents ≡ int_octets z
 unfolding int_at
 int_at-found [] z fits e = no_int z (int_at []) refl e
 int_at-found (d ∷ ds) z fits e =
-    elim (either_case (is_fewest (d ∷ ds) && leb (length (d ∷ ds)) 8)) [
+    elim (cases_Bool (is_fewest (d ∷ ds) && leb (length (d ∷ ds)) 8)) [
       | inl held ↦
           let on : int_at (d ∷ ds) ≡ signed_at (d ∷ ds) = rw held refl in
           signed-found d ds z (below (d ∷ ds) fits) (both_true (is_fewest (d ∷ ds)) (leb (length (d ∷ ds)) 8) held).0 (sym on ∙ e)

@@ -1,5 +1,5 @@
 -- The element at the front of octets, or the place where they begin with none, by the header that was read.
-use Rattle.std.proofs.Common.{◌≡◌, ◌∙◌, ◌≢◌, ℕ, ◌+◌, ◌-◌, ◌<◌, ◌≤◌, zero, suc, Bool, true, false, not, inl, inr, List, [], ◌++◌, length, take, drop, Option, Some, None, Ok, Err, sym, ap, subst, append_assoc, arith, refl}
+use Rattle.std.proofs.Common.{◌≡◌, ◌∙◌, ◌≢◌, ℕ, ◌+◌, ◌-◌, ◌<◌, ◌≤◌, zero, suc, Bool, true, false, inl, inr, List, [], ◌++◌, length, take, drop, Option, Some, None, Ok, Err, sym, ap, subst, append_assoc, arith, refl}
 use Rattle.std.proofs.lemmas.List.{length-append, append-nil, take_at, take-append-drop, length-take-le, take_all}
 use Rattle.z_ber.specs.declared.fault.BerFault.{BerFault}
 use Rattle.z_ber.specs.declared.fault.BerFault.TheVariants.{Short, BadTag, BadLength, TooLarge, TooDeep}
@@ -166,17 +166,6 @@ unit_lent size octets lent small le h lends =
     (w.0, record { small = small; element = w.1 }, subst (λ (l : Lent). IsLentAs 64 l w.0) (sym (ok_is {A = Lent} (Ok lent) lent found.0 refl found.1)) found.2)
 
 -- ---- tests as they are made
-
-differ : {P : Type 0} (b : Bool) → b ≡ true → b ≡ false → P
-differ b p q = absurd cc
-
-pub not_true : (b : Bool) → not b ≡ true → b ≡ false
-not_true true e = differ false e refl
-not_true false e = refl
-
-pub not_false : (b : Bool) → not b ≡ false → b ≡ true
-not_false true e = refl
-not_false false e = differ true refl e
 
 -- ---- octets that begin with no element, by the header that was read
 

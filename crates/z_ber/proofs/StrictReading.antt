@@ -1,8 +1,8 @@
 -- Octets in written form are read as what they spell, and others are not read.
-use Rattle.std.proofs.Common.{◌≡◌, ◌∙◌, ◌⊎◌, ℕ, ◌+◌, ◌-◌, ◌*◌, ◌^◌, ◌<◌, Bool, true, false, ◌==◌, ltb, lit≤, inl, inr, List, [], ◌∷◌, ◌++◌, length, take, drop, Option, Some, None, Result, Ok, Err, sym, ap, subst, append_assoc, arith, refl}
+use Rattle.std.proofs.Common.{◌≡◌, ◌∙◌, ℕ, ◌+◌, ◌-◌, ◌*◌, ◌^◌, ◌<◌, Bool, true, false, ◌==◌, ltb, lit≤, inl, inr, List, [], ◌∷◌, ◌++◌, length, take, drop, Option, Some, None, Result, Ok, Err, sym, ap, subst, append_assoc, arith, refl}
 use Rattle.std.specs.Int.Digits.{digits_of, number_from_digits_after, AllBelowBase}
 use Rattle.std.proofs.lemmas.Int.Digits.{number_digits_of, all_below_base_digits_of, length-digits_of-le}
-use Rattle.std.proofs.lemmas.Bool.{cases_lt, lt-ltb, le-ltb, eqb-true, eq-eqb}
+use Rattle.std.proofs.lemmas.Bool.{cases_lt, lt-ltb, le-ltb, eqb-true, eq-eqb, cases_Bool}
 use Rattle.std.proofs.lemmas.List.{length-append, take-append-drop, take_at, drop_at, length-take-le}
 use Rattle.z_ber.specs.declared.fault.BerFault.{BerFault}
 use Rattle.z_ber.specs.declared.tag.Tag.{Tag}
@@ -74,10 +74,6 @@ some_parts x y o p q = cc
 no_parts : {P : Type 0} (x : Parts) (o : Option Parts) → o ≡ None → o ≡ Some x → P
 no_parts x o p q = absurd cc
 
-either_case : (b : Bool) → (b ≡ true) ⊎ (b ≡ false)
-either_case true = inl refl
-either_case false = inr refl
-
 abbrev Found : List ℕ → Parts → Type 0
 Found bytes x = IsTag x.0 × (bytes ≡ element x.0 x.1 ++ x.2)
 
@@ -98,7 +94,7 @@ contents_found bytes t n ends body x valid s e h =
 fewest_found : (bytes : List ℕ) (t : Tag) (len : Option ℕ) (ends body : List ℕ) (x : Parts) → IsTag t → bytes ≡ tag_octets t ++ (ends ++ body) → IsLength t.constructed ends len → fewest_at t (length ends) len body ≡ Some x → Found bytes x
 fewest_found bytes t None ends body x valid s l h = no_parts x None refl h
 fewest_found bytes t (Some n) ends body x valid s l h =
-    elim (either_case (length ends == fewest_size n)) [
+    elim (cases_Bool (length ends == fewest_size n)) [
       | inl same ↦
           let e = eqb-true (length ends) (fewest_size n) same in
           let on : fewest_at t (length ends) (Some n) body ≡ contents_at t n body = rw same refl in

@@ -2,7 +2,7 @@
 use Rattle.std.proofs.Common.{◌≡◌, ◌∙◌, ◌⊎◌, ℕ, ◌+◌, ◌-◌, ◌*◌, ◌^◌, ◌/◌, ◌%◌, ◌<◌, ◌≤◌, Bool, true, false, ◌||◌, ◌==◌, ltb, eqb, lit≤, lit<, zero, suc, inl, inr, List, [], ◌∷◌, ◌++◌, length, get_or, map, Result, Ok, Err, sym, ap, subst, append_assoc, arith, refl}
 use Rattle.std.specs.Int.Digits.{digits_of, number_from_digits_after, AllBelowBase}
 use Rattle.std.proofs.lemmas.Int.Digits.{digits_of_step, number_after_ge, number_digits_of, all_below_base_digits_of, first_digits_of}
-use Rattle.std.proofs.lemmas.Bool.{cases_lt, lt-ltb, le-ltb, ltb-false, ne_eqb}
+use Rattle.std.proofs.lemmas.Bool.{cases_lt, lt-ltb, le-ltb, ltb-false, ne_eqb, or_parts}
 use Rattle.std.proofs.lemmas.List.{map-append, get_or_default}
 use Rattle.z_ber.specs.declared.fault.BerFault.{BerFault}
 use Rattle.z_ber.specs.declared.fault.BerFault.TheVariants.{Short, BadTag}
@@ -105,13 +105,9 @@ abbrev either_case : (b : Bool) → (b ≡ true) ⊎ (b ≡ false)
 either_case true = inl refl
 either_case false = inr refl
 
-neither : (a b : Bool) → (a || b) ≡ false → (a ≡ false) × (b ≡ false)
-neither true b e = absurd cc
-neither false b e = (refl, e)
-
 pub IsOut-not : (number : ℕ) → IsOut number ≡ false → (0 < number) × (number < 2 ^ 24)
 IsOut-not number e =
-    let n = neither (eqb number 0) (ltb 16777215 number) e in
+    let n = or_parts (eqb number 0) (ltb 16777215 number) e in
     (not_zero number n.0, omega (arith, ltb-false 16777215 number n.1))
   where
     not_zero : (k : ℕ) → eqb k 0 ≡ false → 0 < k

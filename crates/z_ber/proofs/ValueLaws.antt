@@ -1,10 +1,10 @@
 -- Contents octets stand for one value: BOOLEAN, INTEGER, BIT STRING, OBJECT IDENTIFIER.
-use Rattle.std.proofs.Common.{◌≡◌, ◌∙◌, ◌⊎◌, ℕ, ◌+◌, ◌-◌, ◌*◌, ◌/◌, ◌%◌, ◌<◌, Bool, true, false, ◌&&◌, ◌||◌, ◌==◌, ltb, zero, suc, ℤ, pos, negsuc, lit≤, lit<, inl, inr, List, [], ◌∷◌, ◌++◌, length, get_or, map, reverse, sym, ap, subst, arith, refl}
+use Rattle.std.proofs.Common.{◌≡◌, ◌∙◌, ◌⊎◌, ℕ, ◌+◌, ◌-◌, ◌*◌, ◌/◌, ◌%◌, ◌<◌, Bool, true, false, ◌&&◌, ◌==◌, ltb, zero, suc, ℤ, pos, negsuc, lit≤, lit<, inl, inr, List, [], ◌∷◌, ◌++◌, length, get_or, map, reverse, sym, ap, subst, arith, refl}
 use Rattle.std.specs.List.{flat_map, AllByRecursion}
 use Rattle.std.specs.Int.Digits.{digits_of, number_from_digits}
 use Rattle.std.proofs.lemmas.Int.Digits.{same_from_digits_of, number_digits_of, all_below_base_digits_of}
 use Rattle.z_types.specs.equality.Tests.{both_true}
-use Rattle.std.proofs.lemmas.Bool.{cases_lt, cases_eq, lt-ltb, ltb-true, le-ltb, eqb-true}
+use Rattle.std.proofs.lemmas.Bool.{cases_lt, cases_eq, lt-ltb, ltb-true, le-ltb, eqb-true, or_cases}
 use Rattle.std.proofs.lemmas.List.{reverse-reverse, reverse-append, length-append}
 use Rattle.z_types.specs.Oid.{is_oid, has_root}
 use Rattle.z_ber.specs.Written.{septets, bool_octets, natural_octets, int_octets, mirror, bits_octets, oid_octets}
@@ -137,15 +137,11 @@ septets-filled n x e =
     let k : length ((front ++ (n % 128) ∷ []) ++ x) ≡ 0 = ap length e in
     omega (arith, k, length-append (front ++ (n % 128) ∷ []) x, length-append front ((n % 128) ∷ []))
 
-either_true : (a b : Bool) → (a || b) ≡ true → (a ≡ true) ⊎ (b ≡ true)
-either_true true b e = inl refl
-either_true false b e = inr e
-
 -- the first number is 2, or smaller with a small number behind it
 pub rooted : (x y : ℕ) (xs : List ℕ) → is_oid (x ∷ y ∷ xs) ≡ true → (x ≡ 2) ⊎ ((x < 2) × (y < 40))
 rooted x y xs e =
     let root = both_true (has_root (x ∷ y ∷ xs)) _ e in
-    elim (either_true (x == 2) (ltb x 2 && ltb y 40) root.0) [
+    elim (or_cases (x == 2) (ltb x 2 && ltb y 40) root.0) [
       | inl two ↦ inl (eqb-true x 2 two)
       | inr low ↦ let b = both_true (ltb x 2) (ltb y 40) low in inr (ltb-true x 2 b.0, ltb-true y 40 b.1)
     ]

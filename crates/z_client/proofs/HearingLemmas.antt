@@ -1,6 +1,6 @@
 -- What is heard of a unit by what is pending (this project's own)
-use Rattle.std.proofs.Common.{arith, ◌≤◌, ◌≡◌, ◌∙◌, ℕ, Bool, true, false, cond, ◌&&◌, List, [], length, Option, None, Some, Result, Ok, Err, IfOk, option_map, option_and_then, nat_le, refl, sym, ap, subst}
-use Rattle.std.proofs.lemmas.Bool.Decides.{leb_tells}
+use Rattle.std.proofs.Common.{◌≡◌, ◌∙◌, ℕ, Bool, true, false, cond, ◌&&◌, List, [], length, Option, None, Some, Result, Ok, Err, IfOk, option_map, option_and_then, nat_le, refl, sym, ap, subst}
+use Rattle.std.proofs.lemmas.Bool.{leb-true}
 use Rattle.z_ber.proofs.OnePlace.{unit_no_place}
 use Rattle.z_ber.proofs.TreeLaws.{element_one}
 use Rattle.unit_forms.specs.declared.refusal.Refusal.{Refusal}
@@ -67,9 +67,6 @@ heard_where : (P : Heard → Type 0) (b : Bool) (one heard : Heard) → (b ≡ t
 heard_where P true one heard p e = let same : one ≡ heard = cc in subst P same (p refl)
 heard_where P false one heard p e = absurd cc
 
-is_at_most : (a b : ℕ) → nat_le a b ≡ true → a ≤ b
-is_at_most a b h = grind (arith, leb_tells)
-
 opening_ends : (heard : Heard) (reply : Reply) → opening_heard reply ≡ Some heard → EndsWait opening heard
 opening_ends heard reply e =
     heard_where (λ h. EndsWait opening h) (accepts reply) Opened heard (λ t. record { fits = tt; rests = refl }) e
@@ -79,7 +76,7 @@ module _ (name : List ℕ) (key : SetKey) where
   search_ends None heard e = absurd cc
   search_ends (Some (Ok hits)) heard e =
       heard_where (λ h. EndsWait (asked (Search name key)) h) (nat_le hits most_number) (Hits hits) heard
-      (λ t. record { fits = is_at_most hits most_number t; rests = refl }) e
+      (λ t. record { fits = leb-true hits most_number t; rests = refl }) e
   search_ends (Some (Err diag)) heard e =
       heard_is (λ h. EndsWait (asked (Search name key)) h) (Refused diag) heard (record { fits = tt; rests = refl }) e
 
@@ -92,7 +89,7 @@ module _ (name : List ℕ) (first count : ℕ) (syntax element : Option (List �
   present_ends (Some (Ok items)) heard e =
       heard_where (λ h. EndsWait presenting h) (nat_le 1 (length items) && nat_le (length items) count) (Items items) heard
       (λ t. record {
-        fits = (is_at_most 1 (length items) (both_true _ _ t).0, is_at_most (length items) count (both_true _ _ t).1);
+        fits = (leb-true 1 (length items) (both_true _ _ t).0, leb-true (length items) count (both_true _ _ t).1);
         rests = refl;
       }) e
   present_ends (Some (Err diag)) heard e =

@@ -1,6 +1,6 @@
 -- What is heard of a true peer's reply is the world's (this project's own)
-use Rattle.std.proofs.Common.{arith, ◌≡◌, ◌∙◌, ℕ, ◌≤◌, Bool, true, false, cond, ◌&&◌, List, length, Option, None, Some, Result, Ok, Err, IfOk, option_map, option_and_then, nat_le, refl, ap, subst}
-use Rattle.std.proofs.lemmas.Bool.Decides.{leb_tells}
+use Rattle.std.proofs.Common.{◌≡◌, ◌∙◌, ℕ, ◌≤◌, Bool, true, false, cond, ◌&&◌, List, length, Option, None, Some, Result, Ok, Err, IfOk, option_map, option_and_then, refl, ap, subst}
+use Rattle.std.proofs.lemmas.Bool.{le-leb}
 use Rattle.z_types.specs.Bib1.{is_gone}
 use Rattle.z_types.specs.Bounds.{most_number}
 use Rattle.z_types.specs.Tree.{Tree, leaf, operand, and, or, and_not}
@@ -44,9 +44,6 @@ pub heard_of_two : (P : Heard → Type 0) (b : Bool) (one two heard : Heard) →
 heard_of_two P true one two heard p q e = let same : one ≡ heard = cc in subst P same p
 heard_of_two P false one two heard p q e = let same : two ≡ heard = cc in subst P same q
 
-is_le : (a b : ℕ) → a ≤ b → nat_le a b ≡ true
-is_le a b h = grind (arith, leb_tells)
-
 both_are : {a b : Bool} → a ≡ true → b ≡ true → (a && b) ≡ true
 both_are {a} {b} e f = cc
 
@@ -57,7 +54,7 @@ module _ {W : Type 0} (w : world.Ghosts W) (address : Address) (made : Made) whe
 
   search_true : (name : List ℕ) (key : SetKey) (found : Result ℕ Diag) → w.search address key ≡ found → IfOk found (λ hits. hits ≤ most_number)
       → Hears (λ a. IsWorlds w address made (asked (Search name key)) a) (search_heard found)
-  search_true name key (Ok hits) e few = (Hits hits, ap (λ b. cond b (Some (Hits hits)) None) (is_le hits most_number few), e)
+  search_true name key (Ok hits) e few = (Hits hits, ap (λ b. cond b (Some (Hits hits)) None) (le-leb hits most_number few), e)
   search_true name key (Err diag) e few = (Refused diag, refl, e)
 
   -- of a reply to a Search
@@ -95,7 +92,7 @@ module _ {W : Type 0} (w : world.Ghosts W) (address : Address) (made : Made) whe
     presented_true None p = absurd p
     presented_true (Some (Ok items)) p = (
       Items items,
-      ap (λ b. cond b (Some (Items items)) None) (both_are (is_le 1 (length items) p.0) (is_le (length items) count p.1)),
+      ap (λ b. cond b (Some (Items items)) None) (both_are (le-leb 1 (length items) p.0) (le-leb (length items) count p.1)),
       p.2,
     )
     presented_true (Some (Err diag)) p = (gone_or_refused diag, refl, refused_true (is_gone diag) diag p)

@@ -1,5 +1,6 @@
 -- The first element of some tags, met from the front.
-use Rattle.std.proofs.Common.{◌≡◌, ◌∙◌, ◌<◌, Bool, true, false, cond, ◌==◌, List, Some, None, sym, ap, arith, refl}
+use Rattle.std.proofs.Common.{◌≡◌, ◌∙◌, ◌<◌, true, false, cond, ◌==◌, List, Some, None, sym, ap, arith, refl}
+use Rattle.std.proofs.lemmas.Bool.{cond-false, cond-true}
 use Rattle.z_ber.specs.declared.tag.Tag.{Tag}
 use Rattle.z_ber.specs.Element.{Forest, none, leaf, branch}
 use Rattle.unit_forms.specs.Reading.Elements.{Field, first_element, other_elements, is_constructed, is_one_of, first_of, first_constructed, first_context}
@@ -41,46 +42,40 @@ constructed_at wanted none f e = some_none f e
 constructed_at wanted (leaf t c os) f e = rw (field_is f _ e) refl
 constructed_at wanted (branch t c is os) f e = rw (field_is f _ e) refl
 
-when : {A : Type 0} (b : Bool) (x y : A) → b ≡ true → cond b x y ≡ x
-when b x y e = rw e refl
-
-unless : {A : Type 0} (b : Bool) (x y : A) → b ≡ false → cond b x y ≡ y
-unless b x y e = rw e refl
-
 -- no element is left, and none was passed that is the one
 pub none_first : (choice : List Tag) (start forest : Forest) → first_of choice start ≡ first_of choice forest → None ≡ first_element forest → None ≡ first_of choice start
 none_first choice start forest passed e = sym (passed ∙ none_at choice forest e)
 
 -- the element at the front is the one
 pub here_first : (choice : List Tag) (start forest : Forest) (f : Field) → first_of choice start ≡ first_of choice forest → Some f ≡ first_element forest → is_one_of choice f.tag ≡ true → Some f ≡ first_of choice start
-here_first choice start forest f passed e y = sym (passed ∙ first_at choice forest f e ∙ when (is_one_of choice f.tag) _ _ y)
+here_first choice start forest f passed e y = sym (passed ∙ first_at choice forest f e ∙ cond-true (is_one_of choice f.tag) _ _ y)
 
 -- it is passed
 pub later_first : (choice : List Tag) (start forest others : Forest) (f : Field) → first_of choice start ≡ first_of choice forest → Some f ≡ first_element forest → others ≡ other_elements forest → is_one_of choice f.tag ≡ false → first_of choice start ≡ first_of choice others
 later_first choice start forest others f passed e o y =
-    passed ∙ first_at choice forest f e ∙ unless (is_one_of choice f.tag) _ _ y ∙ ap (first_of choice) (sym o)
+    passed ∙ first_at choice forest f e ∙ cond-false (is_one_of choice f.tag) _ _ y ∙ ap (first_of choice) (sym o)
 
 -- likewise of the context class
 pub none_context : (start forest : Forest) → first_context start ≡ first_context forest → None ≡ first_element forest → None ≡ first_context start
 none_context start forest passed e = sym (passed ∙ none_context_at forest e)
 
 pub here_context : (start forest : Forest) (f : Field) → first_context start ≡ first_context forest → Some f ≡ first_element forest → (f.tag.class == 2) ≡ true → Some f ≡ first_context start
-here_context start forest f passed e y = sym (passed ∙ context_at forest f e ∙ when (f.tag.class == 2) _ _ y)
+here_context start forest f passed e y = sym (passed ∙ context_at forest f e ∙ cond-true (f.tag.class == 2) _ _ y)
 
 pub later_context : (start forest others : Forest) (f : Field) → first_context start ≡ first_context forest → Some f ≡ first_element forest → others ≡ other_elements forest → (f.tag.class == 2) ≡ false → first_context start ≡ first_context others
 later_context start forest others f passed e o y =
-    passed ∙ context_at forest f e ∙ unless (f.tag.class == 2) _ _ y ∙ ap first_context (sym o)
+    passed ∙ context_at forest f e ∙ cond-false (f.tag.class == 2) _ _ y ∙ ap first_context (sym o)
 
 -- likewise of a constructed one with a tag
 pub none_constructed : (wanted : Tag) (start forest : Forest) → first_constructed wanted start ≡ first_constructed wanted forest → None ≡ first_element forest → None ≡ first_constructed wanted start
 none_constructed wanted start forest passed e = sym (passed ∙ none_constructed_at wanted forest e)
 
 pub here_constructed : (wanted : Tag) (start forest : Forest) (f : Field) → first_constructed wanted start ≡ first_constructed wanted forest → Some f ≡ first_element forest → is_constructed wanted f.tag ≡ true → Some f ≡ first_constructed wanted start
-here_constructed wanted start forest f passed e y = sym (passed ∙ constructed_at wanted forest f e ∙ when (is_constructed wanted f.tag) _ _ y)
+here_constructed wanted start forest f passed e y = sym (passed ∙ constructed_at wanted forest f e ∙ cond-true (is_constructed wanted f.tag) _ _ y)
 
 pub later_constructed : (wanted : Tag) (start forest others : Forest) (f : Field) → first_constructed wanted start ≡ first_constructed wanted forest → Some f ≡ first_element forest → others ≡ other_elements forest → is_constructed wanted f.tag ≡ false → first_constructed wanted start ≡ first_constructed wanted others
 later_constructed wanted start forest others f passed e o y =
-    passed ∙ constructed_at wanted forest f e ∙ unless (is_constructed wanted f.tag) _ _ y ∙ ap (first_constructed wanted) (sym o)
+    passed ∙ constructed_at wanted forest f e ∙ cond-false (is_constructed wanted f.tag) _ _ y ∙ ap (first_constructed wanted) (sym o)
 
 fewer_at : (forest : Forest) (f : Field) → Some f ≡ first_element forest → count (other_elements forest) < count forest
 fewer_at none f e = some_none f e

@@ -1,21 +1,18 @@
 -- The first field with each place is kept, and is found by its number.
 use Rattle.std.proofs.Common.{◌≡◌, ◌≢◌, ◌<◌, ◌≤◌, ◌+◌, ◌∙◌, ℕ, zero, suc, Bool, true, false, cond, ◌==◌, ◌&&◌, ◌||◌, List, [], ◌∷◌, ◌++◌, length, get_or, slice_get, Option, Some, None, inl, inr, ◌⊎◌, eqb, sym, ap, subst, arith, refl}
 use Rattle.std.proofs.Math.ListN.{set}
-use Rattle.std.proofs.lemmas.Bool.{eqb-true}
+use Rattle.std.proofs.lemmas.Bool.{eqb-true, and_parts, cond-false, cond-true}
 use Rattle.std.proofs.lemmas.Bool.Decides.{nat_tests, eqb_tells}
 use Rattle.std.proofs.lemmas.List.{get_or-set_same, get_or-set_other, length-set, length-append}
+use Rattle.std.proofs.lemmas.Option.{same_Some}
 use Rattle.z_ber.specs.declared.tag.Tag.{Tag}
 use Rattle.z_ber.specs.Element.{Forest, none, leaf, branch}
 use Rattle.unit_forms.specs.Reading.Elements.{Field, field_of, first_element, other_elements, has_tag, first_of}
 use Rattle.z_fields.specs.Index.{place_count, place_of, has_place, first_at, behind, kept_at, or_field, Indexes, free, is_new, places_with, kept_with}
 
-pub and_both : (a b : Bool) → (a && b) ≡ true → (a ≡ true) × (b ≡ true)
-and_both true b e = (refl, e)
-and_both false b e = absurd (grind arith)
-
 pub same_class : (s t : Tag) → has_tag s t ≡ true → (w : Tag) → has_tag s w ≡ has_tag t w
 same_class s t e w =
-    let p = and_both (s.class == t.class) (s.number == t.number) e in
+    let p = and_parts (s.class == t.class) (s.number == t.number) e in
     let c : s.class ≡ t.class = eqb-true s.class t.class p.0 in
     let n : s.number ≡ t.number = eqb-true s.number t.number p.1 in cc
 
@@ -23,7 +20,7 @@ same_class s t e w =
 
 same_place : (tag wanted : Tag) → has_tag tag wanted ≡ true → wanted.class ≡ 2 → has_place (place_of wanted.number) tag ≡ true
 same_place tag wanted e c =
-    let p = and_both (tag.class == wanted.class) (tag.number == wanted.number) e in
+    let p = and_parts (tag.class == wanted.class) (tag.number == wanted.number) e in
     let k : tag.class ≡ 2 = eqb-true tag.class wanted.class p.0 ∙ c in
     let n : tag.number ≡ wanted.number = eqb-true tag.number wanted.number p.1 in
     rw (k, n) (its_own (place_of wanted.number))
@@ -36,9 +33,6 @@ no b e f = absurd (grind arith)
 
 no_some : {P : Type 0} {X : Type 0} (x : X) → None ≡ Some x → P
 no_some x e = absurd (grind arith)
-
-is_some : {X : Type 0} (x y : X) → Some x ≡ Some y → x ≡ y
-is_some x y e = cc
 
 -- where no element has the place, none has the tag
 pub none_there : (wanted : Tag) (elements : Forest) → wanted.class ≡ 2 → None ≡ first_at (place_of wanted.number) elements → None ≡ first_of (wanted ∷ []) elements
@@ -73,7 +67,7 @@ first_there wanted (leaf t i os) f c e has = by (has_place (place_of wanted.numb
 
     by : (b : Bool) → has_place (place_of wanted.number) t ≡ b → Some f ≡ cond b (Some (field_of t i none)) (first_at (place_of wanted.number) os) → (Some f ≡ first_at (place_of wanted.number) os → Some f ≡ first_of (wanted ∷ []) os) → Some f ≡ first_of (wanted ∷ []) (leaf t i os)
     by true is h rest =
-        let same : f ≡ field_of t i none = is_some _ _ h in
+        let same : f ≡ field_of t i none = same_Some _ _ h in
         let own : has_tag t wanted ≡ true = subst (λ (g : Field). has_tag g.tag wanted ≡ true) same has in rw own h
     by false is h rest = other (has_tag t wanted) is refl (rest h)
 first_there wanted (branch t i x os) f c e has = by (has_place (place_of wanted.number) t) refl e (λ h. first_there wanted os f c h has)
@@ -84,7 +78,7 @@ first_there wanted (branch t i x os) f c e has = by (has_place (place_of wanted.
 
     by : (b : Bool) → has_place (place_of wanted.number) t ≡ b → Some f ≡ cond b (Some (field_of t i x)) (first_at (place_of wanted.number) os) → (Some f ≡ first_at (place_of wanted.number) os → Some f ≡ first_of (wanted ∷ []) os) → Some f ≡ first_of (wanted ∷ []) (branch t i x os)
     by true is h rest =
-        let same : f ≡ field_of t i x = is_some _ _ h in
+        let same : f ≡ field_of t i x = same_Some _ _ h in
         let own : has_tag t wanted ≡ true = subst (λ (g : Field). has_tag g.tag wanted ≡ true) same has in rw own h
     by false is h rest = other (has_tag t wanted) is refl (rest h)
 
@@ -92,14 +86,8 @@ first_there wanted (branch t i x os) f c e has = by (has_place (place_of wanted.
 
 first_next : (place : ℕ) (left : Forest) (f : Field) → Some f ≡ first_element left → first_at place left ≡ cond (has_place place f.tag) (Some f) (first_at place (other_elements left))
 first_next place none f e = no_some f (sym e)
-first_next place (leaf t c os) f e = rw (is_some f _ e) refl
-first_next place (branch t c is os) f e = rw (is_some f _ e) refl
-
-when : {A : Type 0} (b : Bool) (x y : A) → b ≡ true → cond b x y ≡ x
-when b x y e = rw e refl
-
-unless : {A : Type 0} (b : Bool) (x y : A) → b ≡ false → cond b x y ≡ y
-unless b x y e = rw e refl
+first_next place (leaf t c os) f e = rw (same_Some f _ e) refl
+first_next place (branch t c is os) f e = rw (same_Some f _ e) refl
 
 -- what stands behind a place stays there where another field is kept
 behind_more : (n : ℕ) (kept : List Field) (f : Field) → n ≤ length kept → behind n (kept ++ f ∷ []) ≡ behind n kept
@@ -154,8 +142,8 @@ all_zero (n ∷ ns) = (n == 0) && all_zero ns
 
 zero_there : (ns : List ℕ) → all_zero ns ≡ true → (i : ℕ) → get_or ns i 0 ≡ 0
 zero_there [] h i = refl
-zero_there (n ∷ ns) h zero = eqb-true n 0 (and_both (n == 0) (all_zero ns) h).0
-zero_there (n ∷ ns) h (suc i) = zero_there ns (and_both (n == 0) (all_zero ns) h).1 i
+zero_there (n ∷ ns) h zero = eqb-true n 0 (and_parts (n == 0) (all_zero ns) h).0
+zero_there (n ∷ ns) h (suc i) = zero_there ns (and_parts (n == 0) (all_zero ns) h).1 i
 
 pub index_begin : (start left : Forest) (places : List ℕ) (kept : List Field) → length places ≡ place_count → all_zero places ≡ true → length kept + free places ≡ place_count → left ≡ start → Indexes start places kept left
 index_begin start left places kept whole zeros room same = record {
@@ -189,7 +177,7 @@ kept_new start left places kept f so e new = record {
 }
   where
     is : ((f.tag.class == 2) ≡ true) × ((get_or places (place_of f.tag.number) 0 == 0) ≡ true)
-    is = and_both _ _ new
+    is = and_parts _ _ new
 
     roomy : length (kept ++ f ∷ []) + free (set places (place_of f.tag.number) (suc (length kept))) ≡ place_count
     roomy = let low : place_of f.tag.number < length places = subst (λ n. place_of f.tag.number < n) (sym so.whole) (low_place f.tag.number) in
@@ -207,12 +195,12 @@ kept_new start left places kept f so e new = record {
 
     by : (place : ℕ) → place < place_count → (b : Bool) → has_place place f.tag ≡ b → first_at place start ≡ or_field (kept_at (set places (place_of f.tag.number) (suc (length kept))) (kept ++ f ∷ []) place) (first_at place (other_elements left))
     by place low true has =
-        let here : place_of f.tag.number ≡ place = eqb-true (place_of f.tag.number) place (and_both (f.tag.class == 2) (place_of f.tag.number == place) has).1 in
+        let here : place_of f.tag.number ≡ place = eqb-true (place_of f.tag.number) place (and_parts (f.tag.class == 2) (place_of f.tag.number == place) has).1 in
         let empty : kept_at places kept place ≡ None = ap (λ n. behind n kept) (ap (λ p. get_or places p 0) (sym here) ∙ eqb-true (get_or places (place_of f.tag.number) 0) 0 is.1) in
         let own : kept_at (set places (place_of f.tag.number) (suc (length kept))) (kept ++ f ∷ []) place ≡ Some f = subst (λ p. kept_at (set places (place_of f.tag.number) (suc (length kept))) (kept ++ f ∷ []) p ≡ Some f) here (kept_own places kept f so.whole) in
-        so.firsts place low ∙ same_or _ _ _ _ empty (first_next place left f e ∙ when _ _ _ has) ∙ sym (ap (λ o. or_field o (first_at place (other_elements left))) own)
+        so.firsts place low ∙ same_or _ _ _ _ empty (first_next place left f e ∙ cond-true _ _ _ has) ∙ sym (ap (λ o. or_field o (first_at place (other_elements left))) own)
     by place low false has =
-        so.firsts place low ∙ same_or _ _ _ _ (sym (kept_elsewhere places kept f place (so.within place) (elsewhere place has))) (first_next place left f e ∙ unless _ _ _ has)
+        so.firsts place low ∙ same_or _ _ _ _ (sym (kept_elsewhere places kept f place (so.within place) (elsewhere place has))) (first_next place left f e ∙ cond-false _ _ _ has)
       where
         elsewhere : (place : ℕ) → has_place place f.tag ≡ false → place ≢ place_of f.tag.number
         elsewhere place has same = no (place_of f.tag.number == place) (let k : (place == place) ≡ true = grind (arith, nat_tests) in subst (λ p. (p == place) ≡ true) same k) (behind_true (f.tag.class == 2) _ is.0 has)
@@ -232,14 +220,14 @@ kept_old start left places kept f so e old = record {
 
     by : (place : ℕ) → place < place_count → (b : Bool) → has_place place f.tag ≡ b → first_at place start ≡ or_field (kept_at places kept place) (first_at place (other_elements left))
     by place low true has =
-        let here : place_of f.tag.number ≡ place = eqb-true (place_of f.tag.number) place (and_both (f.tag.class == 2) (place_of f.tag.number == place) has).1 in
+        let here : place_of f.tag.number ≡ place = eqb-true (place_of f.tag.number) place (and_parts (f.tag.class == 2) (place_of f.tag.number == place) has).1 in
         let some = behind_some (get_or places place 0) kept (so.within place) (subst (λ p. (get_or places p 0 == 0) ≡ false) here (full (f.tag.class == 2) _ _ old has)) in
         so.firsts place low ∙ either (kept_at places kept place) some.0 _ _ some.1
       where
         either : (a : Option Field) (g : Field) (x y : Option Field) → a ≡ Some g → or_field a x ≡ or_field a y
         either a g x y is = rw is refl
     by place low false has =
-        so.firsts place low ∙ ap (or_field (kept_at places kept place)) (first_next place left f e ∙ unless _ _ _ has)
+        so.firsts place low ∙ ap (or_field (kept_at places kept place)) (first_next place left f e ∙ cond-false _ _ _ has)
 
 -- one element is passed
 pub index_on : (start left others : Forest) (places new_places : List ℕ) (kept new_kept : List Field) (f : Field) → Indexes start places kept left → Some f ≡ first_element left → others ≡ other_elements left → new_places ≡ places_with places kept f → new_kept ≡ kept_with places kept f → Indexes start new_places new_kept others

@@ -4,7 +4,7 @@ use Rattle.std.specs.Prelude.{FitsSigned, option_map}
 use Rattle.std.specs.List.{flat_map, list_all}
 use Rattle.std.specs.Int.Digits.{digits_of, number_from_digits, number_from_digits_after, AllBelowBase}
 use Rattle.std.proofs.lemmas.Int.Digits.{number_digits_of, number_lt, length-digits_of-le, all_below_base_digits_of}
-use Rattle.std.proofs.lemmas.Bool.{lt-ltb, le-ltb, le-leb, ne_eqb, ltb-true, leb-true}
+use Rattle.std.proofs.lemmas.Bool.{lt-ltb, le-ltb, le-leb, ne_eqb, ltb-true, leb-true, cases_Bool}
 use Rattle.std.proofs.lemmas.List.{length-map, length-reverse, reverse-reverse, take_all}
 use Rattle.std.proofs.Math.Nat.{pow-le-pow_right, mod-eq_of_lt}
 use Rattle.z_types.specs.Numbers.{IsNumber}
@@ -26,10 +26,6 @@ truth_in-again false = refl
 
 -- ---- INTEGER
 
-either_case : (b : Bool) → (b ≡ true) ⊎ (b ≡ false)
-either_case true = inl refl
-either_case false = inr refl
-
 no_int : {P : Type 0} (z : ℤ) (o : Option ℤ) → o ≡ None → o ≡ Some z → P
 no_int z o p q = absurd cc
 
@@ -37,7 +33,7 @@ no_int z o p q = absurd cc
 int_at-few : (contents : List ℕ) (z : ℤ) → int_at contents ≡ Some z → length contents ≤ 8
 unfolding int_at
 int_at-few contents z e =
-    elim (either_case (is_fewest contents && leb (length contents) 8)) [
+    elim (cases_Bool (is_fewest contents && leb (length contents) 8)) [
       | inl held ↦ leb-true (length contents) 8 (both_true (is_fewest contents) (leb (length contents) 8) held).1
       | inr broken ↦ let off : int_at contents ≡ None = rw broken refl in no_int z (int_at contents) off e
     ]

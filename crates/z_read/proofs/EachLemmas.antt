@@ -1,7 +1,7 @@
 -- Elements one after another are read from the front.
 use Rattle.std.proofs.Common.{◌≡◌, ◌∙◌, Bool, true, false, cond, leb, List, [], ◌∷◌, ◌++◌, Some, None, Result, Ok, Err, sym, ap, subst, append_assoc, arith, refl}
 use Rattle.std.proofs.lemmas.List.{append-nil}
-use Rattle.std.proofs.lemmas.Bool.{leb-true, leb-false}
+use Rattle.std.proofs.lemmas.Bool.{leb-true, leb-false, cond-false, cond-true}
 use Rattle.z_types.specs.declared.requests.Asked.{Asked}
 use Rattle.z_types.specs.declared.requests.Asked.TheVariants.{Good, Bad}
 use Rattle.z_ber.specs.Element.{Forest, none, leaf, branch}
@@ -60,12 +60,6 @@ nothing_joined : {A : Type 0} (more : Result (List A) Refusal) → more ≡ read
 nothing_joined (Ok ys) = refl
 nothing_joined (Err r) = refl
 
-when : {A : Type 0} (b : Bool) (x y : A) → b ≡ true → cond b x y ≡ x
-when b x y e = rw e refl
-
-unless : {A : Type 0} (b : Bool) (x y : A) → b ≡ false → cond b x y ≡ y
-unless b x y e = rw e refl
-
 -- no element is left
 each_none : {A : Type 0} (wanted : Field → Bool) (read : Field → Result A Refusal) (start left : Forest) (items : Result (List A) Refusal) → each wanted read start ≡ read_joined items (each wanted read left) → None ≡ first_element left → items ≡ each wanted read start
 each_none wanted read start left items passed e =
@@ -74,7 +68,7 @@ each_none wanted read start left items passed e =
 -- one is read
 each_on : {A : Type 0} (wanted : Field → Bool) (read : Field → Result A Refusal) (start left others : Forest) (items new : Result (List A) Refusal) (item : Result A Refusal) (f : Field) → each wanted read start ≡ read_joined items (each wanted read left) → Some f ≡ first_element left → others ≡ other_elements left → wanted f ≡ true → item ≡ read f → new ≡ read_behind items item → each wanted read start ≡ read_joined new (each wanted read others)
 each_on wanted read start left others items new item f passed e o y is more =
-    passed ∙ ap (read_joined items) (first_at wanted read left f e ∙ when (wanted f) _ _ y)
+    passed ∙ ap (read_joined items) (first_at wanted read left f e ∙ cond-true (wanted f) _ _ y)
     ∙ sym (behind_joined items (read f) (each wanted read (other_elements left)))
     ∙ ap (λ n. read_joined n (each wanted read (other_elements left))) (ap (read_behind items) (sym is) ∙ sym more)
     ∙ ap (λ q. read_joined new (each wanted read q)) (sym o)
@@ -82,7 +76,7 @@ each_on wanted read start left others items new item f passed e o y is more =
 -- one is skipped
 each_skipped : {A : Type 0} (wanted : Field → Bool) (read : Field → Result A Refusal) (start left others : Forest) (items : Result (List A) Refusal) (f : Field) → each wanted read start ≡ read_joined items (each wanted read left) → Some f ≡ first_element left → others ≡ other_elements left → wanted f ≡ false → each wanted read start ≡ read_joined items (each wanted read others)
 each_skipped wanted read start left others items f passed e o y =
-    passed ∙ ap (read_joined items) (first_at wanted read left f e ∙ unless (wanted f) _ _ y) ∙ ap (λ q. read_joined items (each wanted read q)) (sym o)
+    passed ∙ ap (read_joined items) (first_at wanted read left f e ∙ cond-false (wanted f) _ _ y) ∙ ap (λ q. read_joined items (each wanted read q)) (sym o)
 
 -- ---- the same, where a part may be one that is not served
 

@@ -1,5 +1,6 @@
 -- Elements that are skipped change nothing.
 use Rattle.std.proofs.Common.{◌≡◌, ◌∙◌, ℕ, ◌==◌, ◌&&◌, ◌||◌, arith, Bool, true, false, cond, List, [], ◌∷◌, Some, Result, Ok, Err, refl, sym, ap}
+use Rattle.std.proofs.lemmas.Bool.{and_parts}
 use Rattle.z_types.specs.declared.requests.Request.TheVariants as request
 use Rattle.z_types.specs.declared.replies.Reply.TheVariants as reply
 use Rattle.z_ber.specs.declared.tag.Tag.{Tag}
@@ -20,7 +21,7 @@ use Rattle.unit_forms.specs.Reading.Rows.{context, universal}
 use Rattle.unit_forms.specs.Reading.ScanRequest.{start_in, ask_in, scan_in}
 use Rattle.unit_forms.specs.Reading.SearchRequest.{bounds_in, named_in, wanted_in, search_in}
 use Rattle.unit_forms.specs.Reading.Units.{numbered_request, request_of, numbered_reply, reply_of}
-use Rattle.z_fields.proofs.IndexLemmas.{and_both, same_class}
+use Rattle.z_fields.proofs.IndexLemmas.{same_class}
 use Rattle.z_read.specs.declared.fault.ReadFault.TheVariants.{Ber, UnknownUnit, Missing, BadValue, LeftOut, Memory}
 use Rattle.z_read.specs.Laws.{kept, contexts, request_tags, reply_tags, HaveSameFields, SkippedChangeNothing}
 use Rattle.z_read.specs.Read.{IsReadAs, IsReadingBy, IsRequestRead, IsReplyRead}
@@ -43,7 +44,7 @@ same_choice s t e (w ∷ choice) = both _ _ _ _ (same_class s t e w) (same_choic
 unwanted : (wanted choice : List Tag) (tag : Tag) → are_wanted wanted choice ≡ true → is_one_of wanted tag ≡ false → is_one_of choice tag ≡ false
 unwanted wanted [] tag all not_one = refl
 unwanted wanted (w ∷ choice) tag all not_one =
-    let p = and_both (is_one_of wanted w) (are_wanted wanted choice) all in
+    let p = and_parts (is_one_of wanted w) (are_wanted wanted choice) all in
     by (has_tag tag w) refl (unwanted wanted choice tag p.1 not_one) p.0
   where
     no : {P : Type 0} (b : Bool) → b ≡ true → b ≡ false → P

@@ -1,6 +1,7 @@
 -- An expansion follows from its measures and its parts
-use Rattle.std.proofs.Common.{◌≡◌, ℕ, ◌<◌, ◌^◌, ◌-◌, List, [], map, refl, Bool, true, false, cond, ◌||◌, Option, None, Some, Result, Ok, Err, nat_lt, arith, sym, ap, ◌∙◌}
+use Rattle.std.proofs.Common.{◌≡◌, ℕ, ◌<◌, ◌^◌, ◌-◌, List, [], map, refl, Bool, true, false, cond, Option, None, Some, Result, Ok, Err, nat_lt, arith, sym, ap, ◌∙◌}
 use Rattle.std.proofs.lemmas.Bool.Decides.{nat_tests}
+use Rattle.std.proofs.lemmas.Bool.{or_parts}
 use Rattle.z_types.specs.declared.known_set.KnownSet.{KnownSet}
 use Rattle.z_types.specs.declared.query.RpnQuery.{RpnQuery}
 use Rattle.z_types.specs.Bounds.{most_query_depth, most_query_nodes, most_query_cost, within32, within64}
@@ -113,22 +114,18 @@ built query legs sets root done h e =
 
 -- ---- a query that names no set
 
-neither : (a b : Bool) → (a || b) ≡ false → (a ≡ false) × (b ≡ false)
-neither true b h = cc
-neither false b h = (refl, h)
-
 -- needs none
 pub substituted-none : (arcs legs : List ℕ) (sets : List StoredSet) (t : Tree) → names_a_set t ≡ false → substituted arcs legs sets t ≡ substituted arcs legs [] t
 substituted-none arcs legs sets (leaf attrs term) h = refl
 substituted-none arcs legs sets (operand name) h = cc
 substituted-none arcs legs sets (and l r) h =
-    let p = neither (names_a_set l) (names_a_set r) h in
+    let p = or_parts (names_a_set l) (names_a_set r) h in
     cc (substituted-none arcs legs sets l p.0, substituted-none arcs legs sets r p.1)
 substituted-none arcs legs sets (or l r) h =
-    let p = neither (names_a_set l) (names_a_set r) h in
+    let p = or_parts (names_a_set l) (names_a_set r) h in
     cc (substituted-none arcs legs sets l p.0, substituted-none arcs legs sets r p.1)
 substituted-none arcs legs sets (and_not l r) h =
-    let p = neither (names_a_set l) (names_a_set r) h in
+    let p = or_parts (names_a_set l) (names_a_set r) h in
     cc (substituted-none arcs legs sets l p.0, substituted-none arcs legs sets r p.1)
 
 told_again : (query : RpnQuery) (legs : List ℕ) (sets : List KnownSet) (answer : Result RpnQuery ExpandFault) → expanded query legs (map stored sets) ≡ expanded query legs [] → IsExpansion query legs [] answer → IsExpansion query legs sets answer

@@ -1,6 +1,6 @@
 use Rattle.std.proofs.Common.{arith}
+use Rattle.std.proofs.lemmas.Bool.{not-false, not-true}
 use Rattle.z_ber.proofs.ElementReading.{not_empty}
-use Rattle.z_ber.proofs.PlaceLemmas.{not_true, not_false}
 use Rattle.z_ber.proofs.WalkLemmas.{none_found, not_some, primitive_size, contents_size, contents_place, open_place, is_closed, comes_passed, comes_into, comes_place, comes_none, nears_start, nears_passed, nears_end, nears_open, nears_place, nears_none, nears_done}
 use Rattle.z_ber.proofs.place.+walk.Goals as goal
 
@@ -65,7 +65,7 @@ closed_size-returns-clause-closed t c =
 pub size_behind-returns-then-not-head-clause-element :
     goal.size_behind-returns-then-not-head-clause-element
 size_behind-returns-then-not-head-clause-element t c =
-    primitive_size c.args.levels c.in-Some.len c.args.octets.now c.split_at.result.1.now c.args.head c.requires.begins c.in-Some.is c.split_at.ensures.back (not_true c.args.head.tag.constructed c.if-not-head.true)
+    primitive_size c.args.levels c.in-Some.len c.args.octets.now c.split_at.result.1.now c.args.head c.requires.begins c.in-Some.is c.split_at.ensures.back (not-true c.args.head.tag.constructed c.if-not-head.true)
 
 pub size_behind-returns-in-Ok-clause-element : goal.size_behind-returns-in-Ok-clause-element
 size_behind-returns-in-Ok-clause-element t c =
@@ -78,9 +78,9 @@ size_behind-returns-in-Err-clause-place t c =
 pub size_behind-returns-in-Ok-are_elements-clause-element :
     goal.size_behind-returns-in-Ok-are_elements-clause-element
 size_behind-returns-in-Ok-are_elements-clause-element t c =
-    contents_size c.args.levels c.in-Some.len c.args.octets.now c.split_at.result.1.now c.split_at-in-Some.result.0.now c.args.head c.requires.begins c.in-Some.is c.split_at.ensures.back (not_false c.args.head.tag.constructed c.if-not-head.false) c.split_at-in-Some.ensures.front c.in-Ok-are_elements.ensures.elements
+    contents_size c.args.levels c.in-Some.len c.args.octets.now c.split_at.result.1.now c.split_at-in-Some.result.0.now c.args.head c.requires.begins c.in-Some.is c.split_at.ensures.back (not-false c.args.head.tag.constructed c.if-not-head.false) c.split_at-in-Some.ensures.front c.in-Ok-are_elements.ensures.elements
 
 pub size_behind-returns-in-Err-are_elements-clause-place :
     goal.size_behind-returns-in-Err-are_elements-clause-place
 size_behind-returns-in-Err-are_elements-clause-place t c =
-    contents_place c.args.levels c.in-Some.len c.in-Err-are_elements.at c.args.octets.now c.split_at.result.1.now c.split_at-in-Some.result.0.now c.args.head c.requires.begins c.in-Some.is c.split_at.ensures.back (not_false c.args.head.tag.constructed c.if-not-head.false) c.split_at-in-Some.ensures.front c.in-Err-are_elements.ensures.place
+    contents_place c.args.levels c.in-Some.len c.in-Err-are_elements.at c.args.octets.now c.split_at.result.1.now c.split_at-in-Some.result.0.now c.args.head c.requires.begins c.in-Some.is c.split_at.ensures.back (not-false c.args.head.tag.constructed c.if-not-head.false) c.split_at-in-Some.ensures.front c.in-Err-are_elements.ensures.place

@@ -1,7 +1,8 @@
 use Rattle.std.proofs.Common.{◌≡◌, ◌∙◌, ◌<◌, ◌^◌, ◌-◌, ◌+◌, ap, subst, arith, true, nat_lt, refl}
+use Rattle.std.proofs.lemmas.Bool.{lt-ltb}
 use Rattle.pool_sets.specs.Sessions.{member_for, open_of}
 use Rattle.pool_core.proofs.Ascending.{ascends_push}
-use Rattle.pool_core.proofs.Dialled.{dial_plain, pool_dials, less, all_pass, address_is}
+use Rattle.pool_core.proofs.Dialled.{dial_plain, pool_dials, all_pass, address_is}
 use Rattle.pool_index.specs.RosterView.{out_session}
 use Rattle.pool_index.proofs.Given.{ascends_upto}
 use Rattle.pool_index.proofs.pool.IndexedPool.dial.Goals as goal
@@ -25,8 +26,8 @@ returns-clause-plain g c =
     let at = c.args.at.now in
     let os = c.self.inside.roster.sessions in
     let below = subst (λ n. n < c.self.inside.max_sessions) c.open_in.ensures.count c.if-open_in-self.false in
-    let few : nat_lt (open_of class at os) c.self.inside.max_sessions ≡ true = less (open_of class at os) c.self.inside.max_sessions below in
-    let left : nat_lt c.self.inside.given (2 ^ 64 - 1) ≡ true = less c.self.inside.given (2 ^ 64 - 1) (omega arith) in
+    let few : nat_lt (open_of class at os) c.self.inside.max_sessions ≡ true = lt-ltb (open_of class at os) c.self.inside.max_sessions below in
+    let left : nat_lt c.self.inside.given (2 ^ 64 - 1) ≡ true = lt-ltb c.self.inside.given (2 ^ 64 - 1) (omega arith) in
     let member : c.member_for-member.result ≡ member_for class at os = c.member_for-member.ensures.member ∙ ap (member_for class at) (all_pass os) in
     rw (← c.self.view_is, c.in-Ok-dial.ensures.ok) (dial_plain class at _ c.member_for-member.result c.in-Ok.address _ few left member
     (address_is at c.member_for-member.result c.index-at-member.result c.in-Ok.address c.member_for-member.ensures.within c.index-at-member.is c.in-Ok.ensures) refl)
