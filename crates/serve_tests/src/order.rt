@@ -1,0 +1,125 @@
+//! A source that hears of what the sink took: each reply is written whole before the next read.
+
+use crate::connections::{are_plain, route_of, text_of};
+use crate::octets::{INIT, PRESENT, SEARCH};
+use gw_memory::{FakeBackend, FakeSession, MemoryClock};
+use gw_outside::{Got, Sink, Source, Took};
+use pool_core::Pool;
+use serve::serve_connection;
+use std::alloc::Global;
+use std::sync::Wait;
+use std::sync::atomic::{AtomicU64, Ordering};
+use std::test::Fail;
+use test_target::TestWorld;
+use z_types::{End, List, Memory};
+
+/// Where reads end in what is sent, and how many octets are to be written by the next one.
+type Reads<'a> = &'a [(usize, u64)];
+
+/// Gives what is sent up to a place at each read, once all that is due by then was written, and no more. Else
+/// a read fails.
+#[derive(Drop)]
+struct OrderedSource<'a> {
+    sent: &'a [u8],
+    reads: Reads<'a>,
+    made: usize,
+    given: usize,
+    due: u64,
+    written: &'a AtomicU64,
+    faults: u64,
+}
+
+impl Source for OrderedSource<'_> {
+    ghost use Rattle.std.specs.Prelude.{None};
+
+    ghost faults = { λ source. source.faults };
+
+    ghost left = { λ source. None };
+
+    ghost given = { λ source. None };
+
+    fn read(&mut self, into: &mut [u8]) -> Got {
+        if self.written.load(Ordering::SeqCst) != self.due {
+            self.faults = self.faults.saturating_add(1);
+            return Got::Failed;
+        }
+        let Some((end, due)) = self.reads.get(self.made).copied() else {
+            return Got::End;
+        };
+        let octets = self.sent.get(self.given..end).unwrap_or(&[]);
+        let count = octets.len().min(into.len());
+        if count == 0 {
+            return Got::End;
+        }
+        into[..count].copy_from_slice(&octets[..count]);
+        self.made = self.made.saturating_add(1);
+        self.given = end;
+        self.due = due;
+        Got::Bytes(count)
+    }
+}
+
+/// A sink that takes seven octets at a write, and tells how many it took.
+#[derive(Drop)]
+struct CountedSink<'a> {
+    written: &'a AtomicU64,
+    faults: u64,
+}
+
+impl Sink for CountedSink<'_> {
+    ghost use Rattle.std.specs.Prelude.{None};
+
+    ghost faults = { λ to. to.faults };
+
+    ghost received = { λ to. None };
+
+    fn write(&mut self, piece: &[u8]) -> Took {
+        let count = piece.len().min(7);
+        self.written.fetch_add(count as u64, Ordering::SeqCst);
+        Took::Bytes(count)
+    }
+}
+
+/// Reads of an Init, a Search and a Present, which have 21, 64 and 23 octets; their replies have 43, 14 and
+/// 60. A read ends with each unit, within one, behind two, or behind all three.
+const CASES: [Reads; 4] = [
+    &[(21, 43), (85, 57), (108, 117)],
+    &[(21, 43), (30, 43), (85, 57), (108, 117)],
+    &[(21, 43), (108, 117)],
+    &[(108, 117)],
+];
+
+/// Whether a client who is read so is answered to its end.
+fn is_answered<R: Wait>(rt: &R, alloc: Global, reads: Reads) -> Result<bool, Memory> {
+    let sent = text_of(alloc, &[INIT, SEARCH, PRESENT])?;
+    let written = AtomicU64::new(0);
+    let mut source = OrderedSource {
+        sent: sent.as_slice(),
+        reads,
+        made: 0,
+        given: 0,
+        due: 0,
+        written: &written,
+        faults: 0,
+    };
+    let mut sink = CountedSink {
+        written: &written,
+        faults: 0,
+    };
+    let route = route_of(alloc, 100)?;
+    let mut pool: Pool<TestWorld, FakeSession> = Pool::new(alloc, &route)?;
+    let mut backend = FakeBackend::new(TestWorld, List::new(alloc));
+    let mut clock = MemoryClock::new(List::new(alloc));
+    let served = serve_connection(
+        rt, alloc, &route, &mut pool, &mut source, &mut sink, &mut backend, &mut clock,
+    );
+    Ok(served.end == End::Finished && are_plain(&served.marks, 3))
+}
+
+#[test]
+fn each_reply_is_written_whole_before_the_next_read(rt: HostRuntime) -> Result<(), Fail> {
+    for reads in CASES {
+        assert!(rt; is_answered(&rt, rt.alloc(), reads)?, "{reads:?}");
+    }
+    Ok(())
+}
