@@ -63,6 +63,25 @@ fn client(alloc: Global) -> Result<(MemorySource, MemorySink), Memory>
 /// How many calls fail at least behind those to targets that are answered.
 const FAILING_CALLS: u64 = 16;
 
+/// The moments of a clock: one of them so often, and others behind it, the last again behind them.
+#[derive(Clone, Copy)]
+pub(crate) struct Moments<'a> {
+    pub(crate) first: (u64, u32),
+    pub(crate) others: &'a [u64],
+}
+
+/// The list of these moments.
+fn list_of(alloc: Global, moments: Moments) -> Result<List<u64>, Memory> {
+    let mut list = List::new(alloc);
+    for _ in 0..moments.first.1 {
+        list.push(moments.first.0)?;
+    }
+    for moment in moments.others {
+        list.push(*moment)?;
+    }
+    Ok(list)
+}
+
 /// A worker for so many clients, whose accept of this number fails, 0 for none. So many of its calls to
 /// targets are answered, and the next ones fail.
 pub(crate) fn worker(
@@ -70,6 +89,7 @@ pub(crate) fn worker(
     clients: u32,
     failing: u64,
     calls: u64,
+    moments: Moments,
 ) -> Result<Memories, Memory> {
     let mut connections: List<(MemorySource, MemorySink)> = List::new(alloc);
     for _ in 0..clients {
@@ -80,7 +100,7 @@ pub(crate) fn worker(
     Ok(Worker {
         backend: FakeBackend::new(TestWorld, failing_calls),
         accept: MemoryAccept::new(alloc, connections, failing)?,
-        clock: MemoryClock::new(List::new(alloc)),
+        clock: MemoryClock::new(list_of(alloc, moments)?),
         served: List::new(alloc),
     })
 }
@@ -93,11 +113,12 @@ pub(crate) fn workers(
     clients: u32,
     failing: u64,
     calls: u64,
+    moments: Moments,
 ) -> Result<Vec<Memories>, Memory> {
     let mut workers = Vec::new(alloc);
     for place in 0..count {
         let failing = if place + 1 == count { failing } else { 0 };
-        workers.push(worker(alloc, clients, failing, calls)?)?;
+        workers.push(worker(alloc, clients, failing, calls, moments)?)?;
     }
     Ok(workers)
 }

@@ -1,6 +1,6 @@
 //! The command over memory: how it ends, what it prints, and what its workers did.
 
-use crate::clients::{has_answered, one_number, workers};
+use crate::clients::{Moments, has_answered, one_number, workers};
 use gateway_config::Status;
 use gw_memory::{MemoryFiles, MemorySink};
 use route_config::SMALLEST_TEXT;
@@ -14,8 +14,8 @@ use z_types::{List, Memory, Text};
 
 /// The command: its words, the file `c`, how many workers it is handed and how many clients each has,
 /// the numbers of the accept, the read and the write that fail, 0 for none, how many calls of each worker to
-/// targets are answered, behind which the next ones fail, how it ends, what it prints, and how many clients
-/// each worker served.
+/// targets are answered, behind which the next ones fail, the moments of each worker's clock, how it ends, what
+/// it prints, and how many clients each worker served.
 #[derive(Clone, Copy)]
 struct Case<'a> {
     words: &'a [&'a str],
@@ -24,6 +24,7 @@ struct Case<'a> {
     clients: u32,
     failing: [u64; 3],
     calls: u64,
+    moments: Moments<'a>,
     status: Status,
     printed: &'a [u8],
     served: usize,
@@ -37,6 +38,10 @@ const SOUND: Case = Case {
     clients: 2,
     failing: [0, 0, 0],
     calls: 1_000_000,
+    moments: Moments {
+        first: (0, 0),
+        others: &[],
+    },
     status: Status::Ok,
     printed: b"served 4\n",
     served: 2,
@@ -172,6 +177,7 @@ fn is_so<R: Threads + Wait + Sync>(rt: &R, alloc: Global, case: &Case) -> Result
         case.clients,
         case.failing[0],
         case.calls,
+        case.moments,
     )?;
     let status = top_serve::<_, TestWorld, _, _, _, _, _>(
         rt,
@@ -216,6 +222,45 @@ fn one_search_reaches_the_target_for_all_clients_of_one_worker(
             ..ONE_WORKER
         };
         assert!(rt; is_so(&rt, rt.alloc(), &case)? == is_enough, "{calls}");
+    }
+    Ok(())
+}
+
+/// One worker with two clients.
+const TWO_CLIENTS: Case = Case {
+    clients: 2,
+    served: 2,
+    printed: b"served 2\n",
+    ..ONE_WORKER
+};
+
+/// The moments behind the reads of a clock that serve the first of two clients, which are nine to its last turn
+/// and less than fourteen to the first turn of the second; and how many calls of the target answer both. A
+/// dial, a search, and the look behind each are four calls; a search and its look are two.
+const MOMENTS: [(&[u64], u64); 5] = [
+    (&[59], 4),
+    (&[60], 6),
+    (&[299], 6),
+    (&[300], 8),
+    (&[60, 0], 6),
+];
+
+#[test]
+fn what_grew_old_between_two_clients_is_dialled_or_searched_again(
+    rt: HostRuntime,
+) -> Result<(), Fail> {
+    for (others, least) in MOMENTS {
+        for (calls, is_enough) in [(least, true), (least.saturating_sub(1), false)] {
+            let case = Case {
+                calls,
+                moments: Moments {
+                    first: (0, 12),
+                    others,
+                },
+                ..TWO_CLIENTS
+            };
+            assert!(rt; is_so(&rt, rt.alloc(), &case)? == is_enough, "{others:?}");
+        }
     }
     Ok(())
 }
