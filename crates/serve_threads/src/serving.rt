@@ -1,6 +1,7 @@
 //! Workers that serve over one pool.
 
-ghost use Rattle.std.specs.Prelude.{◌≡◌, vec_len, is_some, true};
+ghost use Rattle.std.specs.Prelude.{◌≡◌, [], Some, vec_len, is_some, true};
+ghost use Rattle.pool_core.specs.PoolView.{pool_of};
 ghost use Rattle.pool_locked.specs.Books.{counts_of};
 ghost use Rattle.serve_threads.specs.Serving.{AreBooked, HaveServed};
 
@@ -28,10 +29,10 @@ struct Blanks {
     most: Blank,
 }
 
-/// Serves the workers' connections, each worker in a thread of its own, over one new pool, which they
-/// share behind a lock. `most` is the pool's most sessions of a class. It tells how they ended: by a
-/// failed accept (`Failed`), for want of memory (`Memory`), or each by the end of its connections
-/// (`Ended`), and hands the pool back. In any case the workers stay the same, in the same order.
+/// Serves the workers' connections, each worker in a thread of its own, over one new pool of the route's
+/// numbers, which they share behind a lock. It tells how they ended: by a failed accept (`Failed`), for want
+/// of memory (`Memory`), or each by the end of its connections (`Ended`), and hands the pool back. In any
+/// case the workers stay the same, in the same order.
 pub fn serve_all<
     R: Threads + Wait + Sync,
     W: World + Send + Sync,
@@ -39,23 +40,17 @@ pub fn serve_all<
     P: Door<W, B::Session> + Drop + Send,
     A: Accept<In: Send, Out: Send> + Drop + Send,
     C: Clock + Drop + Send,
->(
-    rt: &R,
-    alloc: Global,
-    route: &Route,
-    pool: P,
-    most: u32,
-    workers: &mut Vec<Worker<B, A, C>>,
-) -> (Worked, P)
-    requires told { is_some (P.pool pool) ≡ true }
-    requires new { P.counts pool ≡ counts_of most 0 0 0 }
-    ensures served { HaveServed W.World A.In.Source A.Out.Sink A.Accept B.Watched route.now most
-        workers.old.items workers.new.items result.0 }
+>(rt: &R, alloc: Global, route: &Route, pool: P, workers: &mut Vec<Worker<B, A, C>>) -> (Worked, P)
+    requires pool { P.pool pool ≡ Some (pool_of route.now.pool 0 []) }
+    requires new { P.counts pool ≡ counts_of route.now.pool.max_sessions 0 0 0 }
+    ensures served { HaveServed W.World A.In.Source A.Out.Sink A.Accept B.Watched route.now
+        route.now.pool.max_sessions workers.old.items workers.new.items result.0 }
 
     // What all of them searched was booked at the pool.
     ensures booked { AreBooked B.Watched
         (P.counts result.1).booked workers.old.items workers.new.items }
 {
+    let most = route.parts().pool.max_sessions;
     let parts = workers.len() as u64;
     let blanks = Blanks {
         booked: Blank::new(parts),

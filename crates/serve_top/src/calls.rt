@@ -133,12 +133,7 @@ fn serve_over_pool<
     let numbers = route.parts().pool;
     let pool: IndexedPool<W, B::Session> = IndexedPool::after(alloc, numbers, 0);
     let (worked, _) = serve_all::<R, W, B, IndexedPool<W, B::Session>, A, C>(
-        rt,
-        alloc,
-        route,
-        pool,
-        numbers.max_sessions,
-        workers,
+        rt, alloc, route, pool, workers,
     );
     worked
 }
