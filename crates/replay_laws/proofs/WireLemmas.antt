@@ -28,7 +28,7 @@ use Rattle.replay.specs.steps.Room.{FindsRoom}
 use Rattle.replay.proofs.MovesLemmas.{HasNoSession, IsNewPool}
 use Rattle.replay.proofs.UndisturbedLemmas.{most-as, new-door}
 use Rattle.replay_laws.specs.Between.{DisturbsNobody}
-use Rattle.replay_laws.specs.Borne.{AreBorneMarks, BorneIsPlain, BorneIsPlainOrFull, HasBorneNumber, IsBorneIf, IsBorneRun, MayBeBorne, WasNeverFull, WentThrough}
+use Rattle.replay_laws.specs.Borne.{AreBorneMarks, BorneIsPlain, BorneIsPlainOrFull, HasBorneNumber, IsBorneIf, IsBorneRun, MayBeBorne, WasNeverFull, WentThrough, new_door}
 use Rattle.replay_laws.specs.Quiet.{QuietDisturbsNobody}
 
 -- ---- at the start
@@ -103,20 +103,21 @@ module _ {W S : Type 0} (w : world.Ghosts W) (t : sitting.Ghosts S W) (exact : B
 -- so a replay went through what its backend did, which is over the wire, keeps no records, and counts by the wire behind the replay
 pub through_ok : {E : Type 0} (W S : Type 0) (w : world.Ghosts W) (t : sitting.Ghosts S W) (exact : Bool) (route : Route) (events : List Event)
     (before behind : Outside S) (result : Result Report E) → IfOk result (IsRunOf w t exact route events before behind)
-    → BorneIsPlainOrFull w t → BorneIsPlain w t → IsNewPool route before → ArePoolNumbers route.pool
+    → BorneIsPlainOrFull w t → BorneIsPlain w t → IsNewPool route before → before.door ≡ new_door route.pool → ArePoolNumbers route.pool
     → (w1 : Counts) (own1 : Own) → behind.backend.counts ≡ counts_over exact w1 own1
     → IfOk result (λ report. HaveCauses route.pool report before behind) → IfOk result (λ report. FindsRoom route report before behind)
     → t.keeps ≡ false → IfOk result (WentThrough w t exact route events before.backend.happened w1)
-through_ok W S w t exact route events before behind (Ok report) run marks plain new numbers w1 own1 f causes room own = record {
+through_ok W S w t exact route events before behind (Ok report) run marks plain new door numbers w1 own1 f causes room own = record {
   before = before;
   behind = behind;
   run = run;
+  door = door;
   begins = λ target. refl;
   own = own1;
   ends = f;
   borne = borne-marks w t exact route events before behind report run own marks plain new numbers w1 own1 f causes room;
 }
-through_ok W S w t exact route events before behind (Err err) run marks plain new numbers w1 own1 f causes room own = tt
+through_ok W S w t exact route events before behind (Err err) run marks plain new door numbers w1 own1 f causes room own = tt
 
 -- whatever it went through, a quiet script disturbs nobody
 pub borne_through : {E : Type 0} (W S : Type 0) (w : world.Ghosts W) (t : sitting.Ghosts S W) (exact : Bool) (route : Route)
@@ -135,6 +136,7 @@ through_as_lent w t exact route events happened lent counts (Ok report) quiet sa
   before = went.before;
   behind = went.behind;
   run = went.run;
+  door = went.door;
   begins = λ target. went.begins target ∙ same target;
   own = went.own;
   ends = went.ends;

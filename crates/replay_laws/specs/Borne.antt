@@ -1,5 +1,5 @@
 -- What befalls the links of a replay and marks no request but where the pool was full (this project's own)
-use Rattle.std.specs.Prelude.{◌≡◌, ℕ, ◌*◌, ◌<◌, ◌≤◌, Bool, true, false, List, length}
+use Rattle.std.specs.Prelude.{◌≡◌, ℕ, ◌*◌, ◌<◌, ◌≤◌, Bool, true, false, List, [], Some, length}
 use Rattle.std.specs.List.{AllByRecursion}
 use Rattle.z_types.specs.declared.sitting.Sitting as sitting
 use Rattle.z_types.specs.declared.world.World as world
@@ -7,6 +7,8 @@ use Rattle.gw_outside.specs.Counts.{Counts}
 use Rattle.gw_outside.specs.Happened.{AreQuiet, Happened}
 use Rattle.route_config.specs.declared.route.PoolNumbers.{PoolNumbers}
 use Rattle.route_config.specs.declared.route.Route.{Route}
+use Rattle.pool_core.specs.PoolView.{counts_of, new_pool, pool_of}
+use Rattle.leg.specs.Turns.{DoorView}
 use Rattle.front_conn.specs.steps.Answering.{Outside}
 use Rattle.script.specs.declared.event.Event.{Event}
 use Rattle.script.specs.declared.event.Event.TheVariants.{Cut, Gone, Slow}
@@ -90,13 +92,19 @@ abbrev pub IsBorneIf : {W : Type 0} → world.Ghosts W → (exact : Bool) → Ro
 IsBorneIf w exact route events happened behind report =
     exact ≡ true → MayBeBorne w route events happened → IsQuiet events → DialsGoOn behind → AreBorneMarks route report
 
--- What the replay went through: it began with what was made to happen to the wire's targets, and ended with what the wire counted, beside
--- the breaches. It leaves such marks where no cut and no deletion fell while a request was in work.
+-- a new pool of these numbers: it has no session, gave none a number, and counted nothing
+abbrev pub new_door : {S : Type 0} → PoolNumbers → DoorView S
+new_door {S} numbers = record { pool = Some (pool_of numbers 0 []); counts = counts_of {S} (new_pool numbers) }
+
+-- What the replay went through: it began with a new pool of the route's numbers, and with what was made to happen to the wire's targets,
+-- and ended with what the wire counted, beside the breaches. It leaves such marks where no cut and no deletion fell while a request was in
+-- work.
 pub record WentThrough {W S : Type 0} (w : world.Ghosts W) (t : sitting.Ghosts S W) (exact : Bool) (route : Route) (events : List Event)
     (happened : Happened) (counts : Counts) (report : Report) : Type 0 where
   pub before : Outside S
   pub behind : Outside S
   pub run : IsRunOf w t exact route events before behind report
+  pub door : before.door ≡ new_door route.pool
   pub begins : (target : ℕ) → before.backend.happened.of_target target ≡ happened.of_target target
   pub own : Own
   pub ends : behind.backend.counts ≡ counts_over exact counts own

@@ -5,13 +5,14 @@ use Rattle.z_types.specs.declared.sitting.Sitting as sitting
 use Rattle.z_types.specs.declared.world.World as world
 use Rattle.gw_outside.specs.Counts.{Counts}
 use Rattle.gw_outside.specs.Happened.{AreQuiet, Happened}
-use Rattle.pool_core.specs.PoolView.{PoolView, new_pool}
+use Rattle.pool_core.specs.PoolView.{PoolView, counts_of, new_pool}
 use Rattle.route_config.specs.declared.route.Route.{Route}
+use Rattle.leg.specs.Turns.{DoorView}
 use Rattle.sharing_rules.specs.steps.Shared.{pool_of}
 use Rattle.script.specs.declared.event.Event.{Event}
 use Rattle.replay.specs.Undisturbed.{IsUntroubledIf}
 use Rattle.replay.specs.declared.reports.Report.{Report}
-use Rattle.replay_laws.specs.Borne.{WentThrough, IsBorneIf}
+use Rattle.replay_laws.specs.Borne.{WentThrough, IsBorneIf, new_door}
 use Rattle.replay_laws.proofs.WireLemmas.{through_as_lent}
 use Rattle.replay_shares.specs.Shares.{SharesIfOrderlyOver}
 use Rattle.replay_top.specs.Lent.{lent_by}
@@ -55,3 +56,10 @@ lent_shares w exact route events counts reference happened (Err err) so = tt
 -- a pool that was just made has the route's numbers, and no session
 pub new_told : {S : Type 0} (route : Route) (pool : PoolView S) → pool ≡ new_pool route.pool → Some pool.pool ≡ Some (pool_of route 0 [])
 new_told {S = S} route pool e = ap (λ (p : PoolView S). Some p.pool) e
+
+-- so is the door that it is
+abbrev door-of : {S : Type 0} → PoolView S → DoorView S
+door-of pool = record { pool = Some pool.pool; counts = counts_of pool }
+
+pub new_door_is : {S : Type 0} (route : Route) (pool : PoolView S) → pool ≡ new_pool route.pool → door-of pool ≡ new_door route.pool
+new_door_is route pool e = ap door-of e

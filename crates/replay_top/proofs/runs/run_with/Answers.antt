@@ -3,7 +3,7 @@ use Rattle.replay.proofs.MovesLemmas.{counted_ok, lent_ok, new_pool_is}
 use Rattle.replay.proofs.UndisturbedLemmas.{untroubled_ok}
 use Rattle.replay_laws.proofs.WireLemmas.{borne_through, through_ok}
 use Rattle.replay_shares.proofs.NewLemmas.{shares_ok}
-use Rattle.replay_top.proofs.RunLemmas.{new_told}
+use Rattle.replay_top.proofs.RunLemmas.{new_door_is, new_told}
 use Rattle.replay_top.proofs.runs.run_with.Goals as goal
 
 pub returns-clause-counted : goal.returns-clause-counted
@@ -28,7 +28,8 @@ returns-clause-untroubled g c =
 pub returns-clause-through : goal.returns-clause-through
 returns-clause-through g c =
     through_ok _ _ _ _ _ _ _ _ _ c.run_over.result c.run_over.ensures.run c.borne_is_plain_or_full.ensures c.borne_is_plain.ensures
-    (new_pool_is c.args.route.now c.in_ok-door.door _ c.in_ok-door.ensures.new c.parts.ensures.sound.pool) c.parts.ensures.sound.pool
+    (new_pool_is c.args.route.now c.in_ok-door.door _ c.in_ok-door.ensures.new c.parts.ensures.sound.pool)
+    (new_door_is c.args.route.now c.in_ok-door.door c.in_ok-door.ensures.new) c.parts.ensures.sound.pool
     (g.N.Watched.counts c.run_over.new.backend.wire) c.run_over.new.backend.own refl
     c.run_over.ensures.causes c.run_over.ensures.room refl
 
