@@ -1,8 +1,8 @@
 //! The program over the real files, output and targets.
 
+use crate::over_tests::command_over_tests;
 use crate::serving::{is_serve, serve_here};
 use crate::words::words;
-use gateway_top::command;
 use std::alloc::Global;
 use std::net::{Net, TcpListener, TcpStream};
 use std::process::ExitCode;
@@ -10,8 +10,6 @@ use std::sync::Wait;
 use std::thread::Threads;
 use std::{io, rt, time};
 use tcp_edge::{SystemFiles, WriterSink};
-use test_target::TestWorld;
-use test_wire::TestWire;
 use z_types::{Memory, Text};
 
 /// Does what the words after the program's name say, and answers the exit status.
@@ -43,6 +41,5 @@ pub(crate) fn run<
 fn do_command<R: rt::Files + Print>(runtime: &R, alloc: Global, words: &[Text]) -> u8 {
     let mut files = SystemFiles::new(runtime);
     let mut output = WriterSink::new(io::writer(runtime));
-    let mut wire = TestWire::new(alloc);
-    command::<TestWorld, _, _, _>(alloc, words, &mut files, &mut output, &mut wire).number()
+    command_over_tests(alloc, words, &mut files, &mut output).number()
 }

@@ -1,2 +1,3 @@
 mod Played
 mod PlainLoads
+pub mod OverTests

@@ -5,3 +5,4 @@ pub mod Load
 pub mod Outcome
 pub mod Headline
 pub mod Itself
+pub mod OverTests
