@@ -1,3 +1,4 @@
 pub mod LentLemmas
 pub mod RunLemmas
 pub mod ReportLemmas
+mod PaidLemmas

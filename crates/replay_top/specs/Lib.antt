@@ -1,3 +1,4 @@
 pub mod Lent
 pub mod Outside
+pub mod Paid
 pub mod Reported

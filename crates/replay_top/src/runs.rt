@@ -7,6 +7,7 @@ ghost use Rattle.replay.specs.Undisturbed.{IsUntroubledIf};
 ghost use Rattle.replay.specs.Wires.{IsCountedBy};
 ghost use Rattle.replay_laws.specs.Borne.{WentThrough, IsBorneIf};
 ghost use Rattle.replay_shares.specs.Shares.{SharesIfOrderlyOver};
+ghost use Rattle.replay_top.specs.Paid.{IsFullPaid};
 
 use crate::lent::LentWire;
 use gw_outside::{Events, Wire};
@@ -34,6 +35,11 @@ pub fn run<W: World, N: Wire<W> + Events>(
 
     // The sums are what an exact wire counted, and the marks have their counted cause.
     ensures counted { IfOk result (IsCountedBy W.World N.exact route.now
+        (N.counts wire.old) (N.counts wire.new)) }
+
+    // Over any wire as many links are reported, or calls failed, as there may be sessions where one
+    // found the pool full.
+    ensures full_paid { IfOk result (IsFullPaid W.World N.exact route.now
         (N.counts wire.old) (N.counts wire.new)) }
 
     // Where nothing befalls links, each request is answered as it asks, or finds the pool full.
@@ -67,8 +73,11 @@ fn run_with<W: World, N: Wire<W> + Events>(
 ) -> Result<Report, Memory>
     requires events { (targets : ℕ) × AreEvents targets events.now }
     requires no_breach { backend.old.own.breaches ≡ 0 }
+    requires no_dials { backend.old.own.dials ≡ 0 }
     ensures report { IfOk result (IsReportOf W.World route.now events.now) }
     ensures counted { IfOk result (IsCountedBy W.World N.exact route.now
+        (N.counts backend.old.wire) (N.counts backend.new.wire)) }
+    ensures full_paid { IfOk result (IsFullPaid W.World N.exact route.now
         (N.counts backend.old.wire) (N.counts backend.new.wire)) }
     ensures untroubled { IfOk result (IsUntroubledIf W.World N.exact route.now events.now
         (N.counts backend.old.wire) (N.happened backend.old.wire)) }

@@ -3,6 +3,7 @@ use Rattle.replay.proofs.MovesLemmas.{counted_ok, lent_ok, new_pool_is}
 use Rattle.replay.proofs.UndisturbedLemmas.{untroubled_ok}
 use Rattle.replay_laws.proofs.WireLemmas.{borne_through, through_ok}
 use Rattle.replay_shares.proofs.NewLemmas.{shares_ok}
+use Rattle.replay_top.proofs.PaidLemmas.{paid_ok}
 use Rattle.replay_top.proofs.RunLemmas.{new_door_is, new_told}
 use Rattle.replay_top.proofs.runs.run_with.Goals as goal
 
@@ -13,6 +14,14 @@ returns-clause-counted g c =
     (g.N.Watched.counts c.args.backend.now.wire)
     (g.N.Watched.counts c.run_over.new.backend.wire) c.args.backend.now.own c.run_over.new.backend.own c.requires.no_breach refl refl
     c.run_over.ensures.sums c.run_over.ensures.causes c.run_over.ensures.dialled
+
+pub returns-clause-full_paid : goal.returns-clause-full_paid
+returns-clause-full_paid g c =
+    paid_ok _ _ _ _ _ _ _ _ _ c.run_over.result c.run_over.ensures.run
+    (new_pool_is c.args.route.now c.in_ok-door.door _ c.in_ok-door.ensures.new c.parts.ensures.sound.pool)
+    (g.N.Watched.counts c.args.backend.now.wire)
+    (g.N.Watched.counts c.run_over.new.backend.wire) c.args.backend.now.own c.run_over.new.backend.own c.requires.no_breach
+    c.requires.no_dials refl refl c.run_over.ensures.sums c.run_over.ensures.causes c.run_over.ensures.dialled
 
 pub returns-clause-lent : goal.returns-clause-lent
 returns-clause-lent g c = lent_ok _ _ _ _ _ _ _ _ _ c.run_over.result c.run_over.ensures.run
