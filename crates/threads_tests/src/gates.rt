@@ -102,11 +102,11 @@ impl Sink for CountedSink<'_> {
 /// The two ends of a client's connection.
 type Ends<'a> = (WaitingSource<'a>, CountedSink<'a>);
 
-/// An acceptor of one client, who is kept when it is handed back.
+/// An acceptor of one client, who is kept when it is handed back, with how many marks and which end are told.
 #[derive(Drop)]
 struct OneClient<'a> {
     waiting: Option<Ends<'a>>,
-    closed: Option<Ends<'a>>,
+    closed: Option<(Ends<'a>, usize, End)>,
 }
 
 impl<'a> Accept for OneClient<'a> {
@@ -135,10 +135,10 @@ impl<'a> Accept for OneClient<'a> {
         &mut self,
         input: WaitingSource<'a>,
         output: CountedSink<'a>,
-        _marks: &[Mark],
-        _end: End,
+        marks: &[Mark],
+        end: End,
     ) {
-        self.closed = Some((input, output));
+        self.closed = Some(((input, output), marks.len(), end));
     }
 }
 
@@ -177,7 +177,7 @@ fn worker<'a>(
     })
 }
 
-/// Whether the client of each worker was answered.
+/// Whether the client of each worker was answered, and its acceptor was told so.
 fn have_answered(workers: &[WithOne]) -> bool {
     for worker in workers {
         if !has_answered(worker) {
@@ -190,7 +190,9 @@ fn have_answered(workers: &[WithOne]) -> bool {
 /// Whether a worker's client was answered.
 fn has_answered(worker: &WithOne) -> bool {
     match &worker.accept.closed {
-        Some((_, output)) => output.sink.received() == ANSWERED,
+        Some(((_, output), marks, end)) => {
+            output.sink.received() == ANSWERED && *marks == 2 && *end == End::Finished
+        }
         None => false,
     }
 }
