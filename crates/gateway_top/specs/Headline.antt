@@ -6,9 +6,9 @@
 -- no pool, under the marks that the report lists, one for each request that is answered. No other client, no session
 -- with a target, no pool and no clock is in that answer. A mark other than Plain comes with its counted cause alone:
 -- over all clients the wire counted a fault for each Link, and as many looks in vain as the pool is patient for each
--- Silent; and a wire that counts exactly, one reply more that a set is gone than the pool repeats for each Gone, and
--- where one is Full, as many links made, or failed, as there may be sessions. The sums that are printed, of links,
--- Searches, sets gone and calls that failed, are what such a wire counted.
+-- Silent; where one is Full, as many links are printed, or calls failed, as there may be sessions; and a wire that
+-- counts exactly, one reply more that a set is gone than the pool repeats for each Gone. The sums that are printed, of
+-- links, Searches, sets gone and calls that failed, are what such a wire counted.
 -- Over a wire that counts exactly, had counted nothing and to which nothing was made to happen, at targets that tell
 -- what they answer, a script that cuts and slows no link and deletes no set has no failed call and no set gone, and
 -- every mark is Plain or Full; and Plain, where fewer links were made than there may be sessions of a class, or where
