@@ -21,11 +21,11 @@ use Rattle.gateway_rules.specs.Course.{octets_of}
 use Rattle.gateway_rules.specs.Fair.{IsFair}
 use Rattle.gateway_rules.specs.Marks.{Cause, IsAllowed}
 use Rattle.gateway_rules.specs.Outcomes.{classes_asked, outcome_of}
-use Rattle.gateway_rules.specs.Session.{answer_to, classes_of, reached}
+use Rattle.gateway_rules.specs.Session.{answer_to, answered, classes_of, reached}
 use Rattle.gateway_rules.specs.Settling.{Settled, agreed_after, settled}
 use Rattle.gateway_rules.specs.State.{ClientState}
 use Rattle.gateway_rules.specs.declared.agreement.Agreement.{Agreement}
-use Rattle.front_session.specs.Admitting.{waits}
+use Rattle.front_session.specs.Admitting.{HasGivenHits, waits}
 use Rattle.z_sets.specs.Sets.{stored}
 use Rattle.front_session.specs.Sessions.{SessionState, Waiting, client_of}
 use Rattle.front_z.specs.Units.{IsEnded, Served}
@@ -93,6 +93,15 @@ still-client w route before asks job h =
     })
     (still-agreed w route (client_of before) before.agreed asks job h)
 
+-- what an outcome of its work leaves of it is what it is answered under the cause of that outcome
+settled-answered : {W : Type 0} (w : world.Ghosts W) (route : Route) (client behind : ClientState) (asks : Request) (job : Work)
+    (got : Outcome) (cause : Cause) → asked w route client asks ≡ asking.works job → got ≡ outcome_of w route job cause → behind ≡ client
+    → settled behind asks job got ≡ answered w route client asks cause
+settled-answered w route client behind asks job got cause due true same =
+    ap (λ (o : Outcome). settled behind asks job o) true
+    ∙ ap (λ (c : ClientState). settled c asks job (outcome_of w route job cause)) same
+    ∙ ap (λ (d : Asking). answer_to w route client asks cause d) (sym due)
+
 -- so it is answered under the cause of its legs
 answered-under : {W : Type 0} (w : world.Ghosts W) (route : Route) (asks : Request) (job : Work) (before : SessionState) (out : List ℕ)
     (new : Served) (got : Outcome) (cause : Cause) → asked w route (client_of before) asks ≡ asking.works job
@@ -101,21 +110,17 @@ answered-under : {W : Type 0} (w : world.Ghosts W) (route : Route) (asks : Reque
     (record { request = asks; work = job }) got
     → IsAnsweredUnder w route asks cause (record { session = before; out = out }) new
 answered-under w route asks job before out new got cause due sets true ended =
-    let h = subst (λ (o : Outcome). IsEnded (record { session = waits before asks (record { request = asks; work = job }); out = out }) new
-    (record { request = asks; work = job }) o) true ended in
-    let to : Asking → Settled = λ d. answer_to w route (client_of before) asks cause d in
-    let e : asking.works job ≡ asked w route (client_of before) asks = sym due in
-    let same : client_of (waits before asks (record { request = asks; work = job })) ≡ client_of before = still-client w route before asks job due in
-    let of_client : ClientState → Settled = λ client. settled client asks job (outcome_of w route job cause) in
+    let same = still-client w route before asks job due in
+    let answers = settled-answered w route (client_of before) _ asks job got cause due true same in
+    let reply = ended.settled.reply-is ∙ ap (λ (s : Settled). s.reply) answers in
+    let hits = subst (λ (o : Outcome). AllByRecursion (HasGivenHits before.sets job o) new.session.sets) true ended.settled.hits in
     record {
-      written = h.written ∙ ap (λ r. out ++ spell_reply r) h.settled.reply-is
-          ∙ ap (λ (c : ClientState). out ++ spell_reply (of_client c).reply) same
-          ∙ ap (λ (d : Asking). out ++ spell_reply (to d).reply) e;
-      client = h.settled.client-is ∙ ap (λ (c : ClientState). (of_client c).client) same ∙ ap (λ (d : Asking). (to d).client) e;
-      accepted = h.settled.accepted;
-      units = h.settled.units;
-      waits_not = h.settled.waits_no_more;
-      sets = sets-meant w route before.sets job cause new.session.sets sets h.settled.hits;
+      written = ended.written ∙ ap (λ r. out ++ spell_reply r) reply;
+      client = ended.settled.client-is ∙ ap (λ (s : Settled). s.client) answers;
+      accepted = ended.settled.accepted;
+      units = ended.settled.units;
+      waits_not = ended.settled.waits_no_more;
+      sets = sets-meant w route before.sets job cause new.session.sets sets hits;
     }
 
 -- ---- where the connection stands
