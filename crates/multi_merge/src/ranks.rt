@@ -37,5 +37,8 @@ pub(crate) fn rank_at(hits: &[u32], position: u32) -> Rank
         legs -= 1;
         gone = *n;
     }
-    unreachable!()
+    Rank {
+        number: gone,
+        before: left,
+    }
 }

@@ -17,7 +17,7 @@ past hits rank leg left before all here within =
     slice_get-get_or (of_rank hits rank) before place within in
     cc
 
-pub unreachable-requires : goal.unreachable-requires
-unreachable-requires c =
-    past c.args.hits.now c.args.rank c.loop-n.leg c.loop-n.left c.args.before
-    (omega (arith, c.loop-n-test.false, c.loop-n.invariant.counted)) c.loop-n.invariant.behind c.requires.within
+pub returns : goal.returns
+returns c =
+    absurd (past c.args.hits.now c.args.rank c.loop-n.leg c.loop-n.left c.args.before
+    (omega (arith, c.loop-n-test.false, c.loop-n.invariant.counted)) c.loop-n.invariant.behind c.requires.within)

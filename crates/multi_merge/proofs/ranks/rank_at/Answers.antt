@@ -47,9 +47,10 @@ loop-n-preserved c =
       going = omega (arith, v.going, length-drop c.loop-n.n-index c.args.hits.now, length-drop (c.loop-n.n-index + 1) c.args.hits.now);
     }
 
-pub unreachable-requires : goal.unreachable-requires
-unreachable-requires c =
+pub returns : goal.returns
+returns c =
     let v = c.loop-n.invariant in
     let all : up_to c.loop-n.gone c.args.hits.now ≡ sum c.args.hits.now =
     all_come c.loop-n.gone c.args.hits.now (λ k g h. v.low k (omega (arith, c.loop-n-test.false)) h) in
-    omega (arith, all, v.come, c.requires.within)
+    let none : ⊥ = omega (arith, all, v.come, c.requires.within) in
+    absurd none
