@@ -2,7 +2,6 @@
 
 ghost use Rattle.gateway_config.specs.Outside.{file_reads, sink_writes};
 ghost use Rattle.gateway_top.specs.OverTests.{IsReplayedOverTests};
-ghost use Rattle.gw_outside.specs.Counts.{Counts};
 
 use gateway_top::{Status, command};
 use gw_outside::{Files, Sink};
@@ -19,8 +18,7 @@ pub(crate) fn command_over_tests<F: Files, K: Sink>(
     files: &mut F,
     out: &mut K,
 ) -> Status
-    ensures replayed { (counted : Counts) × IsReplayedOverTests ⟦<TestWorld as World>⟧ counted
-        words.now
+    ensures replayed { IsReplayedOverTests ⟦<TestWorld as World>⟧ words.now
         (file_reads F.Files files.old files.new) (sink_writes K.Sink out.old out.new) result }
 {
     let mut wire = TestWire::new(alloc);

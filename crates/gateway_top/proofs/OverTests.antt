@@ -3,6 +3,7 @@
 use Rattle.std.proofs.Common.{◌≡◌, ℕ, Bool, true, false, cond, not, find, List, [], ◌∷◌, map, Option, Some, None, Result, Ok, Err, IfSome, option_map, unwrap_or, codes, Contains, refl, subst}
 use Rattle.std.specs.List.{AllByRecursion}
 use Rattle.std.proofs.lemmas.List.Elements.{All-contains, All-from_recursion}
+use Rattle.toml.specs.Data.{Data}
 use Rattle.z_types.specs.Same.{is_same}
 use Rattle.z_types.specs.declared.address.Address.{Address}
 use Rattle.z_types.specs.declared.address.Address.TheVariants.{Test, Tcp, Login}
@@ -15,6 +16,7 @@ use Rattle.route_text.specs.Configuration.{configuration, first_fault, route_or_
 use Rattle.route_text.specs.RouteOf.{address_of, class_names, class_of, members_of, route_of}
 use Rattle.route_text.specs.Values.{values_in}
 use Rattle.route_text.specs.declared.fault.RouteFault.{RouteFault}
+use Rattle.route_text.specs.declared.fault.RouteFault.TheVariants.{Toml}
 use Rattle.route_text.specs.declared.values.Values.{Values}
 use Rattle.gateway_rules.specs.Fair.{IsFair}
 use Rattle.script.specs.declared.event.Event.{Event}
@@ -25,19 +27,22 @@ use Rattle.gateway_config.specs.Outside.{FileReads, SinkWrites}
 use Rattle.gateway_config.specs.declared.status.Status.{Status}
 use Rattle.gateway_config.specs.declared.status.Status.TheVariants as status
 use Rattle.gateway_top.specs.Itself.{IsProgramDone}
-use Rattle.gateway_top.specs.Outcome.{HasPrinted, IsPlayable, RoutePlayed, ScriptDone, TakenAndPlayed}
+use Rattle.gateway_top.specs.Outcome.{EventsPlayed, HasPrinted, IsPlayable, RoutePlayed, TakenAndPlayed}
 use Rattle.gateway_top.specs.OverTests.{IsNewWire, IsReplayOverTests, IsReplayedOverTests, MembersAreAlike, TellsTests}
 use Rattle.gateway_top.specs.Targets.{first_real, is_test}
 
 -- ---- the route of a configuration
 
+ok-same : {A : Type 0} (one other : A) → ◌≡◌ {A = Result A RouteFault} (Ok one) (Ok other) → one ≡ other
+ok-same one other e = cc
+
 value-is : {A : Type 0} (fault : Option RouteFault) (one other : A) → value_or fault one ≡ Ok other → one ≡ other
-value-is None one other e = cc
-value-is (Some fault) one other e = absurd cc
+value-is None one other e = ok-same one other e
+value-is {A = A} (Some fault) one other e = let f : ◌≡◌ {A = Result A RouteFault} (Err fault) (Ok other) = e in absurd cc
 
 -- it is that of some values
-of-values : (tree : _) (route : Route) → route_or_refusal tree ≡ Ok route → (values : Values) × (route_of values ≡ route)
-of-values None route e = absurd cc
+of-values : (tree : Option Data) (route : Route) → route_or_refusal tree ≡ Ok route → (values : Values) × (route_of values ≡ route)
+of-values None route e = let f : ◌≡◌ {A = Result Route RouteFault} (Err Toml) (Ok route) = e in absurd cc
 of-values (Some tree) route e = (values_in tree, value-is (first_fault tree) (route_of (values_in tree)) route e)
 
 module _ {W : Type 0} (w : world.Ghosts W) (tells : TellsTests w) where
@@ -49,8 +54,8 @@ module _ {W : Type 0} (w : world.Ghosts W) (tells : TellsTests w) where
       → option_map (λ (t : Target). t.name) (cond (not (is_test address)) (Some target) others) ≡ None
       → w.told address × (option_map (λ (t : Target). t.name) others ≡ None)
   first-told (Test number) target others e = (tells number, e)
-  first-told (Tcp host port) target others e = absurd cc
-  first-told (Login at login) target others e = absurd cc
+  first-told (Tcp host port) target others e = let f : ◌≡◌ {A = Option (List ℕ)} (Some target.name) None = e in absurd cc
+  first-told (Login at login) target others e = let f : ◌≡◌ {A = Option (List ℕ)} (Some target.name) None = e in absurd cc
 
   all-told : (targets : List Target)
       → option_map (λ (t : Target). t.name) (find (λ (t : Target). not (is_test t.address)) targets) ≡ None
@@ -105,7 +110,7 @@ module _ {W : Type 0} (w : world.Ghosts W) (tells : TellsTests w) where
   -- a configuration's route is told
   pub configured-told : (route : Route) (text : List ℕ) → IsConfigurationOf route text → first_real route ≡ None → AreTold w route
   configured-told route text configured none =
-      let of = of-values (tree_of text) route configured.1 in told-as of.0 route of.1 none
+      let found = of-values (tree_of text) route configured.1 in told-as found.0 route found.1 none
 
 -- ---- a replay
 
@@ -113,16 +118,21 @@ fair-by : {W : Type 0} (w : world.Ghosts W) (route : Route) → AreTold w route 
 fair-by w route told alike class is = record { told = told class is; same = alike class is }
 
 module _ {W S : Type 0} (w : world.Ghosts W) (calls : WireCalls W S) where
-  -- at Ok no target is another
-  at-ok : (real : Option (List ℕ)) (route : Route) (script : List ℕ) (reads : FileReads) (writes : SinkWrites)
-      → RoutePlayed w calls real route script reads writes status.Ok → (real ≡ None) × ScriptDone w calls route script reads writes status.Ok
-  at-ok (Some name) route script reads writes h = (let e = h.0 in absurd cc)
-  at-ok None route script reads writes h = (refl, h)
+  -- at Ok no target is another, and the script was played
+  none-real : (real : Option (List ℕ)) (route : Route) (script : List ℕ) (reads : FileReads) (writes : SinkWrites)
+      → RoutePlayed w calls real route script reads writes status.Ok → real ≡ None
+  none-real (Some name) route script reads writes h = (let e = h.0 in absurd cc)
+  none-real None route script reads writes h = refl
+
+  script-played : (real : Option (List ℕ)) (route : Route) (script : List ℕ) (reads : FileReads) (writes : SinkWrites)
+      → RoutePlayed w calls real route script reads writes status.Ok → EventsPlayed w calls route (reads.contents script) writes status.Ok
+  script-played (Some name) route script reads writes h = (let e = h.0 in absurd cc)
+  script-played None route script reads writes h = h
 
   -- what was printed, of a route that is told
   of-told : (config script : List ℕ) (writes : SinkWrites) (route : Route) (events : List Event) → IsNewWire calls
       → IsConfigurationOf route config → IsPlayable route events script → AreTold w route → HasPrinted w calls route events writes
-      → IsReplayOverTests w calls.behind config script writes
+      → IsReplayOverTests w config script writes
   of-told config script writes route events new configured scripted told has =
       let counted = has.played.counted in
       let none = counted.told told in
@@ -135,6 +145,7 @@ module _ {W S : Type 0} (w : world.Ghosts W) (calls : WireCalls W S) where
         printed = has.printed;
         clients = has.played.right.clients;
         each = λ alike. has.played.right.each (fair-by w route told alike);
+        behind = calls.behind;
         sums = subst (λ (c : Counts). AreWireSums has.report 0 c calls.behind) new.uncounted
             (subst (λ (n : ℕ). AreWireSums has.report n calls.before calls.behind) none (counted.sums new.exact));
         causes = subst (λ (b : Bool). HaveWireCauses b route.pool has.report 0 no_counts calls.behind) new.exact
@@ -150,19 +161,20 @@ module _ {W S : Type 0} (w : world.Ghosts W) (calls : WireCalls W S) where
 
   taken-over : (config script config_text script_text : List ℕ) (reads : FileReads) (writes : SinkWrites) → TellsTests w → IsNewWire calls
       → reads.contents config ≡ Some config_text → reads.contents script ≡ Some script_text
-      → TakenAndPlayed w calls config script reads writes status.Ok → IsReplayOverTests w calls.behind config_text script_text writes
+      → TakenAndPlayed w calls config script reads writes status.Ok → IsReplayOverTests w config_text script_text writes
   taken-over config script config_text script_text reads writes tells new config_is script_is done =
       let route = done.0 in
       let configured = subst (λ (o : Option (List ℕ)). IfSome o (IsConfigurationOf route)) config_is done.1 in
-      let played = at-ok (first_real route) route script reads writes done.2 in
-      let events = played.1.0 in
-      let scripted = subst (λ (o : Option (List ℕ)). IfSome o (IsPlayable route events)) script_is played.1.1 in
+      let none = none-real (first_real route) route script reads writes done.2 in
+      let played = script-played (first_real route) route script reads writes done.2 in
+      let events = played.0 in
+      let scripted = subst (λ (o : Option (List ℕ)). IfSome o (IsPlayable route events)) script_is played.1 in
       of-told config_text script_text writes route events new configured scripted
-      (configured-told w tells route config_text configured played.0) played.1.2
+      (configured-told w tells route config_text configured none) played.2
 
   -- what the program did over a new wire to test targets
   pub over-tests : (words : List (List ℕ)) (reads : FileReads) (writes : SinkWrites) (ended : Status) → TellsTests w → IsNewWire calls
-      → IsProgramDone w calls words reads writes ended → IsReplayedOverTests w calls.behind words reads writes ended
+      → IsProgramDone w calls words reads writes ended → IsReplayedOverTests w words reads writes ended
   over-tests words reads writes ended tells new done = λ config script config_text script_text ok asked config_is script_is.
       taken-over config script config_text script_text reads writes tells new config_is script_is
       (subst (λ (ws : List (List ℕ)). IsProgramDone w calls ws reads writes status.Ok) asked

@@ -46,11 +46,10 @@ MembersAreAlike w route =
     → Contains class.addresses other → MeansAs w one other
 
 -- The page of one report was printed, and nothing else. It is of the clients that the script names; where the members of each class are
--- alike, each was written the answers to what it was fed. The sums are what the wire counted, and each mark but Plain has its counted
--- cause. Where nothing befalls links nothing goes wrong, and no more than is borne marks no request but where the pool was full; and
+-- alike, each was written the answers to what it was fed. The sums are what the wire counted behind it, and each mark but Plain has its
+-- counted cause. Where nothing befalls links nothing goes wrong, and no more than is borne marks no request but where the pool was full; and
 -- orderly clients share what they search.
-pub record IsReplayOverTests {W : Type 0} (w : world.Ghosts W) (behind : Counts) (config script : List ℕ) (writes : SinkWrites)
-    : Type 0 where
+pub record IsReplayOverTests {W : Type 0} (w : world.Ghosts W) (config script : List ℕ) (writes : SinkWrites) : Type 0 where
   pub route : Route
   pub configured : IsConfigurationOf route config
   pub events : List Event
@@ -59,6 +58,7 @@ pub record IsReplayOverTests {W : Type 0} (w : world.Ghosts W) (behind : Counts)
   pub printed : Received writes (page report)
   pub clients : map (λ client. client.number) report.clients ≡ named events
   pub each : MembersAreAlike w route → AllByRecursion (IsAnswered w route events) report.clients
+  pub behind : Counts
   pub sums : AreWireSums report 0 no_counts behind
   pub causes : HaveWireCauses true route.pool report 0 no_counts behind
   pub fulls : IsFullCaused route.pool report 0 behind
@@ -67,10 +67,9 @@ pub record IsReplayOverTests {W : Type 0} (w : world.Ghosts W) (behind : Counts)
   pub shared : MembersAreAlike w route → SharesIfOrderly w route events report
 
 -- `replay` at Ok: the files that it names were replayed so, where they are told
-abbrev pub IsReplayedOverTests : {W : Type 0} → world.Ghosts W → (behind : Counts) → List (List ℕ) → FileReads → SinkWrites → Status
-    → Type 0
-IsReplayedOverTests w behind words reads writes ended =
+abbrev pub IsReplayedOverTests : {W : Type 0} → world.Ghosts W → List (List ℕ) → FileReads → SinkWrites → Status → Type 0
+IsReplayedOverTests w words reads writes ended =
     (config script config_text script_text : List ℕ)
     → ended ≡ Ok → words ≡ codes "replay" ∷ config ∷ script ∷ []
     → reads.contents config ≡ Some config_text → reads.contents script ≡ Some script_text
-    → IsReplayOverTests w behind config_text script_text writes
+    → IsReplayOverTests w config_text script_text writes

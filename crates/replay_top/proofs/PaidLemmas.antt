@@ -29,6 +29,9 @@ over-faults : (exact : Bool) (wire : Counts) (own : Own) → (counts_over exact 
 over-faults true wire own = refl
 over-faults false wire own = refl
 
+over-none : (exact : Bool) (wire : Counts) (own : Own) → own.breaches ≡ 0 → (counts_over exact wire own).faults ≡ within64 wire.faults
+over-none exact wire own none = over-faults exact wire own ∙ ap within64 (omega (arith, none))
+
 -- no fewer links are reported than were made at least
 links-enough : (exact : Bool) (w0 w1 : Counts) (own0 own1 : Own) (before behind : Counts) (report : Report) (made : ℕ) → own0.dials ≡ 0
     → before ≡ counts_over exact w0 own0 → behind ≡ counts_over exact w1 own1 → AreLinksBelowEnd exact report w1
@@ -90,8 +93,7 @@ module _ {W S : Type 0} (w : world.Ghosts W) (t : sitting.Ghosts S W) (exact : B
         let named : within64 (0 + dialled.opens) ≡ behind.door.counts.opens = dialled.named 0 (omega (arith, no_opens)) in
         let links = links-enough exact w0 w1 own0 own1 before.backend.counts behind.backend.counts report dialled.dials no_dials e f links_below
         (sums dials tt) dialled.made in
-        let first : before.backend.counts.faults ≡ within64 w0.faults =
-        ap (λ (c : Counts). c.faults) e ∙ over-faults exact w0 own0 ∙ ap within64 (omega (arith, none)) in
+        let first : before.backend.counts.faults ≡ within64 w0.faults = ap (λ (c : Counts). c.faults) e ∙ over-none exact w0 own0 none in
         let failed = faults-enough dialled.faults w0.faults w1.faults own1.breaches before.backend.counts.faults behind.backend.counts.faults
         first (ap (λ (c : Counts). c.faults) f ∙ over-faults exact w1 own1) faults_below dialled.failed in
         let paid = dialled.paid in

@@ -75,11 +75,18 @@ fn is_answered<R: Wait>(
 ) -> Result<bool, Memory> {
     let sent = text_of(alloc, &[INIT, SEARCH])?;
     let written = text_of(alloc, &[INIT_REPLY, SEARCH_REPLY])?;
+    let mut clock = MemoryClock::new(numbers(alloc, moments)?);
     let mut source = MemorySource::new(sent, List::new(alloc));
     let mut sink = MemorySink::new(alloc, List::new(alloc));
-    let mut clock = MemoryClock::new(numbers(alloc, moments)?);
     let served = serve_connection(
-        rt, alloc, route, pool, &mut source, &mut sink, backend, &mut clock,
+        rt,
+        alloc,
+        route,
+        pool,
+        &mut source,
+        &mut sink,
+        backend,
+        &mut clock,
     );
     Ok(
         served.end == End::Finished

@@ -5,6 +5,7 @@ use crate::octets::{INIT, PRESENT, SEARCH};
 use gw_memory::{FakeBackend, FakeSession, MemoryClock};
 use gw_outside::{Got, Sink, Source, Took};
 use pool_core::Pool;
+use route_config::Route;
 use serve::serve_connection;
 use std::alloc::Global;
 use std::sync::Wait;
@@ -89,12 +90,18 @@ const CASES: [Reads; 4] = [
     &[(108, 117)],
 ];
 
-/// Whether a client who is read so is answered to its end.
-fn is_answered<R: Wait>(rt: &R, alloc: Global, reads: Reads) -> Result<bool, Memory> {
-    let sent = text_of(alloc, &[INIT, SEARCH, PRESENT])?;
+/// Whether a client who sends this and is read so is answered to its end.
+fn is_read_so<R: Wait>(
+    rt: &R,
+    alloc: Global,
+    route: &Route,
+    pool: &mut Pool<TestWorld, FakeSession>,
+    sent: &[u8],
+    reads: Reads,
+) -> bool {
     let written = AtomicU64::new(0);
     let mut source = OrderedSource {
-        sent: sent.as_slice(),
+        sent,
         reads,
         made: 0,
         given: 0,
@@ -106,14 +113,27 @@ fn is_answered<R: Wait>(rt: &R, alloc: Global, reads: Reads) -> Result<bool, Mem
         written: &written,
         faults: 0,
     };
-    let route = route_of(alloc, 100)?;
-    let mut pool: Pool<TestWorld, FakeSession> = Pool::new(alloc, &route)?;
     let mut backend = FakeBackend::new(TestWorld, List::new(alloc));
     let mut clock = MemoryClock::new(List::new(alloc));
     let served = serve_connection(
-        rt, alloc, &route, &mut pool, &mut source, &mut sink, &mut backend, &mut clock,
+        rt,
+        alloc,
+        route,
+        pool,
+        &mut source,
+        &mut sink,
+        &mut backend,
+        &mut clock,
     );
-    Ok(served.end == End::Finished && are_plain(&served.marks, 3))
+    served.end == End::Finished && are_plain(&served.marks, 3)
+}
+
+/// Whether a client who is read so is answered to its end.
+fn is_answered<R: Wait>(rt: &R, alloc: Global, reads: Reads) -> Result<bool, Memory> {
+    let sent = text_of(alloc, &[INIT, SEARCH, PRESENT])?;
+    let route = route_of(alloc, 100)?;
+    let mut pool: Pool<TestWorld, FakeSession> = Pool::new(alloc, &route)?;
+    Ok(is_read_so(rt, alloc, &route, &mut pool, sent.as_slice(), reads))
 }
 
 #[test]

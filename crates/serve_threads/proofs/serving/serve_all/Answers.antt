@@ -1,8 +1,11 @@
-use Rattle.std.proofs.Common.{◌≡◌, ◌∙◌, ap, subst, sym}
+use Rattle.std.proofs.Common.{◌≡◌, ◌∙◌, ap, is_some, subst, sym}
 use Rattle.route_config.specs.declared.route.Route.{Route}
 use Rattle.pool_locked.specs.Books.{counts_of}
 use Rattle.serve_threads.specs.Serving.{HaveServed}
 use Rattle.serve_threads.proofs.serving.serve_all.Goals as goal
+
+pub serve_over-requires-clause-told : goal.serve_over-requires-clause-told
+serve_over-requires-clause-told g c κs within = ap is_some c.requires.pool
 
 pub serve_over-requires-clause-new : goal.serve_over-requires-clause-new
 serve_over-requires-clause-new g c κs within =
