@@ -11,7 +11,7 @@ use std::alloc::Global;
 use z_types::{Condition, Diag, Fetched, Item, List, Memory, NamedRecord, Text};
 use z_write::weight;
 
-/// What is given of what was fetched, where so many records were asked for, which is no more. A
+/// What is given of what was fetched, by the sizes of an Init, where so many records were asked for. A
 /// diagnostic in place of all records stays.
 pub fn cut_of(alloc: Global, sizes: Sizes, asked: u32, fetched: Fetched) -> Result<Fetched, Memory>
     ensures { IfOk result (λ given. given ≡ cut_of sizes asked fetched) }
