@@ -9,7 +9,9 @@ mod tests;
 mod words;
 
 use std::process::ExitCode;
+use tcp_edge::fill_standard_streams;
 
 fn main(rt: HostRuntime) -> ExitCode {
+    fill_standard_streams();
     program::run(&rt)
 }

@@ -10,6 +10,7 @@ mod files;
 mod links;
 mod sinks;
 mod sources;
+mod standard;
 mod tally;
 #[cfg(test)]
 mod tests;
@@ -23,5 +24,6 @@ pub use files::SystemFiles;
 pub use links::{EdgeLink, TcpLink};
 pub use sinks::WriterSink;
 pub use sources::SocketSource;
+pub use standard::fill_standard_streams;
 pub use tally::Tally;
 pub use wires::EdgeWire;
