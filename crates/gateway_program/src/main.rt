@@ -1,6 +1,7 @@
 //! The program: the top call over the real files, output and targets.
 #![tactic(auto)]
 
+mod flags;
 mod over_tests;
 mod program;
 mod serving;

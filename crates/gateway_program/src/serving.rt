@@ -1,5 +1,6 @@
 //! Serving, where the words ask for it.
 
+use crate::flags::flags;
 use gateway_config::Status;
 use log::sink::Console;
 use log::{LevelFilter, Logged};
@@ -20,21 +21,6 @@ pub(crate) fn is_serve(words: &[Text]) -> bool {
     }
 }
 
-/// The words without a last `--quiet`, and from which level on to log: without it all, else no
-/// connection that begins or ends.
-fn loudness(words: &[Text]) -> (&[Text], LevelFilter) {
-    match words {
-        [others @ .., last] => {
-            if last.as_slice() == b"--quiet".as_slice() {
-                (others, LevelFilter::Warn)
-            } else {
-                (words, LevelFilter::Info)
-            }
-        }
-        [] => (words, LevelFilter::Info),
-    }
-}
-
 /// Serves over the system's sockets, files, clock and output, and logs to the standard error.
 pub(crate) fn serve_here<
     R: Net<Listener = TcpListener, Stream = TcpStream>
@@ -46,8 +32,13 @@ pub(crate) fn serve_here<
         + Wait
         + Sync,
 >(runtime: &R, alloc: Global, words: &[Text]) -> Status {
-    let (words, level) = loudness(words);
+    let (words, flags) = flags(words);
+    let level = if flags.quiet {
+        LevelFilter::Warn
+    } else {
+        LevelFilter::Info
+    };
     let log = Logged::new(runtime, level, Console(runtime));
     let mut output = WriterSink::new(io::writer(runtime));
-    serve(runtime, alloc, &log, words, &mut output)
+    serve(runtime, alloc, &log, flags.address(), words, &mut output)
 }

@@ -17,6 +17,7 @@ help_text =
     ++ line_of (codes "replay CONFIG SCRIPT       plays what a script says of clients, time and targets, and prints what clients are answered")
     ++ line_of (codes "load N                     plays N clients of four requests each, and prints how many octets, searches and links that took")
     ++ line_of (codes "serve CONFIG PORT WORKERS  serves clients at a port of this machine, as many at once as there are workers (1 to 64)")
+    ++ line_of (codes "serve .. --listen ADDRESS  the same, at another address of this machine than 127.0.0.1")
     ++ line_of (codes "serve .. --quiet           the same, and logs no connection that begins or ends")
     ++ line_of (codes "--help                     prints this")
     ++ line_of (codes "--version                  prints the version")

@@ -11,7 +11,7 @@ use log::Log;
 use serve::Worker;
 use serve_top::{asked_of, top_serve};
 use std::alloc::Global;
-use std::net::{Net, TcpListener, TcpStream};
+use std::net::{IpAddr, Net, TcpListener, TcpStream};
 use std::sync::Wait;
 use std::sync::atomic::AtomicU64;
 use std::thread::Threads;
@@ -21,7 +21,7 @@ use test_target::TestWorld;
 use z_client::ZBackend;
 use z_types::Text;
 
-/// Listens and serves, as the words after the program's name say, until an accept fails. Where they are
+/// Listens at an address and serves, as the words after the program's name say, until an accept fails. Where they are
 /// not those of `serve`, or the system refuses the port, it says so as `top_serve` does.
 pub fn serve<
     R: Net<Listener = TcpListener, Stream = TcpStream>
@@ -33,12 +33,12 @@ pub fn serve<
         + Sync,
     L: Log + Sync,
     K: Sink,
->(runtime: &R, alloc: Global, log: &L, words: &[Text], out: &mut K) -> Status
+>(runtime: &R, alloc: Global, log: &L, address: IpAddr, words: &[Text], out: &mut K) -> Status
     ensures printed { IsPrinted (sink_writes K.Sink out.old out.new) result }
 {
     let accepted = AtomicU64::new(0);
     let (listener, count) = match asked_of(words) {
-        Some(asked) => (listen(runtime, log, asked), asked.workers),
+        Some(asked) => (listen(runtime, log, address, asked), asked.workers),
         None => (None, 0),
     };
     let Ok(mut workers) = workers(runtime, alloc, log, listener.as_ref(), &accepted, count) else {
