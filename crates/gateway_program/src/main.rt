@@ -2,6 +2,7 @@
 #![tactic(auto)]
 
 mod flags;
+mod hints;
 mod over_tests;
 mod program;
 mod serving;

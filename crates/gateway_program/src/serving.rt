@@ -1,6 +1,7 @@
 //! Serving, where the words ask for it.
 
 use crate::flags::flags;
+use crate::hints::help;
 use gateway_config::Status;
 use log::sink::Console;
 use log::{LevelFilter, Logged};
@@ -10,16 +11,8 @@ use std::net::{Net, TcpListener, TcpStream};
 use std::sync::Wait;
 use std::thread::Threads;
 use std::{io, rt, time};
-use tcp_edge::WriterSink;
+use tcp_edge::{SystemFiles, WriterSink};
 use z_types::Text;
-
-/// Whether the first word is `serve`.
-pub(crate) fn is_serve(words: &[Text]) -> bool {
-    match words {
-        [word, ..] => word.as_slice() == b"serve".as_slice(),
-        [] => false,
-    }
-}
 
 /// Serves over the system's sockets, files, clock and output, and logs to the standard error.
 pub(crate) fn serve_here<
@@ -40,5 +33,9 @@ pub(crate) fn serve_here<
     };
     let log = Logged::new(runtime, level, Console(runtime));
     let mut output = WriterSink::new(io::writer(runtime));
-    serve(runtime, alloc, &log, flags.address(), words, &mut output)
+    let mut files = SystemFiles::new(runtime);
+    let address = flags.address();
+    let status = serve(runtime, alloc, &log, address, words, &mut files, &mut output);
+    help(runtime, alloc, &files, status);
+    status
 }

@@ -5,11 +5,11 @@ ghost use Rattle.serve_top.specs.Outcome.{IsPrinted};
 
 use crate::listening::listen;
 use crate::workers::{Edge, workers};
-use gateway_config::Status;
+use gateway_config::{ConfigRead, Status, read_config};
 use gw_outside::{Accept, Clock, Files, Sink, Wire};
 use log::Log;
 use serve::Worker;
-use serve_top::{asked_of, top_serve};
+use serve_top::{Asked, asked_of, top_serve};
 use std::alloc::Global;
 use std::net::{IpAddr, Net, TcpListener, TcpStream};
 use std::sync::Wait;
@@ -21,8 +21,9 @@ use test_target::TestWorld;
 use z_client::ZBackend;
 use z_types::Text;
 
-/// Listens at an address and serves, as the words after the program's name say, until an accept fails. Where they are
-/// not those of `serve`, or the system refuses the port, it says so as `top_serve` does.
+/// Serves, as the words after the program's name say, at an address of this machine, until an accept fails.
+/// The configuration is read first: only where it is taken the port is listened on. Where the words are not
+/// those of `serve`, or the system refuses the port, it says so as `top_serve` does.
 pub fn serve<
     R: Net<Listener = TcpListener, Stream = TcpStream>
         + time::Clock
@@ -33,19 +34,43 @@ pub fn serve<
         + Sync,
     L: Log + Sync,
     K: Sink,
->(runtime: &R, alloc: Global, log: &L, address: IpAddr, words: &[Text], out: &mut K) -> Status
+>(
+    runtime: &R,
+    alloc: Global,
+    log: &L,
+    address: IpAddr,
+    words: &[Text],
+    files: &mut SystemFiles<'_, R>,
+    out: &mut K,
+) -> Status
     ensures printed { IsPrinted (sink_writes K.Sink out.old out.new) result }
 {
     let accepted = AtomicU64::new(0);
     let (listener, count) = match asked_of(words) {
-        Some(asked) => (listen(runtime, log, address, asked), asked.workers),
+        Some(asked) => (open(runtime, alloc, log, address, asked, words, files), asked.workers),
         None => (None, 0),
     };
     let Ok(mut workers) = workers(runtime, alloc, log, listener.as_ref(), &accepted, count) else {
         return Status::Memory;
     };
     drop(listener);
-    serve_sockets(runtime, alloc, words, out, &mut workers)
+    serve_sockets(runtime, alloc, words, files, out, &mut workers)
+}
+
+/// The listener that the words of `serve` ask for, where their configuration is taken.
+fn open<R: Net<Listener = TcpListener, Stream = TcpStream> + rt::Files + Eprint, L: Log>(
+    runtime: &R,
+    alloc: Global,
+    log: &L,
+    address: IpAddr,
+    asked: Asked,
+    words: &[Text],
+    files: &mut SystemFiles<'_, R>,
+) -> Option<TcpListener> {
+    match read_config(alloc, files, words.get(1)?) {
+        ConfigRead::Taken(_) => listen(runtime, log, address, asked),
+        ConfigRead::Refused(_) | ConfigRead::Failed | ConfigRead::Memory => None,
+    }
 }
 
 /// Serves over the system's files and sockets.
@@ -58,11 +83,17 @@ fn serve_sockets<
         + Sync,
     L: Log + Sync,
     K: Sink,
->(runtime: &R, alloc: Global, words: &[Text], out: &mut K, workers: &mut Vec<Edge<R, L>>) -> Status
+>(
+    runtime: &R,
+    alloc: Global,
+    words: &[Text],
+    files: &mut SystemFiles<'_, R>,
+    out: &mut K,
+    workers: &mut Vec<Edge<R, L>>,
+) -> Status
     ensures printed { IsPrinted (sink_writes K.Sink out.old out.new) result }
 {
-    let mut files = SystemFiles::new(runtime);
-    serve_over(runtime, alloc, words, &mut files, out, workers)
+    serve_over(runtime, alloc, words, files, out, workers)
 }
 
 /// Serves over links that may go to other threads.
