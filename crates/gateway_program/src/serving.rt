@@ -3,16 +3,30 @@
 use crate::flags::flags;
 use crate::hints::help;
 use gateway_config::Status;
-use log::sink::Console;
-use log::{LevelFilter, Logged};
+use log::LevelFilter;
+use log::filter::{Builder, Filter, FilteredLog};
 use serve_edge::serve;
-use std::alloc::Global;
+use std::alloc::{AllocError, Global};
 use std::net::{Net, TcpListener, TcpStream};
 use std::sync::Wait;
 use std::thread::Threads;
 use std::{io, rt, time};
-use tcp_edge::{SystemFiles, WriterSink};
+use tcp_edge::{DatedConsole, SystemFiles, WriterSink};
 use z_types::Text;
+
+/// What logs connections that begin or end.
+const CONNECTIONS: &str = "tcp_edge::accepts";
+
+/// What is logged: all, or all but connections that begin or end.
+fn filter(alloc: Global, quiet: bool) -> Result<Filter, AllocError> {
+    let all = Builder::new(alloc).filter_level(LevelFilter::Info)?;
+    let some = if quiet {
+        all.filter_module(CONNECTIONS, LevelFilter::Warn)?
+    } else {
+        all
+    };
+    Ok(some.build())
+}
 
 /// Serves over the system's sockets, files, clock and output, and logs to the standard error.
 pub(crate) fn serve_here<
@@ -26,16 +40,22 @@ pub(crate) fn serve_here<
         + Sync,
 >(runtime: &R, alloc: Global, words: &[Text]) -> Status {
     let (words, flags) = flags(words);
-    let level = if flags.quiet {
-        LevelFilter::Warn
-    } else {
-        LevelFilter::Info
+    let Ok(filter) = filter(alloc, flags.quiet) else {
+        return Status::Memory;
     };
-    let log = Logged::new(runtime, level, Console(runtime));
-    let mut output = WriterSink::new(io::writer(runtime));
+    let log = FilteredLog::new(DatedConsole(runtime), filter);
     let mut files = SystemFiles::new(runtime);
+    let mut output = WriterSink::new(io::writer(runtime));
     let address = flags.address();
-    let status = serve(runtime, alloc, &log, address, words, &mut files, &mut output);
+    let status = serve(
+        runtime,
+        alloc,
+        &log,
+        address,
+        words,
+        &mut files,
+        &mut output,
+    );
     help(runtime, alloc, &files, status);
     status
 }

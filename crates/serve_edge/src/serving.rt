@@ -4,22 +4,23 @@ ghost use Rattle.gateway_config.specs.Outside.{sink_writes};
 ghost use Rattle.serve_top.specs.Outcome.{IsPrinted};
 
 use crate::listening::listen;
+use crate::targets::{add_targets, tell_limit};
 use crate::workers::{Edge, workers};
 use gateway_config::{ConfigRead, Status, read_config};
 use gw_outside::{Accept, Clock, Files, Sink, Wire};
 use log::Log;
+use route_config::Route;
 use serve::Worker;
 use serve_top::{Asked, asked_of, top_serve};
 use std::alloc::Global;
 use std::net::{IpAddr, Net, TcpListener, TcpStream};
 use std::sync::Wait;
-use std::sync::atomic::AtomicU64;
 use std::thread::Threads;
 use std::{rt, time};
-use tcp_edge::SystemFiles;
+use tcp_edge::{SystemFiles, Totals};
 use test_target::TestWorld;
 use z_client::ZBackend;
-use z_types::Text;
+use z_types::{Memory, Text};
 
 /// Serves, as the words after the program's name say, at an address of this machine, until an accept fails.
 /// The configuration is read first: only where it is taken the port is listened on. Where the words are not
@@ -45,32 +46,43 @@ pub fn serve<
 ) -> Status
     ensures printed { IsPrinted (sink_writes K.Sink out.old out.new) result }
 {
-    let accepted = AtomicU64::new(0);
+    let mut totals = Totals::new(alloc);
     let (listener, count) = match asked_of(words) {
-        Some(asked) => (open(runtime, alloc, log, address, asked, words, files), asked.workers),
+        Some(asked) => {
+            let route = route_of(alloc, words, files);
+            let listener = open(runtime, log, address, asked, route, &mut totals);
+            (listener, asked.workers)
+        }
         None => (None, 0),
     };
-    let Ok(mut workers) = workers(runtime, alloc, log, listener.as_ref(), &accepted, count) else {
-        return Status::Memory;
-    };
-    drop(listener);
-    serve_sockets(runtime, alloc, words, files, out, &mut workers)
+    match workers(runtime, alloc, log, listener.as_ref(), &totals, count) {
+        Ok(mut workers) => serve_sockets(runtime, alloc, words, files, out, &mut workers),
+        Err(Memory) => Status::Memory,
+    }
 }
 
-/// The listener that the words of `serve` ask for, where their configuration is taken.
-fn open<R: Net<Listener = TcpListener, Stream = TcpStream> + rt::Files + Eprint, L: Log>(
+/// The route that the words of `serve` name, where it is taken.
+fn route_of<F: Files>(alloc: Global, words: &[Text], files: &mut F) -> Option<Route> {
+    match read_config(alloc, files, words.get(1)?) {
+        ConfigRead::Taken(route) => Some(route),
+        ConfigRead::Refused(_) | ConfigRead::Failed | ConfigRead::Memory => None,
+    }
+}
+
+/// The listener that the words of `serve` ask for, where their route is taken and its targets have their
+/// places in the totals.
+fn open<R: Net<Listener = TcpListener, Stream = TcpStream> + Eprint, L: Log>(
     runtime: &R,
-    alloc: Global,
     log: &L,
     address: IpAddr,
     asked: Asked,
-    words: &[Text],
-    files: &mut SystemFiles<'_, R>,
+    route: Option<Route>,
+    totals: &mut Totals,
 ) -> Option<TcpListener> {
-    match read_config(alloc, files, words.get(1)?) {
-        ConfigRead::Taken(_) => listen(runtime, log, address, asked),
-        ConfigRead::Refused(_) | ConfigRead::Failed | ConfigRead::Memory => None,
-    }
+    let route = route?;
+    let _ = add_targets(totals, &route);
+    tell_limit(log, &route, asked.workers);
+    listen(runtime, log, address, asked)
 }
 
 /// Serves over the system's files and sockets.

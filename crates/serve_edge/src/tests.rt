@@ -13,11 +13,10 @@ use std::alloc::Global;
 use std::io::{Read, Result, Write};
 use std::net::{Net, SocketAddr, TcpListener, TcpStream};
 use std::sync::Wait;
-use std::sync::atomic::AtomicU64;
 use std::test::Fail;
 use std::thread::Threads;
 use std::{thread, time};
-use tcp_edge::{EdgeWire, SocketAccept, SocketSource, SystemClock, WriterSink};
+use tcp_edge::{EdgeWire, SocketAccept, SocketSource, SystemClock, Totals, WriterSink};
 use z_client::ZBackend;
 use z_types::{End, List, Mark, Memory, Text};
 
@@ -134,11 +133,11 @@ fn serves<T: Threads + Wait + Sync>(
     threads: &T,
     runtime: &HostRuntime,
     alloc: Global,
-    listener: TcpListener,
+    listener: &TcpListener,
 ) -> std::result::Result<bool, Memory> {
-    let accepted = AtomicU64::new(0);
+    let totals = Totals::new(alloc);
     let mut workers = Vec::new(alloc);
-    let edge = worker(runtime, alloc, &Discard, Some(listener), &accepted);
+    let edge = worker(runtime, alloc, &Discard, Some(listener), &totals);
     workers.push(ending(edge, 2))?;
     let words = texts(alloc, &["serve", "c", "2100", "1"])?;
     let mut files = files(alloc)?;
@@ -189,7 +188,7 @@ fn clients_of_both_kinds_are_answered_at_one_port(
     let (answered, served) = thread::join(
         &rt,
         || are_answered(&rt, rt.alloc(), address),
-        || serves(&rt, &rt, rt.alloc(), listener),
+        || serves(&rt, &rt, rt.alloc(), &listener),
     );
     assert!(rt; served? && answered?);
     Ok(())

@@ -2,6 +2,7 @@
 
 mod connections;
 mod files;
+mod lines;
 mod links;
 
 use std::io::Result;
