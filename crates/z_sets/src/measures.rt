@@ -70,10 +70,10 @@ fn measure_operand(
     requires sizes { sizes.now ≡ measures_of_sets sets.now }
     ensures { IsOrMemory (expansion_measures legs.now sets.now (operand name.now)) result }
 {
-    let _ = set_for(name, legs, sets)?;
+    let set = set_for(name, legs, sets)?;
     match measures_named(name, sets, sizes) {
         Some(measures) => Ok(measures),
-        None => unreachable!(),
+        None => Ok(Measures::of(&set.query.root)),
     }
 }
 

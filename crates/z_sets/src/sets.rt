@@ -85,7 +85,7 @@ fn store_in(items: &mut Vec<KnownSet>, set: KnownSet) -> Result<(), Memory>
     remove_in(items, set.name.as_slice());
     match items.push(set) {
         Ok(()) => Ok(()),
-        Err(_) => unreachable!(),
+        Err(_) => Err(Memory),
     }
 }
 
