@@ -2,6 +2,7 @@
 use Rattle.std.proofs.Common.{◌≡◌, ◌∙◌, ℕ, Bool, inl, inr, List, [], ◌∷◌, map, Option, None, Some, Result, Ok, Err, OnOk, ap, refl, subst, sym}
 use Rattle.std.specs.Prelude.{IfSome}
 use Rattle.std.specs.List.{AllByRecursion}
+use Rattle.z_types.specs.Chains.{HasStepped, StepsFrom}
 use Rattle.z_types.specs.declared.marks.End.{End}
 use Rattle.z_types.specs.declared.memory.Memory.{Memory as NoMemory}
 use Rattle.z_types.specs.declared.sitting.Sitting as sitting
@@ -17,7 +18,7 @@ use Rattle.package.specs.steps.Packages.{IsPackageOf, PackageView}
 use Rattle.front_conn.specs.declared.stepped.Stepped.{Stepped}
 use Rattle.front_conn.specs.declared.stepped.Stepped.TheVariants.{NotYet, Went}
 use Rattle.front_conn.specs.steps.Answering.{AnsweringState, EndsWork, IsEndAfter, IsReady, Outside, TurnsWork, WorksOn}
-use Rattle.front_conn.specs.steps.Drives.{ConnAt, DrivesWork, GoesOnTo, HasGone, StepsTo, around, package_in}
+use Rattle.front_conn.specs.steps.Drives.{ConnAt, DrivesWork, GoesOnTo, StepsTo, around, package_in}
 use Rattle.front_conn.specs.steps.States.{HasLegsOf, IsConnOf, IsOneWork, IsWaitedAt}
 use Rattle.front_conn.specs.steps.Steps.{KeepsState}
 use Rattle.front_conn.proofs.EndedLemmas.{if-work, one-here, turns-on, turns-over}
@@ -26,23 +27,23 @@ use Rattle.front_conn.proofs.TurnLemmas.{goes-keeps}
 
 module _ {W S : Type 0} (w : world.Ghosts W) (t : sitting.Ghosts S W) (exact : Bool) (route : Route) where
   -- all turns are for one work
-  pub same-work : (first last : PackageAt S) (earlier : List (PackageAt S)) → package_drives.HasGone w t exact route first earlier last
+  pub same-work : (first last : PackageAt S) (earlier : List (PackageAt S)) → HasStepped (package_drives.GoesOnTo w t exact route) first earlier last
       → last.view.work ≡ first.view.work
   same-work first last [] same = ap (λ (p : PackageAt S). p.view.work) same
-  same-work first last (mid ∷ earlier) gone = gone.1.turn.law.work ∙ same-work first mid earlier gone.0
+  same-work first last (mid ∷ earlier) stepped = stepped.1.turn.law.work ∙ same-work first mid earlier stepped.0
 
   -- and of one route
   pub same-route : (first last : PackageAt S) (earlier : List (PackageAt S)) → IsPackageOf w t route first.door.counts.most first.view
-      → package_drives.HasGone w t exact route first earlier last → IsPackageOf w t route last.door.counts.most last.view
+      → HasStepped (package_drives.GoesOnTo w t exact route) first earlier last → IsPackageOf w t route last.door.counts.most last.view
   same-route first last [] of same = subst (λ (p : PackageAt S). IsPackageOf w t route p.door.counts.most p.view) (sym same) of
-  same-route first last (mid ∷ earlier) of gone = gone.1.turn.of
+  same-route first last (mid ∷ earlier) of stepped = stepped.1.turn.of
 
   -- the work that waits is that of each
   pub still-waits : (a : AnsweringState S) (first last : PackageAt S) (earlier : List (PackageAt S))
-      → package_drives.HasGone w t exact route first earlier last → IsWaitedAt route a.session.waiting first.view.work a.stage
+      → HasStepped (package_drives.GoesOnTo w t exact route) first earlier last → IsWaitedAt route a.session.waiting first.view.work a.stage
       → IsWaitedAt route a.session.waiting last.view.work a.stage
-  still-waits a first last earlier gone waits =
-      subst (λ (j : Work). IsWaitedAt route a.session.waiting j a.stage) (sym (same-work first last earlier gone)) waits
+  still-waits a first last earlier stepped waits =
+      subst (λ (j : Work). IsWaitedAt route a.session.waiting j a.stage) (sym (same-work first last earlier stepped)) waits
 
   -- also of the last
   pub driven-work : {A : Type 0} (first last : PackageAt S) (out : Result A NoMemory) → package_drives.IsDriven w t exact route first last out
@@ -111,23 +112,23 @@ module _ {W S : Type 0} (w : world.Ghosts W) (t : sitting.Ghosts S W) (exact : B
   }
 
   -- so are all that went on
-  pub gone-so : (first last : PackageAt S) (earlier : List (PackageAt S)) → IsPackageOf w t route first.door.counts.most first.view
+  pub stepped-so : (first last : PackageAt S) (earlier : List (PackageAt S)) → IsPackageOf w t route first.door.counts.most first.view
       → IsWaitedAt route a.session.waiting first.view.work a.stage
-      → package_drives.HasGone w t exact route first earlier last → HasGone w t exact route (standing first) (map standing earlier) (standing last)
-  gone-so first last [] of waits same = ap standing same
-  gone-so first last (mid ∷ earlier) of waits gone = (
-    gone-so first mid earlier of waits gone.0,
-    on-by mid last gone.1.answer (same-route w t exact route first mid earlier of gone.0)
-        (still-waits w t exact route a first mid earlier gone.0 waits) gone.1.awaited gone.1.turn,
+      → HasStepped (package_drives.GoesOnTo w t exact route) first earlier last → HasStepped (GoesOnTo w t exact route) (standing first) (map standing earlier) (standing last)
+  stepped-so first last [] of waits same = ap standing same
+  stepped-so first last (mid ∷ earlier) of waits stepped = (
+    stepped-so first mid earlier of waits stepped.0,
+    on-by mid last stepped.1.answer (same-route w t exact route first mid earlier of stepped.0)
+        (still-waits w t exact route a first mid earlier stepped.0 waits) stepped.1.awaited stepped.1.turn,
   )
 
   -- behind them the connection stands in the session as before
-  pub gone-keeps : (first last : PackageAt S) (earlier : List (PackageAt S)) → package_drives.HasGone w t exact route first earlier last
+  pub stepped-keeps : (first last : PackageAt S) (earlier : List (PackageAt S)) → HasStepped (package_drives.GoesOnTo w t exact route) first earlier last
       → KeepsState w route (standing first).conn (standing last).conn
-  gone-keeps first last [] same = subst (λ (p : PackageAt S). KeepsState w route (standing first).conn (standing p).conn) (sym same) (λ fair fed written h. h)
-  gone-keeps first last (mid ∷ earlier) gone = λ fair fed written h.
-      goes-keeps w t route last.door.counts.most (standing mid).conn (standing last).conn mid.view last.view gone.1.turn.of gone.1.turn.law.work
-      refl refl refl refl refl refl fair fed written (gone-keeps first mid earlier gone.0 fair fed written h)
+  stepped-keeps first last [] same = subst (λ (p : PackageAt S). KeepsState w route (standing first).conn (standing p).conn) (sym same) (λ fair fed written h. h)
+  stepped-keeps first last (mid ∷ earlier) stepped = λ fair fed written h.
+      goes-keeps w t route last.door.counts.most (standing mid).conn (standing last).conn mid.view last.view stepped.1.turn.of stepped.1.turn.law.work
+      refl refl refl refl refl refl fair fed written (stepped-keeps first mid earlier stepped.0 fair fed written h)
 
 -- ---- what is done behind its last turn
 
@@ -140,7 +141,7 @@ module _ {W S : Type 0} (w : world.Ghosts W) (t : sitting.Ghosts S W) (exact : B
 
   -- the last turn is one of the connection's
   drives-by : (new : AnsweringState S) (amid : PackageAt S) (now : ℕ)
-      → package_drives.GoesFrom w t exact route (package_in view before) amid
+      → StepsFrom (package_drives.GoesOnTo w t exact route) (package_in view before) amid
       → TurnsWork w t exact route now amid.view (holding amid.view) new answer end (around amid) behind
       → IfSome old.in_work (λ v. DrivesWork w t exact route v old new answer end before behind)
   drives-by new amid now goes turns =
@@ -153,7 +154,7 @@ module _ {W S : Type 0} (w : world.Ghosts W) (t : sitting.Ghosts S W) (exact : B
       })
 
   -- it waits for the package behind each turn
-  waits-amid : (amid : PackageAt S) → package_drives.GoesFrom w t exact route (package_in view before) amid
+  waits-amid : (amid : PackageAt S) → StepsFrom (package_drives.GoesOnTo w t exact route) (package_in view before) amid
       → IsOneWork route here.session.waiting here.stage (Some amid.view)
   waits-amid amid goes =
       still-waits w t exact route here (package_in view before) amid goes.0 goes.1 (one-here here old is view works route one)

@@ -1,7 +1,8 @@
 -- A connection that is driven, by its parts
-use Rattle.std.proofs.Common.{◌≡◌, ◌∙◌, ℕ, Bool, true, false, inl, inr, List, [], ◌∷◌, ◌++◌, map, Option, None, Some, Result, Ok, Err, ap, refl, subst, sym}
+use Rattle.std.proofs.Common.{◌≡◌, ◌∙◌, ℕ, Bool, true, false, inl, inr, List, [], ◌∷◌, map, Option, None, Some, Result, Ok, Err, ap, refl, subst, sym}
 use Rattle.std.specs.Prelude.{IfSome, IsSome}
 use Rattle.std.specs.Option.{option_map}
+use Rattle.z_types.specs.Chains.{HasStepped, StepsFrom}
 use Rattle.z_types.specs.declared.marks.End.{End}
 use Rattle.z_types.specs.declared.memory.Memory.{Memory as NoMemory}
 use Rattle.z_types.specs.declared.sitting.Sitting as sitting
@@ -20,11 +21,12 @@ use Rattle.package.specs.steps.Packages.{PackageView}
 use Rattle.front_conn.specs.declared.stepped.Stepped.{Stepped}
 use Rattle.front_conn.specs.declared.stepped.Stepped.TheVariants.{Idle, Memory, NotYet, Went}
 use Rattle.front_conn.specs.steps.Answering.{AnsweringState, EndsAt, IsEndAfter, IsKeptBehindGet, Outside, WorksOn, legs_in}
-use Rattle.front_conn.specs.steps.Drives.{ConnAt, DrivesWork, GoesFrom, HasDriven, HasGone, IsAwaited, IsInWork, StepsTo, around, given_up_at, package_in}
+use Rattle.front_conn.specs.steps.Drives.{ConnAt, DrivesWork, GoesOnTo, HasDriven, IsAwaited, IsInWork, StepsTo, around, given_up_at, package_in}
 use Rattle.front_conn.specs.steps.Feeding.{without_work}
 use Rattle.front_conn.specs.steps.States.{ConnectionState, IsConnOf, IsOfRoute}
 use Rattle.front_conn.specs.steps.Steps.{HasTurned, KeepsState, StepsFrom, UnlessMemory, answering_of}
-use Rattle.front_conn.proofs.DriveLemmas.{at-of, conn_with, gone-keeps, gone-so, same-route, still-waits}
+use Rattle.z_types.proofs.ChainLemmas.{steps-on}
+use Rattle.front_conn.proofs.DriveLemmas.{at-of, conn_with, stepped-keeps, stepped-so, same-route, still-waits}
 use Rattle.front_conn.proofs.StepLemmas.{state_of}
 use Rattle.front_conn.proofs.TurnLemmas.{TurnLaws}
 use Rattle.front_conn.proofs.TurnedLemmas.{at-some, has-turned, turn-keeps, turn-of-route}
@@ -112,17 +114,11 @@ keeps-both w route first amid last Memory one other = tt
 -- ---- steps one behind another
 
 module _ {W S : Type 0} (w : world.Ghosts W) (t : sitting.Ghosts S W) (exact : Bool) (route : Route) where
-  -- those behind others
-  gone-behind : (first mid last : ConnAt S) (earlier later : List (ConnAt S)) → HasGone w t exact route first earlier mid
-      → HasGone w t exact route mid later last → HasGone w t exact route first (later ++ earlier) last
-  gone-behind first mid last earlier [] gone same = subst (λ (p : ConnAt S). HasGone w t exact route first earlier p) (sym same) gone
-  gone-behind first mid last earlier (here ∷ later) gone more = (gone-behind first mid here earlier later gone more.0, more.1)
-
   -- a request is in work behind each
-  gone-works : (first last : ConnAt S) (earlier : List (ConnAt S)) → HasGone w t exact route first earlier last → IsInWork first.conn
+  stepped-works : (first last : ConnAt S) (earlier : List (ConnAt S)) → HasStepped (GoesOnTo w t exact route) first earlier last → IsInWork first.conn
       → IsInWork last.conn
-  gone-works first last [] same works = subst (λ (p : ConnAt S). IsInWork p.conn) (sym same) works
-  gone-works first last (mid ∷ earlier) gone works = gone.1.in_work
+  stepped-works first last [] same works = subst (λ (p : ConnAt S). IsInWork p.conn) (sym same) works
+  stepped-works first last (mid ∷ earlier) stepped works = stepped.1.in_work
 
   step-behind : (here next : ConnAt S) (answer : Stepped) → IsInWork here.conn → StepsTo w t exact route here next answer
       → StandsBehind answer next.conn
@@ -140,20 +136,20 @@ module _ {W S : Type 0} (w : world.Ghosts W) (t : sitting.Ghosts S W) (exact : B
   pub driven-behind : (first last : ConnAt S) (answer : Stepped) → IsInWork first.conn → HasDriven w t exact route first last answer
       → StandsBehind answer last.conn
   driven-behind first last answer works driven =
-      step-behind driven.amid last answer (gone-works first driven.amid driven.goes.0 driven.goes.1 works) driven.ends
+      step-behind driven.amid last answer (stepped-works first driven.amid driven.goes.0 driven.goes.1 works) driven.ends
 
   -- a package more was driven
-  pub driven-more : (first here last : ConnAt S) (answer : Stepped) → GoesFrom w t exact route first here
+  pub driven-more : (first here last : ConnAt S) (answer : Stepped) → StepsFrom (GoesOnTo w t exact route) first here
       → HasDriven w t exact route here last answer → HasDriven w t exact route first last answer
   driven-more first here last answer goes driven = record {
     amid = driven.amid;
-    goes = (driven.goes.0 ++ goes.0, gone-behind first here driven.amid goes.0 driven.goes.0 goes.1 driven.goes.1);
+    goes = steps-on (GoesOnTo w t exact route) first here driven.amid goes driven.goes;
     ends = driven.ends;
   }
 
   -- and another one is in work
-  pub driven-on : (first here next : ConnAt S) (answer : Stepped) → GoesFrom w t exact route first here → IsInWork here.conn
-      → HasDriven w t exact route here next answer → (answer ≡ Memory → ⊥) → IsInWork next.conn → GoesFrom w t exact route first next
+  pub driven-on : (first here next : ConnAt S) (answer : Stepped) → StepsFrom (GoesOnTo w t exact route) first here → IsInWork here.conn
+      → HasDriven w t exact route here next answer → (answer ≡ Memory → ⊥) → IsInWork next.conn → StepsFrom (GoesOnTo w t exact route) first next
   driven-on first here next answer goes works driven enough on =
       let more = driven-more first here next answer goes driven in (
         more.amid ∷ more.goes.0,
@@ -169,7 +165,7 @@ module _ {W S : Type 0} (w : world.Ghosts W) (t : sitting.Ghosts S W) (exact : B
       )
 
   -- or all is answered
-  pub driven-all : (first here last : ConnAt S) (answer : Stepped) → GoesFrom w t exact route first here → IsInWork here.conn
+  pub driven-all : (first here last : ConnAt S) (answer : Stepped) → StepsFrom (GoesOnTo w t exact route) first here → IsInWork here.conn
       → HasDriven w t exact route here last answer → (answer ≡ Memory → ⊥) → (IsInWork last.conn → ⊥)
       → HasDriven w t exact route first last Went × (last.conn.in_work ≡ None)
   driven-all first here last answer goes works driven enough rests =
@@ -242,7 +238,7 @@ module _ {W S : Type 0} (w : world.Ghosts W) (t : sitting.Ghosts S W) (exact : B
         amid = amid;
         goes = (
           map (conn_with f a has_ended) h.goes.0,
-          gone-so w t exact route f a has_ended o.sets start h.amid h.goes.0 o.in_work o.one_work h.goes.1,
+          stepped-so w t exact route f a has_ended o.sets start h.amid h.goes.0 o.in_work o.one_work h.goes.1,
         );
         ends = record {
           now = h.now;
@@ -269,7 +265,7 @@ module _ {W S : Type 0} (w : world.Ghosts W) (t : sitting.Ghosts S W) (exact : B
       let amid = conn_with f a has_ended h.amid in
       subst (λ (s : ConnectionState S). UnlessMemory answer (KeepsState w route s then)) (same-here view there)
       (keeps-both w route (conn_with f a has_ended start).conn amid.conn then answer
-      (gone-keeps w t exact route f a has_ended o.sets start h.amid h.goes.0 h.goes.1)
+      (stepped-keeps w t exact route f a has_ended o.sets start h.amid h.goes.0 h.goes.1)
       (turn-keeps w t exact route h.now f (holding h.amid.view) b None new_end has_ended amid.conn answer (around h.amid) behind refl refl
       h.turns refl laws)))
 

@@ -18,7 +18,7 @@ use Rattle.sru_request.specs.declared.faults.QueryFault.TheVariants.{Diag}
 use Rattle.sru_rules.specs.Asking.{is_too_large, within_limits, unless_faulty, rpn_of}
 use Rattle.sru_rules.specs.Diagnostics.{query_feature_unsupported}
 use Rattle.sru_rules.specs.Reading.{parsed}
-use Rattle.front_sru.specs.Queries.{IsOrMemory, told}
+use Rattle.front_sru.specs.Queries.{IsOrMemory, as_fault}
 
 below_64 : (k n : ℕ) → k < 2 ^ 64 - 1 → nat_lt k (within64 n) ≡ nat_lt k n
 below_64 k n h = grind (arith, nat_tests)
@@ -55,9 +55,9 @@ deep_refused version (Some root) deep =
 -- a query with such a term is refused for it, where it has no fault
 pub long_refused : (version : List ℕ) (indexes : List Index) (tree : cql.Tree) (diag : SruDiag)
     → all_faults indexes tree ≡ [] → true ≡ has_long_term tree → diag ≡ query_feature_unsupported version
-    → IsOrMemory (told (rpn_of version indexes (parsed tree))) (Err (Diag diag))
+    → IsOrMemory (as_fault (rpn_of version indexes (parsed tree))) (Err (Diag diag))
 long_refused version indexes tree diag good long same =
     ap (λ d. Err (Diag d)) same
-    ∙ sym (ap told
+    ∙ sym (ap as_fault
     (ap (λ all. unless_faulty version all (within_limits version (mapped indexes tree))) good
     ∙ deep_refused version (mapped indexes tree) (λ root. long-is-too-deep indexes tree root (sym long))))

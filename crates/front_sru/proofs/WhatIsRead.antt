@@ -30,19 +30,19 @@ use Rattle.sru_rules.specs.Reading.{broken, deep, parsed, IsLexed, IsParsed, ref
 use Rattle.sru_rules.specs.Run.{Due, at_once, searches, due}
 use Rattle.sru_rules.specs.steps.Works.{IsRetrieval}
 use Rattle.sru_rules.proofs.CanBegin.{get_is_retrieval}
-use Rattle.front_sru.specs.Queries.{told, IsOrMemory, tokens_fault, tree_fault, IsReadText, IsReadQuery, IsDueAs, IsReadRequest, IsReadGet}
+use Rattle.front_sru.specs.Queries.{as_fault, IsOrMemory, tokens_fault, tree_fault, IsReadText, IsReadQuery, IsDueAs, IsReadRequest, IsReadGet}
 
 -- ---- tokens
 
 read_of : (version : List ℕ) (indexes : List Index) (text : List ℕ) (tokens : List Token) (tree : Tree)
     (answer : Result RpnQuery QueryFault) → IsLexed text tokens → IsParsed text tokens tree
-    → answer ≡ told (rpn_of version indexes (parsed tree)) → IsReadText version indexes text answer
+    → answer ≡ as_fault (rpn_of version indexes (parsed tree)) → IsReadText version indexes text answer
 read_of version indexes text tokens tree answer lexed is answered =
     record { read = parsed tree; is = inr (tokens, lexed, is); answered = answered }
 
 pub tokens_good : (version : List ℕ) (indexes : List Index) (text : List ℕ) (tokens : List Token) (tree : Tree)
     (answer : Result RpnQuery QueryFault) → IsLexed text tokens → IsParsed text tokens tree
-    → IsOrMemory (told (rpn_of version indexes (parsed tree))) answer → IsReadQuery version indexes text answer
+    → IsOrMemory (as_fault (rpn_of version indexes (parsed tree))) answer → IsReadQuery version indexes text answer
 tokens_good version indexes text tokens tree (Ok query) lexed is h = read_of version indexes text tokens tree (Ok query) lexed is h
 tokens_good version indexes text tokens tree (Err (Diag diag)) lexed is h =
     read_of version indexes text tokens tree (Err (Diag diag)) lexed is h

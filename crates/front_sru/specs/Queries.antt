@@ -23,9 +23,9 @@ use Rattle.sru_rules.specs.Run.{Due, at_once, searches, due, due_by}
 use Rattle.sru_rules.specs.Settling.{refusal}
 
 -- what is read, or the diagnostic that refuses it
-abbrev pub told : {A : Type 0} → Result A SruDiag → Result A QueryFault
-told (Ok read) = Ok read
-told (Err diag) = Err (Diag diag)
+abbrev pub as_fault : {A : Type 0} → Result A SruDiag → Result A QueryFault
+as_fault (Ok read) = Ok read
+as_fault (Err diag) = Err (Diag diag)
 
 -- an answer, or want of memory, which has no cause
 abbrev pub IsOrMemory : {A : Type 0} → Result A QueryFault → Result A QueryFault → Type 0
@@ -56,7 +56,7 @@ pub record IsReadText (version : List ℕ) (indexes : List Index) (text : List �
     : Type 0 where
   pub read : CqlText
   pub is : IsCqlText text read
-  pub answered : answer ≡ told (rpn_of version indexes read)
+  pub answered : answer ≡ as_fault (rpn_of version indexes read)
 
 -- the query of type 1 that a text is, or why it is none; want of memory has no cause
 abbrev pub IsReadQuery : (version : List ℕ) → List Index → (text : List ℕ) → Result RpnQuery QueryFault → Type 0

@@ -5,7 +5,7 @@ ghost use Rattle.z_types.specs.Bounds.{most_query_depth};
 ghost use Rattle.cql_parse.specs.Tree.{depth};
 ghost use Rattle.sru_rules.specs.Asking as asking;
 ghost use Rattle.sru_rules.specs.Reading.{IsLexed, parsed};
-ghost use Rattle.front_sru.specs.Queries.{IsOrMemory, IsReadQuery, limited, mapping_fault, tokens_fault, told, tree_fault};
+ghost use Rattle.front_sru.specs.Queries.{IsOrMemory, IsReadQuery, limited, mapping_fault, tokens_fault, as_fault, tree_fault};
 
 use crate::diagnostics::{not_mapped, query_feature_unsupported, query_syntax_error};
 use cql_lex::{LexFault, Token, tokens};
@@ -87,7 +87,8 @@ fn rpn_of_tree(
     tree: &Cql,
 ) -> Result<RpnQuery, QueryFault>
     requires { depth tree.now ≤ most_query_depth }
-    ensures { IsOrMemory (told (asking.rpn_of version.now indexes.now (parsed tree.now))) result }
+    ensures { IsOrMemory
+        (as_fault (asking.rpn_of version.now indexes.now (parsed tree.now))) result }
 {
     match check(alloc, tree, indexes) {
         Ok(true) => Err(QueryFault::Diag(query_feature_unsupported(alloc, version)?)),
@@ -104,7 +105,8 @@ fn rpn_of_checked(
     tree: &Cql,
 ) -> Result<RpnQuery, QueryFault>
     requires { depth tree.now ≤ most_query_depth }
-    ensures { IsOrMemory (told (asking.rpn_of version.now indexes.now (parsed tree.now))) result }
+    ensures { IsOrMemory
+        (as_fault (asking.rpn_of version.now indexes.now (parsed tree.now))) result }
 {
     match to_rpn(alloc, tree, indexes) {
         Ok(query) => within_limits(alloc, version, query),
@@ -124,7 +126,7 @@ fn no_mapping(alloc: Global, version: &Text, fault: MapFault) -> Result<QueryFau
 
 /// A query of type 1 within the limits.
 fn within_limits(alloc: Global, version: &Text, query: RpnQuery) -> Result<RpnQuery, QueryFault>
-    ensures { IsOrMemory (told (limited version.now query)) result }
+    ensures { IsOrMemory (as_fault (limited version.now query)) result }
 {
     if is_too_large(&query.root) {
         return Err(QueryFault::Diag(query_feature_unsupported(alloc, version)?));

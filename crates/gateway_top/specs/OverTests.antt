@@ -12,7 +12,7 @@ use Rattle.route_config.specs.declared.route.Route.{Route}
 use Rattle.gateway_rules.specs.Fair.{MeansAs}
 use Rattle.script.specs.declared.event.Event.{Event}
 use Rattle.script.specs.Events.{named}
-use Rattle.conn_quiet.specs.steps.Bearing.{DialsGoOn}
+use Rattle.package_quiet.specs.steps.Bearing.{DialsGoOn}
 use Rattle.replay.specs.Page.{page}
 use Rattle.replay.specs.Report.{IsAnswered}
 use Rattle.replay.specs.Undisturbed.{BefallsNothing, IsUntroubled}

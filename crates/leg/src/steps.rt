@@ -22,8 +22,8 @@ use pool_sets::{Door, Seat};
 use std::alloc::Global;
 use z_types::{Sitting, World};
 
-/// One step of a leg.
-pub(crate) fn step<W: World, S: Sitting<W>, B: Backend<W, Session = S>, D: Door<W, S>>(
+/// One turn of a leg, by its phase.
+pub(crate) fn turn_phase<W: World, S: Sitting<W>, B: Backend<W, Session = S>, D: Door<W, S>>(
     alloc: Global,
     terms: &LentTerms<'_>,
     task: &Task,

@@ -1,7 +1,7 @@
 //! A leg.
 
 use crate::phases::seat_of;
-use crate::steps::step;
+use crate::steps::turn_phase;
 use crate::tasks::task_of;
 use crate::terms::terms_of;
 use crate::{Account, LegAnswer, LegAsk, Phase, Task, Turned};
@@ -98,7 +98,7 @@ impl<W: World, S: Sitting<W>> Leg<W, S> {
     {
         let terms = terms_of(route, self.leg);
         let phase = mem::replace(&mut self.phase, Phase::Ended);
-        let (phase, turned) = step(
+        let (phase, turned) = turn_phase(
             alloc,
             &terms,
             &self.task,

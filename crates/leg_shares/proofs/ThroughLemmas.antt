@@ -1,6 +1,7 @@
 -- A leg from its first turn to its last, among others that use other classes
 use Rattle.std.proofs.Common.{◌≡◌, ◌∙◌, ◌⊎◌, ℕ, Bool, inl, inr, List, [], ◌∷◌, refl, sym, subst}
 use Rattle.std.proofs.lemmas.Option.{same_Some}
+use Rattle.z_types.specs.Chains.{GoesThrough, last_of}
 use Rattle.z_types.specs.declared.sitting.Sitting as sitting
 use Rattle.z_types.specs.declared.world.World as world
 use Rattle.route_config.specs.declared.route.Route.{Route}
@@ -16,7 +17,7 @@ use Rattle.sharing_rules.specs.Uses.{Use}
 use Rattle.leg_shares.specs.steps.Laws.{IsShared}
 use Rattle.leg_shares.specs.steps.Pools.{IsPoolOf, MayUse}
 use Rattle.leg_shares.specs.steps.Sharing.{IsKeptBehind, Shares}
-use Rattle.leg_shares.specs.steps.Through.{GoesThrough, OthersGoOn, Point, TakesTurn, at_first, last_of}
+use Rattle.leg_shares.specs.steps.Through.{GoesOn, OthersGoOn, Point, TakesTurn, at_first}
 use Rattle.leg_shares.proofs.OtherLemmas.{shares-on}
 use Rattle.leg_shares.proofs.TurnLemmas.{turn-shares}
 
@@ -54,7 +55,7 @@ module _ {W S : Type 0} (w : world.Ghosts W) (t : sitting.Ghosts S W) (exact : B
   one-on old new (inl turn) at = turn-on old new turn at
   one-on old new (inr go) at = others-on old new go at
 
-  goes-through : (point : Point S) (points : List (Point S)) → GoesThrough w t exact route place task now point points → SharesAt point
+  goes-through : (point : Point S) (points : List (Point S)) → GoesThrough (GoesOn w t exact route place task now) point points → SharesAt point
       → SharesAt (last_of point points)
   goes-through point [] goes at = at
   goes-through point (new ∷ points) goes at = goes-through new points goes.1 (one-on point new goes.0 at)
@@ -80,7 +81,7 @@ module _ {W S : Type 0} (w : world.Ghosts W) (t : sitting.Ghosts S W) (exact : B
   done-shared Ended account pool done of is = absurd done
 
   pub leg-shares : (pool : Pool S) (points : List (Point S)) → IsPoolOf route pool → IsKeptBehind w route class now before pool
-      → GoesThrough w t exact route place task now (at_first pool) points → IsDone (last_of (at_first pool) points).phase
+      → GoesThrough (GoesOn w t exact route place task now) (at_first pool) points → IsDone (last_of (at_first pool) points).phase
       → IsShared w t route class now before task (last_of (at_first pool) points)
   leg-shares pool points of kept goes done =
       let at = goes-through (at_first pool) points goes (record { of = of; shares = record { stands = kept; dials = refl; searches = refl } }) in

@@ -9,7 +9,7 @@ use Rattle.script.specs.declared.event.Event.TheVariants.{Feed, End, Run}
 use Rattle.script.specs.Events.{fed, is_named, is_of, most_clients, named, named_upto, octets_of}
 use Rattle.sample_maker.specs.Load.{client_events, letter_of, load_events, octets_for}
 use Rattle.replay.specs.Trace.{closing}
-use Rattle.replay_shares.specs.Orderly.{AreTurns, IsTurn, Turn, are_run, closed, is_calm}
+use Rattle.replay_shares.specs.Orderly.{AreClientRuns, IsClientRun, ClientRun, are_run, closed, is_calm}
 use Rattle.replay_shares.specs.Works.{Ask}
 use Rattle.load_shares.specs.Runs.{load_runs, run_of, runs_of, works_for}
 use Rattle.load_shares.proofs.ListLemmas.{all-range, all-turned, differ, range-more}
@@ -153,7 +153,7 @@ AskFor w = (letter : ℕ) → Ask w smallest_route (octets_for letter) (works_fo
 
 module _ {W : Type 0} (w : world.Ghosts W) (asks : AskFor w) where
   -- a client is run that was fed all its octets
-  is-run : (client : ℕ) (octets : List ℕ) → octets ≡ octets_for (letter_of client) → IsTurn w smallest_route client 0 octets (run_of w client)
+  is-run : (client : ℕ) (octets : List ℕ) → octets ≡ octets_for (letter_of client) → IsClientRun w smallest_route client 0 octets (run_of w client)
   is-run client octets e = record {
     same_client = refl;
     same_moment = refl;
@@ -161,12 +161,12 @@ module _ {W : Type 0} (w : world.Ghosts W) (asks : AskFor w) where
   }
 
   -- each client behind what it is fed
-  are-runs : (first many : ℕ) (before behind : List Event) (turns : List Turn)
+  are-runs : (first many : ℕ) (before behind : List Event) (runs : List ClientRun)
       → ((client : ℕ) → first ≤ client → fed before client ≡ [])
-      → AreTurns w smallest_route (before ++ events_of (range_with_len first many)) 0 behind turns
-      → AreTurns w smallest_route before 0 (events_of (range_with_len first many) ++ behind) (runs_of w (range_with_len first many) ++ turns)
-  are-runs first zero before behind turns none h = subst (λ (b : List Event). AreTurns w smallest_route b 0 behind turns) (append-nil before) h
-  are-runs first (suc many) before behind turns none h =
+      → AreClientRuns w smallest_route (before ++ events_of (range_with_len first many)) 0 behind runs
+      → AreClientRuns w smallest_route before 0 (events_of (range_with_len first many) ++ behind) (runs_of w (range_with_len first many) ++ runs)
+  are-runs first zero before behind runs none h = subst (λ (b : List Event). AreClientRuns w smallest_route b 0 behind runs) (append-nil before) h
+  are-runs first (suc many) before behind runs none h =
       let feed = Feed first (octets_for (letter_of first)) in
       let own : fed (before ++ feed ∷ []) first ≡ octets_for (letter_of first) =
       fed-both first before (feed ∷ []) ∙ ap (λ (o : List ℕ). o ++ fed (feed ∷ []) first) (none first (omega arith))
@@ -182,8 +182,8 @@ module _ {W : Type 0} (w : world.Ghosts W) (asks : AskFor w) where
       sym (append_assoc before (client_events first) (events_of (range_with_len (first + 1) many)))
       ∙ ap (λ (b : List Event). b ++ events_of (range_with_len (first + 1) many)) (sym both) in (
         is-run first (fed (before ++ feed ∷ []) first) own,
-        are-runs (first + 1) many ((before ++ feed ∷ []) ++ Run first ∷ []) behind turns still
-            (subst (λ (b : List Event). AreTurns w smallest_route b 0 behind turns) all h),
+        are-runs (first + 1) many ((before ++ feed ∷ []) ++ Run first ∷ []) behind runs still
+            (subst (λ (b : List Event). AreClientRuns w smallest_route b 0 behind runs) all h),
       )
 
   -- a client was fed all its octets before
@@ -192,7 +192,7 @@ module _ {W : Type 0} (w : world.Ghosts W) (asks : AskFor w) where
 
   -- clients that were fed before are closed
   are-closed : (clients : List ℕ) (before : List Event) → AllByRecursion (WasFed before) clients
-      → AreTurns w smallest_route before 0 (flat_map closing clients) (runs_of w clients)
+      → AreClientRuns w smallest_route before 0 (flat_map closing clients) (runs_of w clients)
   are-closed [] before h = refl
   are-closed (client ∷ clients) before h =
       let ended = before ++ End client ∷ [] in
@@ -202,11 +202,11 @@ module _ {W : Type 0} (w : world.Ghosts W) (asks : AskFor w) where
         are-closed clients (ended ++ Run client ∷ []) (all-turned (WasFed before) (WasFed (ended ++ Run client ∷ [])) clients (λ other fed-so. still other ∙ fed-so) h.1),
       )
 
-  pub load-runs : (clients : ℕ) → clients ≤ most_clients → AreTurns w smallest_route [] 0 (closed (load_events clients)) (load_runs w clients)
+  pub load-runs : (clients : ℕ) → clients ≤ most_clients → AreClientRuns w smallest_route [] 0 (closed (load_events clients)) (load_runs w clients)
   unfolding load_events
   load-runs clients few =
       let numbers = range_with_len 1 clients in
       let each = all-range (WasFed (events_of numbers)) 1 clients (λ client low high. fed-own 1 clients client low high) in
-      subst (λ (own : List ℕ). AreTurns w smallest_route [] 0 (events_of numbers ++ flat_map closing own) (load_runs w clients))
+      subst (λ (own : List ℕ). AreClientRuns w smallest_route [] 0 (events_of numbers ++ flat_map closing own) (load_runs w clients))
       (sym (named-load clients few))
       (are-runs 1 clients [] (flat_map closing numbers) (runs_of w numbers) (λ client low. refl) (are-closed numbers (events_of numbers) each))

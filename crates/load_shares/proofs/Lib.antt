@@ -3,7 +3,7 @@ pub mod EventLemmas
 pub mod UnitLemmas
 pub mod WorkLemmas
 pub mod KeyLemmas
-pub mod TurnLemmas
+pub mod RunLemmas
 pub mod UseLemmas
 pub mod NeedLemmas
 pub mod OrderlyLoads

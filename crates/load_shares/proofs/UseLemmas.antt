@@ -22,7 +22,7 @@ use Rattle.gateway_rules.specs.Given.{present_reply}
 use Rattle.gateway_rules.specs.Outcomes.{found, legs_asked}
 use Rattle.gateway_rules.specs.Settling.{sets_after, why_failed}
 use Rattle.gateway_rules.specs.Targets.{all_or_first, hidden}
-use Rattle.conn_works.specs.Works.{work_in, work_of}
+use Rattle.front_conn_works.specs.Works.{work_in, work_of}
 use Rattle.sharing_rules.specs.Uses.{Use, key_if, key_of, legs_used, query_of, use_at, uses_by, uses_of}
 use Rattle.replay_shares.specs.Orderly.{dated}
 use Rattle.replay_shares.proofs.CountLemmas.{all-both}

@@ -22,11 +22,11 @@ use Rattle.gateway_rules.specs.Outcomes.{outcome_of}
 use Rattle.gateway_rules.specs.Session.{answered}
 use Rattle.gateway_rules.specs.Settling.{client_at_once, sets_after, why_failed}
 use Rattle.gateway_rules.specs.State.{ClientState, new_client}
-use Rattle.conn_works.specs.Works.{work_in, work_of}
+use Rattle.front_conn_works.specs.Works.{work_in, work_of}
 use Rattle.sample_maker.specs.Load.{letter_of}
 use Rattle.sample_maker.specs.Requests.{init_request, search_request, xml}
 use Rattle.sharing_rules.specs.Uses.{DatedWork, query_of}
-use Rattle.replay_shares.specs.Orderly.{IsApart, Turn, asked_before, classes_at, dated, dated_after, dated_works, legs_in, works_added}
+use Rattle.replay_shares.specs.Orderly.{IsApart, ClientRun, asked_before, classes_at, dated, dated_after, dated_works, legs_in, works_added}
 use Rattle.replay_shares.proofs.CountLemmas.{all-both}
 use Rattle.load_shares.specs.Costs.{query_for}
 use Rattle.load_shares.specs.Runs.{load_runs, run_of, runs_of, works_for}
@@ -117,8 +117,8 @@ run-works w client =
     (λ asked h. ((client - 1) % 5, mod-lt (client - 1) (omega arith), h)) (all-of w (letter_of client))
 
 -- all that a run asks is such
-abbrev RunsLoad : Turn → Type 0
-RunsLoad turn = AllByRecursion IsLoadWork turn.asked
+abbrev RunsLoad : ClientRun → Type 0
+RunsLoad run = AllByRecursion IsLoadWork run.asked
 
 each-run : {W : Type 0} (w : world.Ghosts W) (clients : List ℕ) → AllByRecursion RunsLoad (runs_of w clients)
 each-run w [] = tt
@@ -128,13 +128,13 @@ each-run w (client ∷ clients) = (run-works w client, each-run w clients)
 abbrev pub IsLoadDone : DatedWork → Type 0
 IsLoadDone done = IsLoadWork done.work
 
-each-dated : (before turns : List Turn) → AllByRecursion RunsLoad turns → AllByRecursion IsLoadDone (dated_after before turns)
+each-dated : (before runs : List ClientRun) → AllByRecursion RunsLoad runs → AllByRecursion IsLoadDone (dated_after before runs)
 each-dated before [] h = tt
-each-dated before (turn ∷ turns) h =
-    let added = works_added before turn in
-    let new = all-dropped IsLoadWork (length (asked_before turn.client before)) turn.asked h.0 in
-    all-both IsLoadDone (map (dated turn.at) added) (dated_after (turn ∷ before) turns)
-    (all-mapped IsLoadDone (dated turn.at) added new) (each-dated (turn ∷ before) turns h.1)
+each-dated before (run ∷ runs) h =
+    let added = works_added before run in
+    let new = all-dropped IsLoadWork (length (asked_before run.client before)) run.asked h.0 in
+    all-both IsLoadDone (map (dated run.at) added) (dated_after (run ∷ before) runs)
+    (all-mapped IsLoadDone (dated run.at) added new) (each-dated (run ∷ before) runs h.1)
 
 pub load-works : {W : Type 0} (w : world.Ghosts W) (clients : ℕ) → AllByRecursion IsLoadDone (dated_works (load_runs w clients))
 load-works w clients =

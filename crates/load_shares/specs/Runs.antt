@@ -14,7 +14,7 @@ use Rattle.gateway_rules.specs.Session.{run}
 use Rattle.gateway_rules.specs.State.{at_the_start, new_client}
 use Rattle.sample_maker.specs.Load.{letter_of}
 use Rattle.sample_maker.specs.Requests.{requests_for}
-use Rattle.replay_shares.specs.Orderly.{Turn}
+use Rattle.replay_shares.specs.Orderly.{ClientRun}
 use Rattle.replay_shares.specs.Works.{works_of_units}
 
 -- a request in its written form, that is read as itself
@@ -30,15 +30,15 @@ abbrev pub works_for : {W : Type 0} → world.Ghosts W → (letter : ℕ) → Li
 works_for w letter = works_of_units w smallest_route (units_for letter)
 
 -- a run of a client, at moment 0, as no load has a tick
-abbrev pub run_of : {W : Type 0} → world.Ghosts W → (client : ℕ) → Turn
+abbrev pub run_of : {W : Type 0} → world.Ghosts W → (client : ℕ) → ClientRun
 run_of w client = record { client = client; at = 0; asked = works_for w (letter_of client) }
 
 -- one run of each of these clients
-abbrev pub runs_of : {W : Type 0} → world.Ghosts W → (clients : List ℕ) → List Turn
+abbrev pub runs_of : {W : Type 0} → world.Ghosts W → (clients : List ℕ) → List ClientRun
 runs_of w clients = map (run_of w) clients
 
 -- the runs of a load: each client is run behind what it is fed, and again when all are closed
-abbrev pub load_runs : {W : Type 0} → world.Ghosts W → (clients : ℕ) → List Turn
+abbrev pub load_runs : {W : Type 0} → world.Ghosts W → (clients : ℕ) → List ClientRun
 load_runs w clients = runs_of w (range_with_len 1 clients) ++ runs_of w (range_with_len 1 clients)
 
 -- no mark, for each of a client's four requests

@@ -16,9 +16,9 @@ ghost use Rattle.package_rules.specs.steps.Spans.{IsSpanOf};
 ghost use Rattle.package.specs.steps.Kinds.{IsSearch};
 ghost use Rattle.package.specs.steps.Packages.{AreDone, answers_of, asked_of, begun};
 
-use crate::outcomes::element_shown;
 use crate::records::Wanted;
 use crate::said::{all_hits, first_mark};
+use crate::shown::element_shown;
 use gw_outside::TargetAnswer;
 use leg::{Job, Leg, LegAsk};
 use multi_merge::total;

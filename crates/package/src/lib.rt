@@ -17,6 +17,7 @@ mod package;
 mod records;
 mod rounds;
 mod said;
+mod shown;
 mod supplies;
 mod turning;
 

@@ -1,6 +1,6 @@
-//! What comes of a work.
+//! What comes of a work where the targets are asked directly: the yardstick.
 
-ghost use Rattle.std.specs.Prelude.{◌≡◌, ◌+◌, ◌<◌, ◌≤◌, length, IfOk, if◌then◌else◌, nat_le};
+ghost use Rattle.std.specs.Prelude.{◌≡◌, ◌+◌, ◌<◌, ◌≤◌, length, IfOk};
 ghost use Rattle.std.specs.Option.{option_copied};
 ghost use Rattle.z_types.specs.Bounds.{most_legs};
 ghost use Rattle.z_types.specs.MergedOrder as merged_order;
@@ -13,6 +13,7 @@ ghost use Rattle.package.specs.steps.Kinds.{IsSearch, IsFetch};
 
 use crate::hits::hits_of;
 use crate::records::{Wanted, records_from};
+use crate::shown::element_shown;
 use gw_outside::{TargetAnswer, Targets};
 use multi_merge::total;
 use route_config::Route;
@@ -118,23 +119,6 @@ fn present<T: Targets>(
     };
     let fetched = fetch(alloc, route, targets, wanted, hits, *first, *count)?;
     Ok(Outcome::Fetched(fetched))
-}
-
-/// The element set name of what a Search of `all` hits shows (ANSI/NISO Z39.50-2003, 3.2.2).
-pub(crate) fn element_shown<'a>(
-    all: u32,
-    small: u32,
-    small_element: &'a Option<Text>,
-    medium_element: &'a Option<Text>,
-) -> Option<&'a Text>
-    ensures { option_copied result ≡
-        (if nat_le all small then small_element.now else medium_element.now) }
-{
-    if all <= small {
-        small_element.as_ref()
-    } else {
-        medium_element.as_ref()
-    }
 }
 
 /// The first records of a result set, as a Search shows them: none, or the diagnostic where they are

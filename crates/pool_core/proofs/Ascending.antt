@@ -5,8 +5,8 @@ use Rattle.std.proofs.lemmas.Bool.{eqb-true}
 use Rattle.z_types.specs.declared.address.Address.{Address}
 use Rattle.pool_sets.specs.declared.pooled.Parts.{Parts}
 use Rattle.pool_sets.specs.declared.sessions.Stand.{Stand}
+use Rattle.pool_sets.specs.Plain.{Ascends}
 use Rattle.pool_sets.specs.Sessions.{Session, stands_at}
-use Rattle.pool_core.specs.PoolView.{Ascends}
 
 lower : (a b c : ℕ) → a ≤ b → b < c → a < c
 lower a b c p q = omega arith

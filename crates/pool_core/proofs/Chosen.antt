@@ -17,11 +17,11 @@ use Rattle.pool_sets.specs.Table.{Entry, Table, set_of, same_key, after_find, mo
 use Rattle.pool_sets.specs.Entries.{slot_and_hits}
 use Rattle.pool_sets.specs.Sessions.{Session, Idler, is_among, same_address, address_of, in_class, idle_parts, idler, idle_in, idle_with, first_some, stands_at}
 use Rattle.z_types.specs.Pending.{resting}
-use Rattle.pool_sets.specs.Plain.{Pool, with_sessions, one_idle, any_idle}
+use Rattle.pool_sets.specs.Plain.{Pool, with_sessions, one_idle, any_idle, Ascends}
 use Rattle.pool_sets.specs.Kept.{TableKept}
 use Rattle.pool_sets.specs.Doors.{IsReady, HasSet}
 use Rattle.pool_sets.proofs.TableLemmas.{find_passes}
-use Rattle.pool_core.specs.PoolView.{Ascends, Rests, StandRests}
+use Rattle.pool_core.specs.PoolView.{Rests, StandRests}
 use Rattle.pool_core.proofs.First.{IsFirst}
 use Rattle.pool_core.proofs.Ascending.{stood, stands_set}
 

@@ -8,8 +8,8 @@ use Rattle.z_types.specs.declared.sitting.Sitting as sitting
 use Rattle.pool_sets.specs.declared.sessions.Stand.TheVariants.{Out}
 use Rattle.pool_sets.specs.declared.doors.Taken.TheVariants.{Dial}
 use Rattle.pool_sets.specs.Sessions.{Session, open_of, member_for}
-use Rattle.pool_sets.specs.Plain.{Pool, address_at, open_one}
-use Rattle.pool_core.specs.PoolView.{IsPool, Rests, Ascends}
+use Rattle.pool_sets.specs.Plain.{Ascends, Pool, address_at, open_one}
+use Rattle.pool_core.specs.PoolView.{IsPool, Rests}
 use Rattle.pool_core.proofs.Ascending.{ascends_push}
 
 -- all pass

@@ -13,8 +13,8 @@ use Rattle.pool_sets.specs.declared.pooled.Parts.{Parts}
 use Rattle.pool_sets.specs.declared.sessions.Stand.TheVariants.{Idle, Out}
 use Rattle.pool_sets.specs.declared.doors.Seat.{Seat}
 use Rattle.pool_sets.specs.Sessions.{Session, is_out, member_for}
-use Rattle.pool_sets.specs.Plain.{Pool, address_at, without_seat, redial_member, redial, with_sessions, lost, put, is_seat}
-use Rattle.pool_core.specs.PoolView.{PoolView, IsPool, Rests, Ascends}
+use Rattle.pool_sets.specs.Plain.{Pool, address_at, without_seat, redial_member, redial, with_sessions, lost, put, is_seat, Ascends}
+use Rattle.pool_core.specs.PoolView.{PoolView, IsPool, Rests}
 use Rattle.pool_core.proofs.Ascending.{none_below, below_tail, stood, one_changes, ascends_put}
 
 longer : (k n m : ℕ) → k < n → n ≤ m → k < m

@@ -1,5 +1,5 @@
 -- For contracts alone: a pool of one thread (this project's own)
-use Rattle.std.specs.Prelude.{◌≡◌, ℕ, ◌<◌, ◌≤◌, ◌^◌, List, [], ◌∷◌, length, All, Bool, true, false, is_some, Option, position}
+use Rattle.std.specs.Prelude.{◌≡◌, ℕ, ◌<◌, ◌≤◌, ◌^◌, List, [], length, All, Bool, true, false, is_some, Option, position}
 use Rattle.z_types.specs.declared.address.Address.{Address}
 use Rattle.z_types.specs.declared.sitting.Sitting as sitting
 use Rattle.pool_sets.specs.Sessions.{Session, idle_in, idle_with}
@@ -14,7 +14,7 @@ use Rattle.z_types.specs.Counts.{one_more}
 use Rattle.pool_sets.specs.Counts.{DoorCounts}
 use Rattle.z_types.specs.Pending.{resting}
 use Rattle.route_config.specs.declared.route.PoolNumbers.{PoolNumbers}
-use Rattle.pool_sets.specs.Plain.{Pool, redial}
+use Rattle.pool_sets.specs.Plain.{Ascends, Pool, redial}
 
 -- the pool and its counts
 pub record PoolView (S : Type 0) : Type 0 where
@@ -75,11 +75,6 @@ StandRests t (Out address) = Unit {0}
 
 abbrev pub Rests : {W S : Type 0} → sitting.Ghosts S W → Session S → Type 0
 Rests t o = StandRests t o.stand
-
--- the numbers ascend, from above m to n at most
-abbrev pub Ascends : {S : Type 0} → ℕ → ℕ → List (Session S) → Type 0
-Ascends m n [] = m ≤ n
-Ascends m n (o ∷ os) = (m < o.number) × Ascends o.number n os
 
 -- what every pool keeps
 pub record IsPool {W S : Type 0} (t : sitting.Ghosts S W) (os : List (Session S)) (given opens : ℕ) : Type 0 where

@@ -1,8 +1,8 @@
 -- A session of a pool
 use Rattle.std.proofs.Common.{◌≡◌, ℕ, ◌<◌, ◌≤◌, Bool, true, false, not, nat_eq, List, [], ◌∷◌, length, refl, arith}
 use Rattle.std.proofs.lemmas.Bool.{eqb-true}
+use Rattle.pool_sets.specs.Plain.{Ascends}
 use Rattle.pool_sets.specs.Sessions.{Session}
-use Rattle.pool_core.specs.PoolView.{Ascends}
 
 none_there : (i : ℕ) → i < 0 → ⊥
 none_there i h = omega arith

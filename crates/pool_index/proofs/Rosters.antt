@@ -12,8 +12,8 @@ use Rattle.pool_sets.specs.declared.sessions.Stand.TheVariants.{Idle, Out}
 use Rattle.pool_sets.specs.declared.doors.Seat.{Seat}
 use Rattle.pool_sets.specs.Table.{Entry}
 use Rattle.pool_sets.specs.Sessions.{Session, idle_with, with_stand}
-use Rattle.pool_sets.specs.Plain.{is_seat, stays_open, with_fresh_sets, fresh_sessions}
-use Rattle.pool_core.specs.PoolView.{Ascends, holder_place, at_member}
+use Rattle.pool_sets.specs.Plain.{is_seat, stays_open, with_fresh_sets, fresh_sessions, Ascends}
+use Rattle.pool_core.specs.PoolView.{holder_place, at_member}
 use Rattle.pool_core.proofs.Ascending.{ascends_filter, ascends_map, ascends_put}
 use Rattle.pool_keys.specs.declared.index.Pair.{Pair}
 use Rattle.pool_keys.specs.Pairs.{Indexed, Holds, Grows, pair}

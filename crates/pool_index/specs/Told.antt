@@ -7,8 +7,7 @@ use Rattle.pool_sets.specs.declared.sessions.Stand.{Stand}
 use Rattle.pool_sets.specs.declared.sessions.Stand.TheVariants.{Idle, Out}
 use Rattle.pool_sets.specs.Table.{Entry}
 use Rattle.pool_sets.specs.Sessions.{Session}
-use Rattle.pool_sets.specs.Plain.{with_fresh_sets}
-use Rattle.pool_core.specs.PoolView.{Ascends}
+use Rattle.pool_sets.specs.Plain.{Ascends, with_fresh_sets}
 use Rattle.pool_keys.specs.declared.index.Pair.{Pair}
 use Rattle.pool_keys.specs.Pairs.{Indexed, Holds, pair}
 use Rattle.pool_index.specs.declared.berth.Berth.{Berth}

@@ -167,7 +167,7 @@ impl<W: World, S: Sitting<W>, D: Digest> IndexedPool<W, S, D> {
         };
         let number = self.given + 1;
         let sets = self.sets_max as usize * 2;
-        let Ok(()) = self.roster.dial(number, class, member, address, sets) else {
+        let Ok(()) = self.roster.add_out(number, class, member, address, sets) else {
             return Taken::Memory;
         };
         self.given = number;

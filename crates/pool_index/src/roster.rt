@@ -5,9 +5,9 @@ ghost use Rattle.std.specs.List.{HoldsAt};
 ghost use Rattle.z_types.specs.Members.{IsMember};
 ghost use Rattle.pool_sets.specs.declared.sessions.Stand.TheVariants.{Idle, Out};
 ghost use Rattle.pool_sets.specs.Sessions.{idle_parts, is_out, with_stand, open_of, member_for};
-ghost use Rattle.pool_sets.specs.Plain.{fresh_sessions, is_seat, without_seat};
+ghost use Rattle.pool_sets.specs.Plain.{Ascends, fresh_sessions, is_seat, without_seat};
 ghost use Rattle.pool_core.specs.Loads.{is_counted};
-ghost use Rattle.pool_core.specs.PoolView.{Ascends, idle_place, holder_place, at_member};
+ghost use Rattle.pool_core.specs.PoolView.{idle_place, holder_place, at_member};
 ghost use Rattle.pool_index.specs.Told.{IsQuiet};
 ghost use Rattle.pool_index.specs.RosterView.{with_told, Changes, roster_of, out_session};
 
@@ -270,7 +270,7 @@ impl<W: World, S: Sitting<W>, D: Digest> Roster<W, S, D> {
     }
 
     /// Adds a session that is out, with room for that many pairs for each session.
-    pub fn dial(
+    pub fn add_out(
         &mut self,
         number: u64,
         class: u32,

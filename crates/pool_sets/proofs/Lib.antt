@@ -4,3 +4,4 @@ pub mod OrderLemmas
 pub mod KeptLemmas
 pub mod RoomLemmas
 pub mod PoolLawLemmas
+pub mod SeatLemmas

@@ -1,5 +1,5 @@
 -- The pool, as a list of its sessions (this project's own)
-use Rattle.std.specs.Prelude.{ℕ, ◌+◌, ◌-◌, ◌^◌, Bool, true, not, ◌&&◌, ◌==◌, nat_lt, nat_le, if◌then◌else◌, List, [], ◌∷◌, ◌++◌, map, filter, find, slice_index_or, Option, None, Some}
+use Rattle.std.specs.Prelude.{◌<◌, ◌≤◌, ℕ, ◌+◌, ◌-◌, ◌^◌, Bool, true, not, ◌&&◌, ◌==◌, nat_lt, nat_le, if◌then◌else◌, List, [], ◌∷◌, ◌++◌, map, filter, find, slice_index_or, Option, None, Some, count_by}
 use Rattle.std.specs.Option.{option_map_or}
 use Rattle.z_types.specs.declared.key.SetKey.{SetKey}
 use Rattle.z_types.specs.declared.address.Address.{Address}
@@ -166,3 +166,14 @@ module _ {S : Type 0} where
 
   abbrev pub redial : Seat → List Address → Pool S → Pool S
   redial seat at p = with_sessions (map (redial_at_seat seat at (redial_member seat at p)) p.sessions) p
+
+-- ---- its sessions by their numbers
+
+-- the numbers ascend, from above m to n at most
+abbrev pub Ascends : {S : Type 0} → ℕ → ℕ → List (Session S) → Type 0
+Ascends m n [] = m ≤ n
+Ascends m n (o ∷ os) = (m < o.number) × Ascends o.number n os
+
+-- how often a seat is out of a pool: once at most, where its numbers ascend
+abbrev pub out_of : {S : Type 0} → Pool S → Seat → ℕ
+out_of pool seat = count_by (is_seat seat) pool.sessions

@@ -9,7 +9,7 @@ use Rattle.pool_sets.specs.declared.doors.Taken.{Taken}
 use Rattle.pool_sets.specs.declared.doors.Taken.TheVariants.{Reuse}
 use Rattle.pool_sets.specs.Table.{set_of, after_expire}
 use Rattle.pool_sets.specs.Sessions.{Session, is_among, idle_in, open_of}
-use Rattle.pool_sets.specs.Plain.{Pool, expire, take_of, put, is_seat}
+use Rattle.pool_sets.specs.Plain.{Pool, expire, take_of, put, is_seat, Ascends, out_of}
 use Rattle.pool_sets.specs.Counts.{is_full}
 
 abbrev pub is_reuse : {S : Type 0} → Taken S → Bool
@@ -38,3 +38,7 @@ abbrev pub FullExactly : Type 0 → Type 0
 FullExactly S =
     (p : Pool S) (class now : ℕ) (at : List Address) (want : Option SetKey) →
     is_full (take_of class at want now p).0 ≡ is_full_for class at (expire now p)
+
+-- a seat is out of a pool once at most, where its numbers ascend
+abbrev pub OutOnce : Type 0 → Type 0
+OutOnce S = (pool : Pool S) (seat : Seat) → Ascends 0 pool.given pool.sessions → out_of pool seat ≤ 1

@@ -1,6 +1,6 @@
 //! Laws of the plain pool.
 
-ghost use Rattle.pool_sets.specs.PoolLaws.{PutIsReused, FullExactly};
+ghost use Rattle.pool_sets.specs.PoolLaws.{PutIsReused, FullExactly, OutOnce};
 
 /// A session that is put back is reused by the next take of its class for a key that it holds. It
 /// does nothing; its contract is the law.
@@ -12,4 +12,10 @@ pub fn put_is_reused<S: Drop>()
 /// It does nothing; its contract is the law.
 pub fn full_exactly<S: Drop>()
     ensures { FullExactly S }
+{}
+
+/// A seat is out of a pool once at most, where the numbers of its sessions ascend. It does nothing; its
+/// contract is the law.
+pub fn out_once<S: Drop>()
+    ensures { OutOnce S }
 {}

@@ -4,7 +4,7 @@ ghost use Rattle.std.specs.Prelude.{◌<◌};
 
 use self::Step::{Entry, Expire, Find, FindElsewhere, Forget, Holds, Max, Room, Search};
 use crate::sessions::key_for;
-use pool_sets::{SetTable, full_exactly, put_is_reused};
+use pool_sets::{SetTable, full_exactly, out_once, put_is_reused};
 use std::alloc::Global;
 use std::test::Fail;
 use z_types::{Memory, SetKey, Text};
@@ -138,4 +138,5 @@ fn each_step_goes_as_it_was_worked_out(rt: HostRuntime) -> Result<(), Fail> {
 fn the_laws_of_plain_pools_hold_of_any_session(_: HostRuntime) {
     put_is_reused::<u32>();
     full_exactly::<u32>();
+    out_once::<u32>();
 }

@@ -18,7 +18,7 @@ use Rattle.replay.specs.Clients.{ClientState, client_at, client_or_new}
 use Rattle.replay.specs.steps.Clients.{AreClientsOf, AreEnded, IsClientOf, IsClosedOf}
 use Rattle.replay.specs.steps.Costs.{AreCosted}
 use Rattle.replay.specs.steps.Laws.{CostLaws, Laws}
-use Rattle.conn_costs.specs.steps.Laws.{IsCosted}
+use Rattle.front_conn_costs.specs.steps.Laws.{IsCosted}
 use Rattle.route_config.specs.Sound.{IsSound}
 use Rattle.replay.specs.steps.Closing.{AreAllClosed, ClosesAt, IsClosedNow}
 use Rattle.replay.proofs.ClientLemmas.{client_at-behind, client_at-other, client_at-set, set_same, set_twice}

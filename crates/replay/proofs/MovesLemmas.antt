@@ -16,7 +16,7 @@ use Rattle.pool_core.specs.PoolView.{PoolView, counts_of, new_pool}
 use Rattle.route_config.specs.Sound.{ArePoolNumbers}
 use Rattle.route_config.specs.declared.route.Class.{Class}
 use Rattle.route_config.specs.declared.route.Route.{Route}
-use Rattle.conn_costs.specs.steps.Growth.{last64}
+use Rattle.front_conn_costs.specs.steps.Growth.{last64}
 use Rattle.pool_sets.specs.Counts.{DoorCounts}
 use Rattle.pool_sets.specs.Plain.{Pool}
 use Rattle.leg.specs.Deeds.{BackendView}

@@ -37,10 +37,10 @@ use Rattle.front_conn.specs.steps.Answering.{Outside, legs_in}
 use Rattle.front_conn.specs.steps.States.{ConnectionState, IsConnOf}
 use Rattle.front_conn.specs.steps.Steps.{IsStepped, StepsFrom}
 use Rattle.z_types.specs.declared.marks.End.{End}
-use Rattle.conn_seats.specs.steps.Seats.{AreHeldOn}
+use Rattle.front_conn_seats.specs.steps.Seats.{AreHeldOn}
 use Rattle.std.specs.Prelude.{IfSome}
-use Rattle.conn_seats.specs.steps.Laws.{TurnsKeepSeats}
-use Rattle.conn_seats.specs.steps.Seats.{AreHeld, AreOutOf, DoesItsTask, IsHeld, held_at, held_in}
+use Rattle.front_conn_seats.specs.steps.Laws.{TurnsKeepSeats}
+use Rattle.front_conn_seats.specs.steps.Seats.{AreHeld, AreOutOf, DoesItsTask, IsHeld, held_at, held_in}
 use Rattle.replay.proofs.AskedLemmas.{first-named, then-named}
 use Rattle.replay.proofs.FullLemmas.{IsToldFull, turn_full}
 use Rattle.replay.proofs.RoomLemmas.{AtMost, held-outs, legs-most, most-both, most-less, most-upto, outs, own-most, take-out}

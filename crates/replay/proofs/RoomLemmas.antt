@@ -7,9 +7,8 @@ use Rattle.std.proofs.lemmas.Bool.{ltb-false}
 use Rattle.std.proofs.lemmas.List.Sums.{sum_by-append, sum_by-cons}
 use Rattle.z_types.specs.declared.address.Address.{Address}
 use Rattle.z_types.specs.declared.key.SetKey.{SetKey}
-use Rattle.pool_core.specs.PoolView.{Ascends}
 use Rattle.pool_sets.specs.Counts.{is_full}
-use Rattle.pool_sets.specs.Plain.{Pool, any_idle, choice, dial_for, expire, has_number, is_seat, one_idle, stays_open, take_of, with_fresh_sets, without_old_sets}
+use Rattle.pool_sets.specs.Plain.{Ascends, Pool, any_idle, choice, dial_for, expire, has_number, is_seat, one_idle, out_of, stays_open, take_of, with_fresh_sets, without_old_sets}
 use Rattle.pool_sets.specs.Sessions.{Idler, Session, first_some, idle_in, idle_with, idler, in_class, is_out, member_for, open_of}
 use Rattle.pool_sets.specs.Table.{Entry}
 use Rattle.pool_sets.specs.declared.doors.Seat.{Seat}
@@ -20,7 +19,7 @@ use Rattle.pool_sets.specs.declared.sessions.Stand.{Stand}
 use Rattle.pool_sets.specs.declared.sessions.Stand.TheVariants.{Idle, Out}
 use Rattle.leg.specs.LegView.{LegView}
 use Rattle.leg.specs.Phases.{seat_of}
-use Rattle.conn_seats.specs.steps.Seats.{AreOut, held_at, held_in, no_seat, out_of}
+use Rattle.front_conn_seats.specs.steps.Seats.{AreOut, held_at, held_in, no_seat}
 
 -- ---- a pool that is full
 

@@ -11,12 +11,12 @@ use Rattle.route_config.specs.declared.route.Route.{Route}
 use Rattle.front_conn.specs.steps.Answering.{Outside}
 use Rattle.front_conn.specs.steps.Feeding.{with_end}
 use Rattle.front_conn.specs.steps.States.{ConnectionState, IsConnOf}
-use Rattle.conn_costs.specs.steps.Conns.{PaysFor, counted_on, dues_on, met_on, outside_counts, outside_meets}
-use Rattle.conn_costs.specs.steps.Growth.{RisesAsMuch, RisesEnough}
-use Rattle.conn_costs.specs.steps.Laws.{IsCosted}
-use Rattle.conn_costs.specs.steps.Ledgers.{Cost, IsRaised}
-use Rattle.conn_costs.specs.steps.Numbers.{Caused, Number, in_counts, met_outside}
-use Rattle.conn_costs.proofs.GrowthLemmas.{as-both, as-place, enough-both, enough-place}
+use Rattle.front_conn_costs.specs.steps.Conns.{PaysFor, counted_on, dues_on, met_on, outside_counts, outside_meets}
+use Rattle.front_conn_costs.specs.steps.Growth.{RisesAsMuch, RisesEnough}
+use Rattle.front_conn_costs.specs.steps.Laws.{IsCosted}
+use Rattle.front_conn_costs.specs.steps.Ledgers.{Cost, IsRaised}
+use Rattle.front_conn_costs.specs.steps.Numbers.{Caused, Number, in_counts, met_outside}
+use Rattle.front_conn_costs.proofs.GrowthLemmas.{as-both, as-place, enough-both, enough-place}
 use Rattle.gw_outside.specs.Counts.{Counts}
 use Rattle.pool_sets.specs.Counts.{DoorCounts}
 use Rattle.leg.specs.Deeds.{BackendView}

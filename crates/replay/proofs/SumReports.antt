@@ -11,14 +11,14 @@ use Rattle.route_config.specs.declared.route.Route.{Route}
 use Rattle.front_conn.specs.declared.totals.Total.{Total}
 use Rattle.package.specs.steps.Packages.{PackageView}
 use Rattle.front_conn.specs.steps.Answering.{Outside, legs_in}
-use Rattle.conn_costs.specs.steps.Ledgers.{dues_in}
+use Rattle.front_conn_costs.specs.steps.Ledgers.{dues_in}
 use Rattle.front_conn.specs.steps.Totals.{totals_for}
-use Rattle.conn_costs.specs.steps.Conns.{AreTotalsOf, in_total, marks_of, met_on, outside_counts, outside_meets}
-use Rattle.conn_costs.specs.steps.Growth.{RisesAsMuch, RisesEnough}
-use Rattle.conn_costs.specs.steps.Laws.{MarksAreMet, SumsAtRest}
-use Rattle.conn_costs.specs.steps.Numbers.{Caused, Number, dials, faults, gones, searches, weight}
-use Rattle.conn_costs.proofs.GrowthLemmas.{as-same, enough-less}
-use Rattle.conn_costs.proofs.TotalLemmas.{place-added}
+use Rattle.front_conn_costs.specs.steps.Conns.{AreTotalsOf, in_total, marks_of, met_on, outside_counts, outside_meets}
+use Rattle.front_conn_costs.specs.steps.Growth.{RisesAsMuch, RisesEnough}
+use Rattle.front_conn_costs.specs.steps.Laws.{MarksAreMet, SumsAtRest}
+use Rattle.front_conn_costs.specs.steps.Numbers.{Caused, Number, dials, faults, gones, searches, weight}
+use Rattle.front_conn_costs.proofs.GrowthLemmas.{as-same, enough-less}
+use Rattle.front_conn_costs.proofs.TotalLemmas.{place-added}
 use Rattle.replay.specs.declared.reports.ClassReport.{ClassReport}
 use Rattle.replay.specs.declared.reports.ClientReport.{ClientReport}
 use Rattle.replay.specs.declared.reports.Report.{Report}

@@ -14,9 +14,8 @@ use Rattle.z_types.specs.declared.world.World as world
 use Rattle.gateway_rules.proofs.Runs.{all-append}
 use Rattle.route_config.specs.Sound.{IsSound}
 use Rattle.route_config.specs.declared.route.Route.{Route}
-use Rattle.pool_core.specs.PoolView.{Ascends}
 use Rattle.pool_sets.specs.Counts.{DoorCounts}
-use Rattle.pool_sets.specs.Plain.{Pool, is_seat}
+use Rattle.pool_sets.specs.Plain.{Ascends, Pool, is_seat, out_of}
 use Rattle.pool_sets.specs.Sessions.{Session}
 use Rattle.pool_sets.specs.declared.doors.Seat.{Seat}
 use Rattle.leg.specs.LegView.{LegView}
@@ -25,10 +24,10 @@ use Rattle.package.specs.steps.Packages.{IsPackageOf, PackageView}
 use Rattle.front_conn.specs.steps.Answering.{Outside, legs_in}
 use Rattle.front_conn.specs.steps.Feeding.{fed_piece}
 use Rattle.front_conn.specs.steps.States.{ConnectionState, IsConnOf}
-use Rattle.conn_costs.specs.steps.Conns.{RestsIfEnded}
-use Rattle.conn_costs.specs.steps.Laws.{StepsCost}
-use Rattle.conn_seats.specs.steps.Laws.{StepsKeepSeats, TurnsKeepSeats}
-use Rattle.conn_seats.specs.steps.Seats.{AreHeldOn, AreOutOf, DoesItsTask, held_in, no_seat, out_of}
+use Rattle.front_conn_costs.specs.steps.Conns.{RestsIfEnded}
+use Rattle.front_conn_costs.specs.steps.Laws.{StepsCost}
+use Rattle.front_conn_seats.specs.steps.Laws.{StepsKeepSeats, TurnsKeepSeats}
+use Rattle.front_conn_seats.specs.steps.Seats.{AreHeldOn, AreOutOf, DoesItsTask, held_in, no_seat}
 use Rattle.script.specs.declared.event.Event.{Event}
 use Rattle.script.specs.declared.event.Event.TheVariants.{Feed, End, Step, Run, Tick, Gone, Cut, Slow}
 use Rattle.script.specs.Events.{IsClient, IsEvent, client_of, is_named, most_clients, seconds_of}

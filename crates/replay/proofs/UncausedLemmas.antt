@@ -7,9 +7,9 @@ use Rattle.z_types.specs.declared.marks.Mark.TheVariants as mark
 use Rattle.gateway_rules.specs.OneAnswer.{AreMarksPlain}
 use Rattle.route_config.specs.Sound.{ArePoolNumbers}
 use Rattle.route_config.specs.declared.route.PoolNumbers.{PoolNumbers}
-use Rattle.conn_costs.specs.steps.Conns.{marks_of, outside_meets}
-use Rattle.conn_costs.specs.steps.Growth.{RisesEnough, last64}
-use Rattle.conn_costs.specs.steps.Numbers.{Caused, full, gone, is_of, link, silent, weight}
+use Rattle.front_conn_costs.specs.steps.Conns.{marks_of, outside_meets}
+use Rattle.front_conn_costs.specs.steps.Growth.{RisesEnough, last64}
+use Rattle.front_conn_costs.specs.steps.Numbers.{Caused, full, gone, is_of, link, silent, weight}
 use Rattle.replay.specs.Counts.{met_for}
 use Rattle.replay.specs.Uncaused.{AreAllPlain, UncausedIsPlain}
 use Rattle.replay.specs.declared.reports.ClientReport.{ClientReport}

@@ -26,12 +26,12 @@ use Rattle.leg.specs.declared.answers.Turned.TheVariants as turned
 use Rattle.package.specs.steps.Packages.{PackageView}
 use Rattle.package.specs.steps.Turns.{IsPackageTurn}
 use Rattle.front_conn.specs.steps.Answering.{Outside}
-use Rattle.conn_costs.specs.steps.Conns.{marks_of}
-use Rattle.conn_costs.specs.steps.Growth.{RisesAsMuch, last64}
-use Rattle.conn_costs.specs.steps.Numbers.{Caused, dials, faults, full, gone, gones, link, silent, weight}
-use Rattle.conn_quiet.specs.steps.Laws.{PackagesGoWell}
-use Rattle.conn_quiet.specs.steps.Quiet.{IsCalm, IsWellLeg, WentWell}
-use Rattle.conn_quiet.specs.steps.Whole.{IsWholePool, IsWholeSession}
+use Rattle.front_conn_costs.specs.steps.Conns.{marks_of}
+use Rattle.front_conn_costs.specs.steps.Growth.{RisesAsMuch, last64}
+use Rattle.front_conn_costs.specs.steps.Numbers.{Caused, dials, faults, full, gone, gones, link, silent, weight}
+use Rattle.package_quiet.specs.steps.Laws.{PackagesGoWell}
+use Rattle.package_quiet.specs.steps.Quiet.{IsCalm, IsWellLeg, WentWell}
+use Rattle.package_quiet.specs.steps.Whole.{IsWholePool, IsWholeSession}
 use Rattle.pool_sets.specs.Sessions.{Session}
 use Rattle.script.specs.declared.event.Event.{Event}
 use Rattle.script.specs.declared.event.Event.TheVariants.{Feed, End, Step, Run, Tick, Gone, Cut, Slow}

@@ -3,9 +3,9 @@ use Rattle.std.specs.Prelude.{ℕ, ◌+◌, ◌*◌, ◌≤◌, Bool, List}
 use Rattle.std.specs.List.{sum_by}
 use Rattle.route_config.specs.declared.route.PoolNumbers.{PoolNumbers}
 use Rattle.front_conn.specs.steps.Answering.{Outside}
-use Rattle.conn_costs.specs.steps.Conns.{marks_of, outside_counts, outside_meets}
-use Rattle.conn_costs.specs.steps.Growth.{RisesAsMuch, RisesEnough}
-use Rattle.conn_costs.specs.steps.Numbers.{Caused, IsTold, Number, dials, faults, gones, searches, weight}
+use Rattle.front_conn_costs.specs.steps.Conns.{marks_of, outside_counts, outside_meets}
+use Rattle.front_conn_costs.specs.steps.Growth.{RisesAsMuch, RisesEnough}
+use Rattle.front_conn_costs.specs.steps.Numbers.{Caused, IsTold, Number, dials, faults, gones, searches, weight}
 use Rattle.replay.specs.declared.reports.ClassReport.{ClassReport}
 use Rattle.replay.specs.declared.reports.ClientReport.{ClientReport}
 use Rattle.replay.specs.declared.reports.Report.{Report}

@@ -5,9 +5,9 @@ use Rattle.gateway_rules.specs.OneAnswer.{AreMarksPlain}
 use Rattle.route_config.specs.Sound.{ArePoolNumbers}
 use Rattle.route_config.specs.declared.route.PoolNumbers.{PoolNumbers}
 use Rattle.front_conn.specs.steps.Answering.{Outside}
-use Rattle.conn_costs.specs.steps.Conns.{outside_meets}
-use Rattle.conn_costs.specs.steps.Growth.{last64}
-use Rattle.conn_costs.specs.steps.Numbers.{Caused}
+use Rattle.front_conn_costs.specs.steps.Conns.{outside_meets}
+use Rattle.front_conn_costs.specs.steps.Growth.{last64}
+use Rattle.front_conn_costs.specs.steps.Numbers.{Caused}
 use Rattle.replay.specs.Counts.{HaveCauses}
 use Rattle.replay.specs.declared.reports.ClientReport.{ClientReport}
 use Rattle.replay.specs.declared.reports.Report.{Report}

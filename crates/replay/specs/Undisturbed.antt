@@ -10,7 +10,7 @@ use Rattle.gw_outside.specs.Happened.{Happened, AreQuiet}
 use Rattle.route_config.specs.declared.route.Route.{Route}
 use Rattle.script.specs.declared.event.Event.{Event}
 use Rattle.script.specs.declared.event.Event.TheVariants.{Gone, Cut, Slow}
-use Rattle.conn_costs.specs.steps.Numbers.{dials, faults, gones}
+use Rattle.front_conn_costs.specs.steps.Numbers.{dials, faults, gones}
 use Rattle.replay.specs.Counts.{in_classes}
 use Rattle.replay.specs.Places.{most_at_once}
 use Rattle.replay.specs.Uncaused.{AreAllPlain}

@@ -7,8 +7,8 @@ use Rattle.gw_outside.specs.Counts.{Counts}
 use Rattle.route_config.specs.declared.route.Class.{Class}
 use Rattle.route_config.specs.declared.route.PoolNumbers.{PoolNumbers}
 use Rattle.route_config.specs.declared.route.Route.{Route}
-use Rattle.conn_costs.specs.steps.Growth.{last64}
-use Rattle.conn_costs.specs.steps.Numbers.{dials, faults, full, gone, gones, link, searches, silent}
+use Rattle.front_conn_costs.specs.steps.Growth.{last64}
+use Rattle.front_conn_costs.specs.steps.Numbers.{dials, faults, full, gone, gones, link, searches, silent}
 use Rattle.replay.specs.Counts.{in_classes, met_for}
 use Rattle.replay.specs.Marks.{AreMarksOf}
 use Rattle.replay.specs.declared.reports.Report.{Report}

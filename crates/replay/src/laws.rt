@@ -4,15 +4,15 @@ ghost use Rattle.replay.specs.Twice.{IsReadTwice};
 ghost use Rattle.replay.specs.Uncaused.{UncausedIsPlain};
 ghost use Rattle.replay.specs.steps.Laws.{CostLaws, Laws, RunLaws};
 
-use conn_costs::{
-    costs_nothing, costs_on, marks_are_met, starts_costless, stays_costed, steps_cost, sums_at_rest,
-};
-use conn_quiet::packages_go_well;
-use conn_seats::{steps_keep_seats, turns_keep_seats};
 use front_conn::{
     ends_answered, stands_at_start, stands_when_ended, stands_when_fed, stands_when_written,
     stays_of_route,
 };
+use front_conn_costs::{
+    costs_nothing, costs_on, marks_are_met, starts_costless, stays_costed, steps_cost, sums_at_rest,
+};
+use front_conn_seats::{steps_keep_seats, turns_keep_seats};
+use package_quiet::packages_go_well;
 use sru_rules::one_answer;
 use z_types::{Sitting, World};
 

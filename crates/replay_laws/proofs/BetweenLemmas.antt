@@ -8,7 +8,7 @@ use Rattle.route_config.specs.declared.route.Route.{Route}
 use Rattle.front_conn.specs.steps.Answering.{Outside}
 use Rattle.front_conn.specs.steps.Feeding.{with_end, with_piece}
 use Rattle.front_conn.specs.steps.States.{ConnectionState}
-use Rattle.conn_costs.specs.steps.Conns.{RestsIfEnded}
+use Rattle.front_conn_costs.specs.steps.Conns.{RestsIfEnded}
 use Rattle.script.specs.declared.event.Event.{Event}
 use Rattle.script.specs.declared.event.Event.TheVariants.{Feed, End, Step, Run, Tick, Gone, Cut, Slow}
 use Rattle.script.specs.Events.{seconds_of}

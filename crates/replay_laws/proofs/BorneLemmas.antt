@@ -25,8 +25,8 @@ use Rattle.front_conn.specs.steps.Steps.{StepsFrom, answering_of}
 use Rattle.script.specs.declared.event.Event.{Event}
 use Rattle.script.specs.declared.event.Event.TheVariants.{Feed, End, Step, Run, Tick, Gone, Cut, Slow}
 use Rattle.script.specs.Events.{client_of, named, seconds_of}
-use Rattle.conn_quiet.specs.steps.Bearing.{AreBearable, AreCutOnceMade, AreNoWorse, DialsGoOn, HasBorne, IsBearable, IsBorneBy, LegBears, NoneIsCut}
-use Rattle.conn_quiet.specs.steps.Laws.{BearingStays, PackagesBear, PackagesDialOn}
+use Rattle.package_quiet.specs.steps.Bearing.{AreBearable, AreCutOnceMade, AreNoWorse, DialsGoOn, HasBorne, IsBearable, IsBorneBy, LegBears, NoneIsCut}
+use Rattle.package_quiet.specs.steps.Laws.{BearingStays, PackagesBear, PackagesDialOn}
 use Rattle.replay.specs.Clients.{AreNone, ClientState, client_at, client_or_new}
 use Rattle.replay.specs.Trace.{ArePlayed, AreSteps, BefallsIf, HasRun, IsBefallen, IsClientStep, IsRunOf, PlaysFor, PlaysOf, Playing, Point, closing, closings, moment_behind, test_number}
 use Rattle.replay.specs.Undisturbed.{IsPlainOrFull}

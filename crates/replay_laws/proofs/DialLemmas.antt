@@ -14,8 +14,8 @@ use Rattle.front_conn.specs.steps.Steps.{StepsFrom}
 use Rattle.script.specs.declared.event.Event.{Event}
 use Rattle.script.specs.declared.event.Event.TheVariants.{Feed, End, Step, Run, Tick, Gone, Cut, Slow}
 use Rattle.script.specs.Events.{client_of, seconds_of}
-use Rattle.conn_quiet.specs.steps.Bearing.{DialsGoOn}
-use Rattle.conn_quiet.specs.steps.Laws.{PackagesDialOn}
+use Rattle.package_quiet.specs.steps.Bearing.{DialsGoOn}
+use Rattle.package_quiet.specs.steps.Laws.{PackagesDialOn}
 use Rattle.replay.specs.Clients.{ClientState, client_at, client_or_new}
 use Rattle.replay.specs.Trace.{ArePlayed, AreSteps, BefallsIf, HasRun, IsBefallen, IsClientStep, PlaysFor, PlaysOf, Playing, Point, test_number}
 

@@ -11,9 +11,9 @@ use Rattle.gw_outside.specs.Counts.{Counts}
 use Rattle.gateway_rules.specs.OneAnswer.{AreMarksPlain}
 use Rattle.route_config.specs.declared.route.PoolNumbers.{PoolNumbers}
 use Rattle.route_config.specs.declared.route.Route.{Route}
-use Rattle.conn_costs.specs.steps.Conns.{marks_of}
-use Rattle.conn_costs.specs.steps.Growth.{last64}
-use Rattle.conn_costs.specs.steps.Numbers.{Caused, dials, faults, full, gone, gones, is_of, link, silent, weight}
+use Rattle.front_conn_costs.specs.steps.Conns.{marks_of}
+use Rattle.front_conn_costs.specs.steps.Growth.{last64}
+use Rattle.front_conn_costs.specs.steps.Numbers.{Caused, dials, faults, full, gone, gones, is_of, link, silent, weight}
 use Rattle.replay.specs.Counts.{in_classes, met_for}
 use Rattle.replay.specs.Uncaused.{AreAllPlain}
 use Rattle.replay.specs.Wires.{IsCountedBy, RoseAtLeast, RoseBy}

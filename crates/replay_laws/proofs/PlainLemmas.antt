@@ -7,8 +7,8 @@ use Rattle.z_types.specs.declared.marks.Mark.TheVariants as mark
 use Rattle.gateway_rules.specs.OneAnswer.{AreMarksPlain}
 use Rattle.route_config.specs.declared.route.PoolNumbers.{PoolNumbers}
 use Rattle.front_conn.specs.steps.Answering.{Outside}
-use Rattle.conn_costs.specs.steps.Conns.{marks_of}
-use Rattle.conn_costs.specs.steps.Numbers.{full, weight}
+use Rattle.front_conn_costs.specs.steps.Conns.{marks_of}
+use Rattle.front_conn_costs.specs.steps.Numbers.{full, weight}
 use Rattle.replay.specs.Counts.{HaveCauses, met_for}
 use Rattle.replay.specs.Uncaused.{AreAllPlain}
 use Rattle.replay.specs.Undisturbed.{IsPlainOrFull}

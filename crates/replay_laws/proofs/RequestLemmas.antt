@@ -25,7 +25,7 @@ use Rattle.package_rules.specs.declared.answered.Answered.{Answered}
 use Rattle.package_rules.specs.Said.{cause_of}
 use Rattle.package.specs.steps.Ends.{cause_in}
 use Rattle.package.specs.steps.Packages.{IsPackageOf, PackageView, accounts_of, all_accounts, answers_of}
-use Rattle.conn_quiet.specs.steps.Bearing.{HasBorne}
+use Rattle.package_quiet.specs.steps.Bearing.{HasBorne}
 use Rattle.replay.specs.Undisturbed.{IsPlainOrFull}
 use Rattle.replay_laws.specs.Requests.{CausesNoMark}
 

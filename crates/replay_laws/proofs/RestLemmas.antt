@@ -20,7 +20,7 @@ use Rattle.front_conn.specs.steps.Answering.{AnsweringState, EndsAt, IsEndAfter,
 use Rattle.front_conn.specs.steps.Feeding.{fed_piece, with_piece}
 use Rattle.front_conn.specs.steps.States.{ConnectionState}
 use Rattle.front_conn.specs.steps.Steps.{EndsByRest, GoesAhead, IsStepped, StepsFrom, TakesHead, TakesUnit, answering_of}
-use Rattle.conn_costs.specs.steps.Conns.{RestsIfEnded}
+use Rattle.front_conn_costs.specs.steps.Conns.{RestsIfEnded}
 use Rattle.replay.specs.Clients.{is_idle}
 
 -- what has no end has not ended

@@ -18,8 +18,8 @@ use Rattle.z_client.specs.declared.own.Own.{Own}
 use Rattle.leg.specs.Deeds.{BackendView}
 use Rattle.front_conn.specs.steps.Answering.{Outside}
 use Rattle.script.specs.declared.event.Event.{Event}
-use Rattle.conn_quiet.specs.steps.Bearing.{AreBearable, AreCutOnceMade, DialsGoOn, FaresAt, IsBearable, IsBorneBy}
-use Rattle.conn_quiet.specs.steps.Whole.{AreIdle, IsIdleSession}
+use Rattle.package_quiet.specs.steps.Bearing.{AreBearable, AreCutOnceMade, DialsGoOn, FaresAt, IsBearable, IsBorneBy}
+use Rattle.package_quiet.specs.steps.Whole.{AreIdle, IsIdleSession}
 use Rattle.replay.specs.Counts.{HaveCauses}
 use Rattle.replay.specs.Places.{most_at_once}
 use Rattle.replay.specs.Trace.{IsRunOf}

@@ -14,8 +14,8 @@ use Rattle.script.specs.declared.event.Event.{Event}
 use Rattle.script.specs.declared.event.Event.TheVariants.{Cut, Gone, Slow}
 use Rattle.z_client.specs.Counts.{counts_over}
 use Rattle.z_client.specs.declared.own.Own.{Own}
-use Rattle.conn_costs.specs.steps.Growth.{last64}
-use Rattle.conn_quiet.specs.steps.Bearing.{DialsGoOn, IsBorneBy}
+use Rattle.front_conn_costs.specs.steps.Growth.{last64}
+use Rattle.package_quiet.specs.steps.Bearing.{DialsGoOn, IsBorneBy}
 use Rattle.replay.specs.Counts.{HaveCauses}
 use Rattle.replay.specs.Places.{most_at_once}
 use Rattle.replay.specs.Trace.{IsRunOf}

@@ -17,7 +17,7 @@ use Rattle.sharing_rules.specs.Needed.{count_after}
 use Rattle.sharing_rules.specs.Orderly.{keys_used}
 use Rattle.sharing_rules.specs.Uses.{DatedWork, Use, key_if, legs_used, query_of, use_at, uses_by, uses_of}
 use Rattle.sharing_rules.specs.steps.Shared.{AreInOrder}
-use Rattle.conn_shares.specs.steps.Requests.{behind}
+use Rattle.package_shares.specs.steps.Requests.{behind}
 use Rattle.replay_shares.specs.Orderly.{IsApart, dated}
 use Rattle.replay_shares.specs.steps.Resting.{MayDo}
 

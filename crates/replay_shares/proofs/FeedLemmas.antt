@@ -13,11 +13,11 @@ use Rattle.gateway_rules.specs.OneAnswer.{AreMarksPlain}
 use Rattle.front_conn.specs.steps.Feeding.{fed_piece, with_end, with_piece}
 use Rattle.front_conn.specs.steps.States.{ConnectionState, MayCome}
 use Rattle.front_conn.specs.steps.Totals.{totals_for}
-use Rattle.conn_costs.specs.steps.Conns.{AreTotalsOf}
-use Rattle.conn_costs.proofs.TotalLemmas.{none-made}
-use Rattle.conn_works.specs.steps.Begun.{HasBegun}
-use Rattle.conn_works.specs.steps.Laws.{StaysSoBegun}
-use Rattle.conn_works.proofs.BegunLemmas.{going-of, none-begun}
+use Rattle.front_conn_costs.specs.steps.Conns.{AreTotalsOf}
+use Rattle.front_conn_costs.proofs.TotalLemmas.{none-made}
+use Rattle.front_conn_works.specs.steps.Begun.{HasBegun}
+use Rattle.front_conn_works.specs.steps.Laws.{StaysSoBegun}
+use Rattle.front_conn_works.proofs.BegunLemmas.{going-of, none-begun}
 use Rattle.replay.specs.Clients.{ClientState, new_client}
 use Rattle.replay.specs.Trace.{with_no_more, with_octets}
 use Rattle.replay_shares.specs.Works.{AskByHead}

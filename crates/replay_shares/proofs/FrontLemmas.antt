@@ -25,10 +25,10 @@ use Rattle.gateway_rules.specs.Session.{IsServed, answered, run}
 use Rattle.gateway_rules.specs.State.{ClientState, Progress, at_the_start, new_client}
 use Rattle.gateway_rules.proofs.Composition.{course-append}
 use Rattle.gateway_rules.proofs.OneEnding.{extent-filled, frame-filled, is_course-one, received-one}
-use Rattle.conn_works.specs.Works.{work_of, works_of}
-use Rattle.conn_works.specs.steps.Begun.{AreWorksBefore, AreWorksIn}
-use Rattle.conn_works.specs.steps.Laws.{MarksDecide}
-use Rattle.conn_works.proofs.BegunLemmas.{begun-of}
+use Rattle.front_conn_works.specs.Works.{work_of, works_of}
+use Rattle.front_conn_works.specs.steps.Begun.{AreWorksBefore, AreWorksIn}
+use Rattle.front_conn_works.specs.steps.Laws.{MarksDecide}
+use Rattle.front_conn_works.proofs.BegunLemmas.{begun-of}
 use Rattle.replay_shares.specs.Works.{Ask, AskAs, AskByUnits, works_in, works_of_units}
 
 -- ---- a course under marks that are all Plain

@@ -54,7 +54,7 @@ use Rattle.front_conn.specs.steps.Steps.{AreUnfinished, EndsAtRest, EndsByRest, 
 use Rattle.front_conn.specs.steps.Totals.{no_total, totals_for}
 use Rattle.sharing_rules.specs.Uses.{Use}
 use Rattle.sharing_rules.specs.steps.Shared.{AreInOrder}
-use Rattle.conn_costs.specs.steps.Conns.{AreTotalsOf}
+use Rattle.front_conn_costs.specs.steps.Conns.{AreTotalsOf}
 use Rattle.replay_shares.specs.Orderly.{dated}
 use Rattle.replay_shares.specs.Works.{AskByHead, works_of_next}
 use Rattle.replay_shares.specs.steps.Laws.{GetLaws}

@@ -14,7 +14,7 @@ use Rattle.package_rules.specs.Planned.{AreThere, legs_named}
 use Rattle.sharing_rules.specs.Orderly.{keys_used}
 use Rattle.sharing_rules.specs.Uses.{Use, uses_by}
 use Rattle.sharing_rules.specs.steps.Shared.{AreInOrder}
-use Rattle.conn_shares.specs.steps.Requests.{MayWork, behind}
+use Rattle.package_shares.specs.steps.Requests.{MayWork, behind}
 use Rattle.replay_shares.specs.Orderly.{classes_at, dated, legs_in}
 use Rattle.replay_shares.specs.steps.Resting.{MayDo}
 

@@ -10,7 +10,7 @@ use Rattle.route_config.specs.declared.route.Route.{Route}
 use Rattle.pool_sets.specs.Plain.{Pool}
 use Rattle.front_conn.specs.steps.Answering.{Outside}
 use Rattle.sharing_rules.specs.steps.Shared.{pool_of}
-use Rattle.conn_quiet.specs.steps.Whole.{IsWholePool}
+use Rattle.package_quiet.specs.steps.Whole.{IsWholePool}
 use Rattle.script.specs.Events.{AreEvents}
 use Rattle.script.specs.declared.event.Event.{Event}
 use Rattle.replay.specs.Trace.{IsRunOf}

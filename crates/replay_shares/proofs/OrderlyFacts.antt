@@ -16,7 +16,7 @@ use Rattle.sharing_rules.specs.Needed.{dials_needed, needed}
 use Rattle.sharing_rules.specs.Uses.{uses_of}
 use Rattle.sru_rules.specs.Run.{searches}
 use Rattle.replay.specs.Trace.{closing}
-use Rattle.replay_shares.specs.Orderly.{Turn, are_run, dated_works, is_calm, works_added}
+use Rattle.replay_shares.specs.Orderly.{ClientRun, are_run, dated_works, is_calm, works_added}
 use Rattle.replay_shares.specs.Works.{works_of_due, works_of_units}
 
 -- ---- events
@@ -96,25 +96,25 @@ abbrev asked_by : List Request → List Work
 asked_by requests = works_of_units tests smallest_route (map (λ one. record { octets = []; request = Some one }) requests)
 
 -- a client has sent these requests up to its run at a moment
-abbrev turn : (client at : ℕ) → List Request → Turn
-turn client at requests = record { client = client; at = at; asked = asked_by requests }
+abbrev run : (client at : ℕ) → List Request → ClientRun
+run client at requests = record { client = client; at = at; asked = asked_by requests }
 
 -- the searches and the dials that runs need
-abbrev costs : List Turn → ℕ × ℕ
-costs turns =
-    (needed tests smallest_route 0 (uses_of smallest_route (dated_works turns)), dials_needed smallest_route 0 (uses_of smallest_route (dated_works turns)))
+abbrev costs : List ClientRun → ℕ × ℕ
+costs runs =
+    (needed tests smallest_route 0 (uses_of smallest_route (dated_works runs)), dials_needed smallest_route 0 (uses_of smallest_route (dated_works runs)))
 
 -- a run that adds nothing asks nothing
-again : works_added (turn 1 0 (init ∷ search_a ∷ []) ∷ []) (turn 1 9 (init ∷ search_a ∷ [])) ≡ []
+again : works_added (run 1 0 (init ∷ search_a ∷ []) ∷ []) (run 1 9 (init ∷ search_a ∷ [])) ≡ []
 again = refl
 
 -- two clients that ask the same share a search; one client that is run twice asks it once
-shared : costs (turn 1 0 (init ∷ search_a ∷ []) ∷ turn 2 0 (init ∷ search_a ∷ []) ∷ turn 1 60 (init ∷ search_a ∷ []) ∷ []) ≡ (1, 1)
+shared : costs (run 1 0 (init ∷ search_a ∷ []) ∷ run 2 0 (init ∷ search_a ∷ []) ∷ run 1 60 (init ∷ search_a ∷ []) ∷ []) ≡ (1, 1)
 shared = refl
 
 -- a set is fetched from a second before it is too old, and is searched for again when it is; a session is dialled again when that is
-abbrev fetched_after : ℕ → List Turn
-fetched_after seconds = turn 1 0 (init ∷ search_a ∷ []) ∷ turn 1 seconds (init ∷ search_a ∷ present 1 ∷ []) ∷ []
+abbrev fetched_after : ℕ → List ClientRun
+fetched_after seconds = run 1 0 (init ∷ search_a ∷ []) ∷ run 1 seconds (init ∷ search_a ∷ present 1 ∷ []) ∷ []
 
 young_set : costs (fetched_after 59) ≡ (1, 1)
 young_set = refl
@@ -129,22 +129,22 @@ old_session : costs (fetched_after 300) ≡ (2, 2)
 old_session = refl
 
 -- another client's use in between keeps the set
-abbrev three_runs : List Turn
-three_runs = turn 1 0 (init ∷ search_a ∷ []) ∷ turn 2 59 (init ∷ search_a ∷ []) ∷ turn 1 118 (init ∷ search_a ∷ present 1 ∷ []) ∷ []
+abbrev three_runs : List ClientRun
+three_runs = run 1 0 (init ∷ search_a ∷ []) ∷ run 2 59 (init ∷ search_a ∷ []) ∷ run 1 118 (init ∷ search_a ∷ present 1 ∷ []) ∷ []
 
 kept_in_use : costs three_runs ≡ (1, 1)
 kept_in_use = refl
 
 -- a Search that a check refuses, and what stands behind a Close, ask nothing; nor does a Present of no record
-not_asked : costs (turn 1 0 (init ∷ search (codes "1") (codes "Nope") (by 4 97) ∷ close ∷ search_a ∷ []) ∷ []) ≡ (0, 0)
+not_asked : costs (run 1 0 (init ∷ search (codes "1") (codes "Nope") (by 4 97) ∷ close ∷ search_a ∷ []) ∷ []) ≡ (0, 0)
 not_asked = refl
 
-no_record : costs (turn 1 0 (init ∷ search_a ∷ []) ∷ turn 1 60 (init ∷ search_a ∷ present 0 ∷ []) ∷ []) ≡ (1, 1)
+no_record : costs (run 1 0 (init ∷ search_a ∷ []) ∷ run 1 60 (init ∷ search_a ∷ present 0 ∷ []) ∷ []) ≡ (1, 1)
 no_record = refl
 
 -- a target that refuses a search is asked each time
-abbrev refused : ℕ → Turn
-refused client = turn client 0 (init ∷ search (codes "1") (codes "Default") (by 5 97) ∷ [])
+abbrev refused : ℕ → ClientRun
+refused client = run client 0 (init ∷ search (codes "1") (codes "Default") (by 5 97) ∷ [])
 
 refused_twice : costs (refused 1 ∷ refused 2 ∷ []) ≡ (2, 1)
 refused_twice = refl
@@ -152,7 +152,7 @@ refused_twice = refl
 -- ---- GETs
 
 -- a GET from one record on, of so many at most
-abbrev get : (client at start maximum : ℕ) → Turn
+abbrev get : (client at start maximum : ℕ) → ClientRun
 get client at start maximum = record {
   client = client;
   at = at;
@@ -167,5 +167,5 @@ get client at start maximum = record {
 of_get : costs (get 1 0 1 10 ∷ []) ≡ (1, 1)
 of_get = refl
 
-with_units : costs (turn 1 0 (init ∷ search_a ∷ []) ∷ get 2 59 1 1 ∷ get 3 118 1 1 ∷ get 4 178 1 1 ∷ []) ≡ (2, 1)
+with_units : costs (run 1 0 (init ∷ search_a ∷ []) ∷ get 2 59 1 1 ∷ get 3 118 1 1 ∷ get 4 178 1 1 ∷ []) ≡ (2, 1)
 with_units = refl

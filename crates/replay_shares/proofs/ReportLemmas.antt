@@ -11,8 +11,8 @@ use Rattle.gateway_rules.specs.OneAnswer.{AreMarksPlain}
 use Rattle.route_config.specs.declared.route.Class.{Class}
 use Rattle.route_config.specs.declared.route.Route.{Route}
 use Rattle.front_conn.specs.declared.totals.Total.{Total}
-use Rattle.conn_costs.specs.steps.Conns.{in_total}
-use Rattle.conn_costs.specs.steps.Numbers.{Number, dials, faults, gones, searches}
+use Rattle.front_conn_costs.specs.steps.Conns.{in_total}
+use Rattle.front_conn_costs.specs.steps.Numbers.{Number, dials, faults, gones, searches}
 use Rattle.replay.specs.Classes.{costless, costs_after, costs_of, costs_with, nameless, with_total}
 use Rattle.replay.specs.Clients.{ClientState, client_at, client_or_new}
 use Rattle.replay.specs.Counts.{in_class}

@@ -9,9 +9,9 @@ use Rattle.route_config.specs.declared.route.Route.{Route}
 use Rattle.leg.specs.declared.accounts.Account.{Account}
 use Rattle.front_conn.specs.declared.totals.Total.{Total}
 use Rattle.front_conn.specs.steps.Totals.{no_total, totals_after, totals_with, with_account}
-use Rattle.conn_costs.specs.steps.Conns.{AreTotalsOf, in_total}
-use Rattle.conn_costs.specs.steps.Numbers.{Number, dials, faults, gones, in_account, searches}
-use Rattle.conn_costs.proofs.TotalLemmas.{after-classes, all-classes, place-added}
+use Rattle.front_conn_costs.specs.steps.Conns.{AreTotalsOf, in_total}
+use Rattle.front_conn_costs.specs.steps.Numbers.{Number, dials, faults, gones, in_account, searches}
+use Rattle.front_conn_costs.proofs.TotalLemmas.{after-classes, all-classes, place-added}
 use Rattle.replay_shares.specs.steps.Costs.{cost_in, cost_on}
 
 added : (number : Number) (account : Account) (total : Total)

@@ -25,10 +25,10 @@ use Rattle.front_conn.specs.steps.Answering.{Outside}
 use Rattle.front_conn.specs.steps.Totals.{totals_after}
 use Rattle.sharing_rules.specs.Needed.{count_after}
 use Rattle.sharing_rules.specs.Uses.{Use, uses_by, uses_of}
-use Rattle.conn_costs.specs.steps.Numbers.{Number, dials, faults, gones, searches}
-use Rattle.conn_costs.proofs.TotalLemmas.{after-classes, made-classes}
-use Rattle.conn_shares.specs.steps.Requests.{AreTurns, HasShared, IsTurnTo, MayWork, RequestsShare, behind, uses_at}
-use Rattle.conn_shares.specs.steps.Together.{AreAllKept, AreUndisturbed}
+use Rattle.front_conn_costs.specs.steps.Numbers.{Number, dials, faults, gones, searches}
+use Rattle.front_conn_costs.proofs.TotalLemmas.{after-classes, made-classes}
+use Rattle.package_shares.specs.steps.Requests.{AreTurns, HasShared, IsTurnTo, MayWork, RequestsShare, behind, uses_at}
+use Rattle.package_shares.specs.steps.Together.{AreAllKept, AreUndisturbed}
 use Rattle.replay_shares.specs.Orderly.{dated}
 use Rattle.replay_shares.specs.steps.Costs.{is_needed}
 use Rattle.replay_shares.specs.steps.Going.{IsInWork, RestsBehind, uses_now}

@@ -33,8 +33,8 @@ use Rattle.front_conn.specs.steps.Steps.{AreUnfinished, BeginsWithLetter, GoesAh
 use Rattle.sharing_rules.specs.Needed.{count_after}
 use Rattle.sharing_rules.specs.Uses.{Use, uses_of}
 use Rattle.sharing_rules.specs.steps.Shared.{AreInOrder}
-use Rattle.conn_works.specs.steps.Begun.{AreWorksIn, HasBegun}
-use Rattle.conn_works.proofs.BegunLemmas.{going-of}
+use Rattle.front_conn_works.specs.steps.Begun.{AreWorksIn, HasBegun}
+use Rattle.front_conn_works.proofs.BegunLemmas.{going-of}
 use Rattle.replay.specs.Clients.{ClientState, is_idle}
 use Rattle.replay.specs.Trace.{AreSteps, HasRun, IsClientStep, Point}
 use Rattle.replay_shares.specs.Works.{Ask, AskByUnits}

@@ -38,9 +38,9 @@ use Rattle.front_conn.specs.steps.Steps.{AreUnfinished, EndsByRest, GoesAhead, H
 use Rattle.front_conn.specs.steps.Totals.{totals_for}
 use Rattle.sharing_rules.specs.Uses.{DatedWork, Use}
 use Rattle.sharing_rules.specs.steps.Shared.{AreInOrder}
-use Rattle.conn_shares.specs.steps.Requests.{MayWork, behind}
-use Rattle.conn_works.specs.steps.Begun.{HasBegun, begun_by}
-use Rattle.conn_works.proofs.BegunLemmas.{going-of}
+use Rattle.package_shares.specs.steps.Requests.{MayWork, behind}
+use Rattle.front_conn_works.specs.steps.Begun.{HasBegun, begun_by}
+use Rattle.front_conn_works.proofs.BegunLemmas.{going-of}
 use Rattle.replay.specs.Clients.{ClientState, is_idle}
 use Rattle.replay.specs.Trace.{IsClientStep}
 use Rattle.replay_shares.specs.Orderly.{dated}

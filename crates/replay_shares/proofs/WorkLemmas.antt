@@ -43,10 +43,10 @@ use Rattle.front_conn.specs.steps.Totals.{no_total, totals_for}
 use Rattle.sharing_rules.specs.Needed.{count_after}
 use Rattle.sharing_rules.specs.Uses.{DatedWork, Use, uses_of}
 use Rattle.sharing_rules.specs.steps.Shared.{AreInOrder}
-use Rattle.conn_costs.specs.steps.Conns.{AreTotalsOf, in_total}
-use Rattle.conn_costs.specs.steps.Numbers.{Number, dials, faults, gones, searches}
-use Rattle.conn_costs.proofs.TotalLemmas.{after-classes, made-classes}
-use Rattle.conn_shares.specs.steps.Requests.{MayWork, RequestsShare, behind}
+use Rattle.front_conn_costs.specs.steps.Conns.{AreTotalsOf, in_total}
+use Rattle.front_conn_costs.specs.steps.Numbers.{Number, dials, faults, gones, searches}
+use Rattle.front_conn_costs.proofs.TotalLemmas.{after-classes, made-classes}
+use Rattle.package_shares.specs.steps.Requests.{MayWork, RequestsShare, behind}
 use Rattle.replay_shares.specs.Orderly.{dated}
 use Rattle.replay_shares.specs.steps.Costs.{cost_in, cost_on, is_needed}
 use Rattle.replay_shares.specs.steps.Going.{IsInWork, RestsBehind, uses_now}

@@ -47,48 +47,48 @@ closed events = events ++ closings events
 -- ---- runs
 
 -- a run, by its client and its moment, and all works that the client has asked up to it
-pub record Turn : Type 0 where
+pub record ClientRun : Type 0 where
   pub client : ℕ
   pub at : ℕ
   pub asked : List Work
 
 -- a run of a client to whom these octets were fed so far
-pub record IsTurn {W : Type 0} (w : world.Ghosts W) (route : Route) (client at : ℕ) (octets : List ℕ) (turn : Turn) : Type 0 where
-  pub same_client : turn.client ≡ client
-  pub same_moment : turn.at ≡ at
-  pub asks : Ask w route octets turn.asked
+pub record IsClientRun {W : Type 0} (w : world.Ghosts W) (route : Route) (client at : ℕ) (octets : List ℕ) (run : ClientRun) : Type 0 where
+  pub same_client : run.client ≡ client
+  pub same_moment : run.at ≡ at
+  pub asks : Ask w route octets run.asked
 
 -- the runs of events from a moment on, behind other events
-abbrev pub AreTurns : {W : Type 0} → world.Ghosts W → Route → (before : List Event) → (at : ℕ) → List Event → List Turn → Type 0
-AreTurns w route before at [] turns = turns ≡ []
-AreTurns w route before at (Run client ∷ events) [] = ⊥
-AreTurns w route before at (Run client ∷ events) (turn ∷ turns) =
-    IsTurn w route client at (fed before client) turn × AreTurns w route (before ++ Run client ∷ []) at events turns
-AreTurns w route before at (event ∷ events) turns = AreTurns w route (before ++ event ∷ []) (at + seconds_of event) events turns
+abbrev pub AreClientRuns : {W : Type 0} → world.Ghosts W → Route → (before : List Event) → (at : ℕ) → List Event → List ClientRun → Type 0
+AreClientRuns w route before at [] runs = runs ≡ []
+AreClientRuns w route before at (Run client ∷ events) [] = ⊥
+AreClientRuns w route before at (Run client ∷ events) (run ∷ runs) =
+    IsClientRun w route client at (fed before client) run × AreClientRuns w route (before ++ Run client ∷ []) at events runs
+AreClientRuns w route before at (event ∷ events) runs = AreClientRuns w route (before ++ event ∷ []) (at + seconds_of event) events runs
 
 -- ---- works
 
 -- what a client has asked up to the last of its runs among these, of which the last one comes first
-abbrev pub asked_before : ℕ → (before : List Turn) → List Work
+abbrev pub asked_before : ℕ → (before : List ClientRun) → List Work
 asked_before client [] = []
-asked_before client (turn ∷ before) = if turn.client == client then turn.asked else asked_before client before
+asked_before client (run ∷ before) = if run.client == client then run.asked else asked_before client before
 
 -- what a run asks that was not asked before it
-abbrev pub works_added : (before : List Turn) → Turn → List Work
-works_added before turn = drop (length (asked_before turn.client before)) turn.asked
+abbrev pub works_added : (before : List ClientRun) → ClientRun → List Work
+works_added before run = drop (length (asked_before run.client before)) run.asked
 
 -- a work that is done at a moment
 abbrev pub dated : ℕ → Work → DatedWork
 dated at asked = record { at = at; work = asked }
 
 -- what runs ask, each at its moment, behind runs before them
-abbrev pub dated_after : (before : List Turn) → List Turn → List DatedWork
+abbrev pub dated_after : (before : List ClientRun) → List ClientRun → List DatedWork
 dated_after before [] = []
-dated_after before (turn ∷ turns) = map (dated turn.at) (works_added before turn) ++ dated_after (turn ∷ before) turns
+dated_after before (run ∷ runs) = map (dated run.at) (works_added before run) ++ dated_after (run ∷ before) runs
 
 -- what all runs of a script ask, each at its moment
-abbrev pub dated_works : List Turn → List DatedWork
-dated_works turns = dated_after [] turns
+abbrev pub dated_works : List ClientRun → List DatedWork
+dated_works runs = dated_after [] runs
 
 -- ---- orderly
 
@@ -109,9 +109,9 @@ IsApart route done = IsDistinct nat_eq (classes_at route (legs_in done.work))
 -- Events are orderly, with these runs: they feed clients, end their inputs, run clients and let time pass; no other client and no
 -- tick comes between what is fed and its run; what was fed up to a run ends between units or heads; and works are of legs of
 -- different classes, and use no more keys of a class than a session may hold.
-pub record IsOrderly {W : Type 0} (w : world.Ghosts W) (route : Route) (events : List Event) (turns : List Turn) : Type 0 where
+pub record IsOrderly {W : Type 0} (w : world.Ghosts W) (route : Route) (events : List Event) (runs : List ClientRun) : Type 0 where
   pub calm : list_all is_calm events ≡ true
   pub one_at_a_time : are_run None (closed events) ≡ true
-  pub whole : AreTurns w route [] 0 (closed events) turns
-  pub apart : AllByRecursion (IsApart route) (dated_works turns)
-  pub room : (class : ℕ) → keys_used class (uses_of route (dated_works turns)) ≤ route.pool.sets_max
+  pub whole : AreClientRuns w route [] 0 (closed events) runs
+  pub apart : AllByRecursion (IsApart route) (dated_works runs)
+  pub room : (class : ℕ) → keys_used class (uses_of route (dated_works runs)) ≤ route.pool.sets_max

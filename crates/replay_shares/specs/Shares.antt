@@ -13,7 +13,7 @@ use Rattle.sharing_rules.specs.Needed.{dials_needed, needed}
 use Rattle.sharing_rules.specs.Uses.{Use, uses_of}
 use Rattle.replay.specs.Uncaused.{AreAllPlain}
 use Rattle.replay.specs.declared.reports.Report.{Report}
-use Rattle.replay_shares.specs.Orderly.{IsOrderly, Turn, dated_works}
+use Rattle.replay_shares.specs.Orderly.{IsOrderly, ClientRun, dated_works}
 
 -- the places of the classes
 abbrev pub class_places : Route → List ℕ
@@ -27,13 +27,13 @@ pub record CostsWhatIsNeeded {W : Type 0} (w : world.Ghosts W) (route : Route) (
       map (λ class. class.dials) report.classes ≡ map (λ class. within64 (dials_needed route class uses)) (class_places route)
 
 -- a report of events that are orderly with these runs
-pub record IsOrderlyReport {W : Type 0} (w : world.Ghosts W) (route : Route) (turns : List Turn) (report : Report) : Type 0 where
+pub record IsOrderlyReport {W : Type 0} (w : world.Ghosts W) (route : Route) (runs : List ClientRun) (report : Report) : Type 0 where
   pub plain : AreAllPlain report.clients
-  pub costs : CostsWhatIsNeeded w route (uses_of route (dated_works turns)) report
+  pub costs : CostsWhatIsNeeded w route (uses_of route (dated_works runs)) report
 
 -- of any events: where they are orderly
 abbrev pub SharesIfOrderly : {W : Type 0} → world.Ghosts W → Route → List Event → Report → Type 0
-SharesIfOrderly w route events report = (turns : List Turn) → IsOrderly w route events turns → IsOrderlyReport w route turns report
+SharesIfOrderly w route events report = (runs : List ClientRun) → IsOrderly w route events runs → IsOrderlyReport w route runs report
 
 -- so of events that are played over a wire: where it counts exactly, was quiet and without links before, and the route is fair
 abbrev pub SharesIfOrderlyOver : {W : Type 0} → world.Ghosts W → (exact : Bool) → Route → List Event → Counts → Happened → Report → Type 0

@@ -23,7 +23,7 @@ use Rattle.sru_rules.specs.Run as sru
 use Rattle.sru_rules.specs.Run.{Due, due, next_of}
 use Rattle.sru_rules.specs.Settling as next
 use Rattle.sru_rules.specs.Settling.{Next}
-use Rattle.conn_works.specs.Works.{work_of}
+use Rattle.front_conn_works.specs.Works.{work_of}
 
 -- ---- units
 

@@ -2,12 +2,12 @@
 
 ghost use Rattle.replay_shares.specs.steps.Laws.{RunsOfGetsShare, RunsOfScriptsShare, RunsOfUnitsShare, RunsShare};
 
-use conn_shares::requests_share;
-use conn_works::{begins_none, ended_is_whole, marks_decide, stays_begun, steps_begin};
 use front_conn::{
     stands_at_start, stands_when_ended, stands_when_fed, stands_when_written, stays_of_route,
 };
+use front_conn_works::{begins_none, ended_is_whole, marks_decide, stays_begun, steps_begin};
 use package::package_outcome_is_true;
+use package_shares::requests_share;
 use sru_request::head_stays;
 use sru_rules::one_reading;
 use z_types::{Sitting, World};

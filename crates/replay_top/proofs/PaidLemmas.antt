@@ -11,8 +11,8 @@ use Rattle.route_config.specs.declared.route.Route.{Route}
 use Rattle.z_client.specs.Counts.{counts_over}
 use Rattle.z_client.specs.declared.own.Own.{Own}
 use Rattle.front_conn.specs.steps.Answering.{Outside}
-use Rattle.conn_costs.specs.steps.Growth.{RisesAsMuch, RisesEnough, last64}
-use Rattle.conn_costs.specs.steps.Numbers.{dials, full}
+use Rattle.front_conn_costs.specs.steps.Growth.{RisesAsMuch, RisesEnough, last64}
+use Rattle.front_conn_costs.specs.steps.Numbers.{dials, full}
 use Rattle.script.specs.declared.event.Event.{Event}
 use Rattle.replay.specs.Counts.{AreDialled, AreSums, HaveCauses, in_classes, met_for}
 use Rattle.replay.specs.Trace.{IsRunOf}

@@ -3,8 +3,8 @@ use Rattle.std.specs.Prelude.{◌≡◌, ℕ, ◌+◌, ◌≤◌, ◌<◌, Bool,
 use Rattle.z_types.specs.declared.world.World as world
 use Rattle.gw_outside.specs.Counts.{Counts}
 use Rattle.route_config.specs.declared.route.Route.{Route}
-use Rattle.conn_costs.specs.steps.Growth.{last64}
-use Rattle.conn_costs.specs.steps.Numbers.{dials, full}
+use Rattle.front_conn_costs.specs.steps.Growth.{last64}
+use Rattle.front_conn_costs.specs.steps.Numbers.{dials, full}
 use Rattle.replay.specs.Counts.{in_classes, met_for}
 use Rattle.replay.specs.Wires.{AreTold}
 use Rattle.replay.specs.declared.reports.Report.{Report}

@@ -2,6 +2,7 @@
 use Rattle.std.proofs.Common.{◌≡◌, ◌∙◌, ℕ, ◌≤◌, Bool, false, true, inl, inr, List, [], ◌∷◌, Option, None, Some, IsSome, ap, refl, subst, sym}
 use Rattle.std.specs.Prelude.{option_map}
 use Rattle.z_types.specs.Bounds.{most_legs}
+use Rattle.z_types.specs.Chains.{HasStepped, StepsFrom}
 use Rattle.z_types.specs.declared.marks.End.{End}
 use Rattle.z_types.specs.declared.sitting.Sitting as sitting
 use Rattle.z_types.specs.declared.world.World as world
@@ -18,11 +19,13 @@ use Rattle.front_conn.specs.steps.Drives as drives
 use Rattle.front_conn.specs.steps.Drives.{ConnAt, HasDriven, IsInWork, StepsTo, given_up_at}
 use Rattle.front_conn.specs.steps.States.{ConnectionState}
 use Rattle.front_conn.specs.steps.Steps.{StepsFrom, answering_of}
-use Rattle.conn_costs.specs.steps.Conns.{dues_on}
-use Rattle.conn_costs.specs.steps.Laws.{CostsNothing, PaysOn, StepsMeet, StepsOweFew, StepsPay}
+use Rattle.front_conn_costs.specs.steps.Conns.{dues_on}
+use Rattle.front_conn_costs.specs.steps.Laws.{CostsNothing, PaysOn, StepsMeet, StepsOweFew, StepsPay}
+use Rattle.conn_served.specs.Runs.{GoesOnTo}
 use Rattle.conn_served.specs.steps.Rounds.{GoesSo}
+use Rattle.z_types.proofs.ChainLemmas.{steps-nowhere}
 use Rattle.conn_served.proofs.LeftLemmas.{IsLeftBy, over-left}
-use Rattle.conn_served.proofs.RoundLemmas.{goes-nowhere, so-on, step-so}
+use Rattle.conn_served.proofs.RoundLemmas.{so-on, step-so}
 use Rattle.conn_served.proofs.ServingLemmas.{EndsSo, step-memory, step-went}
 
 -- ---- a step behind which the request is still in work
@@ -79,7 +82,7 @@ module _ {W S : Type 0} (w : world.Ghosts W) (t : sitting.Ghosts S W) (exact : B
     drives-none : (first : ConnAt S) → IsInWork first.conn → DrivesSo first first
     drives-none first works = record {
       so = record {
-        goes = goes-nowhere w t exact route first;
+        goes = steps-nowhere (GoesOnTo w t exact route) first;
         met = λ kind others h. h;
         paid = (nothing exact route first.conn first.outside).paid;
         marks = λ fit. fit;
@@ -96,10 +99,10 @@ module _ {W S : Type 0} (w : world.Ghosts W) (t : sitting.Ghosts S W) (exact : B
           lists = record { marks = same.marks ∙ one.lists.marks; has_ended = same.has_ended ∙ one.lists.has_ended };
         }
 
-    drives-by : (first last : ConnAt S) (earlier : List (ConnAt S)) → IsInWork first.conn → drives.HasGone w t exact route first earlier last
+    drives-by : (first last : ConnAt S) (earlier : List (ConnAt S)) → IsInWork first.conn → HasStepped (drives.GoesOnTo w t exact route) first earlier last
         → DrivesSo first last
     drives-by first last [] works same = subst (λ (p : ConnAt S). DrivesSo first p) (sym same) (drives-none first works)
-    drives-by first last (mid ∷ earlier) works gone = drives-on first mid last (drives-by first mid earlier works gone.0) gone.1
+    drives-by first last (mid ∷ earlier) works stepped = drives-on first mid last (drives-by first mid earlier works stepped.0) stepped.1
 
     module _ (first last : ConnAt S) (answer : Stepped) (works : IsInWork first.conn) (driven : HasDriven w t exact route first last answer) where
       abbrev amid-so : DrivesSo first driven.amid

@@ -11,10 +11,10 @@ ghost use Rattle.front_conn.specs.steps.Drives.{IsInWork, conn_at};
 ghost use Rattle.front_conn.specs.steps.States.{IsConnOf};
 ghost use Rattle.front_conn.specs.steps.Steps.{NothingWaits};
 
-use conn_costs::{costs_nothing, pays_on, steps_cost, steps_meet, steps_owe_few, steps_pay};
 use front_conn::{
     Conn, Stepped, stands_when_ended, stands_when_fed, stands_when_written, stays_of_route,
 };
+use front_conn_costs::{costs_nothing, pays_on, steps_cost, steps_meet, steps_owe_few, steps_pay};
 use gw_outside::{Backend, Clock, Got, Sink, Source, write_all};
 use pool_sets::Door;
 use route_config::Route;

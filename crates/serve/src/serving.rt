@@ -11,10 +11,10 @@ ghost use Rattle.front_conn.specs.steps.Drives.{conn_at, outside_of};
 ghost use Rattle.front_conn.specs.steps.States.{nothing_yet};
 
 use crate::rounds::go_on;
-use conn_costs::{costs_nothing, marks_are_met, pays_on, starts_costless};
-use conn_seats::{connections_give_back, steps_keep_seats};
 use conn_served::{Ascending, Served};
 use front_conn::{Conn, stands_at_start};
+use front_conn_costs::{costs_nothing, marks_are_met, pays_on, starts_costless};
+use front_conn_seats::{connections_give_back, steps_keep_seats};
 use gw_outside::{Backend, Clock, Sink, Source};
 use pool_sets::Door;
 use route_config::Route;

@@ -16,7 +16,7 @@ use Rattle.z_client.specs.contracts.sets.FoundSet as FoundSet
 use Rattle.z_client.specs.contracts.sets.Waiting as Waiting
 use Rattle.z_types.specs.declared.world.World as World
 use Rattle.gw_outside.specs.declared.links.Linked as Linked
-use Rattle.z_client.specs.contracts.session.Parts as Parts
+use Rattle.z_client.specs.contracts.session.LinkParts as LinkParts
 use Rattle.z_client.specs.contracts.session.ZSession as ZSession
 use Rattle.std.specs.contracts.alloc.Global as Global
 use Rattle.std.specs.contracts.vec.Vec as Vec
@@ -38,7 +38,7 @@ waiting_field = search (crossing.crosses, knot.crosses, sendable) depth 60 fits 
 made_send : IsSend (Vec.the_row FoundSet.the_row Global.the_row global.ghosts)
 made_send = search (found_send, crossing.crosses, sendable) depth 60 fits 20000
 
-parts_field : (L : RattleType) → IsSend L → IsSend ((Parts.the_field L).row)
+parts_field : (L : RattleType) → IsSend L → IsSend ((LinkParts.the_field L).row)
 parts_field L b = search (b, scan_field, address_field, made_send, waiting_field, crossing.crosses, knot.crosses, sendable) depth 60 fits 20000
 
 module _ (W L : RattleType) (w : World.Ghosts W.Denot) (l : Linked.Ghosts L.Denot) where

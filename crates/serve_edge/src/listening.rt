@@ -1,7 +1,7 @@
 //! The listener of a port.
 
 use log::{Log, error};
-use serve_top::Asked;
+use serve_top::ServeWords;
 use std::io::Result;
 use std::net::{IpAddr, Net, SocketAddr, TcpListener, TcpStream};
 
@@ -12,7 +12,7 @@ pub(crate) fn listen<R: Net<Listener = TcpListener, Stream = TcpStream> + Eprint
     runtime: &R,
     log: &L,
     address: IpAddr,
-    asked: Asked,
+    asked: ServeWords,
 ) -> Option<TcpListener> {
     let (port, workers) = (asked.port, asked.workers);
     match bind(runtime, address, port) {

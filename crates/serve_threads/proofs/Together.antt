@@ -8,7 +8,7 @@ use Rattle.gw_outside.specs.declared.accepts.Accept as accept
 use Rattle.gw_outside.specs.declared.sinks.Sink as to
 use Rattle.gw_outside.specs.declared.sources.Source as from
 use Rattle.gw_outside.specs.declared.watched.Watched as watched
-use Rattle.conn_costs.specs.steps.Growth.{last64}
+use Rattle.front_conn_costs.specs.steps.Growth.{last64}
 use Rattle.pool_locked.specs.Books.{FullOpens, counted}
 use Rattle.std.proofs.lemmas.List.{append_cancel_left}
 use Rattle.serve.specs.Working.{AreAllMarksOf}

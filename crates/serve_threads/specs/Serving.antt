@@ -10,9 +10,9 @@ use Rattle.gw_outside.specs.declared.accepts.Accept as accept
 use Rattle.gw_outside.specs.declared.sinks.Sink as to
 use Rattle.gw_outside.specs.declared.sources.Source as from
 use Rattle.gw_outside.specs.declared.watched.Watched as watched
-use Rattle.conn_costs.specs.steps.Conns.{marks_of}
-use Rattle.conn_costs.specs.steps.Growth.{RisesEnough, last64}
-use Rattle.conn_costs.specs.steps.Numbers.{full, gone, link, silent}
+use Rattle.front_conn_costs.specs.steps.Conns.{marks_of}
+use Rattle.front_conn_costs.specs.steps.Growth.{RisesEnough, last64}
+use Rattle.front_conn_costs.specs.steps.Numbers.{full, gone, link, silent}
 use Rattle.serve.specs.Working.{AreAllMarksOf, HasWorked, IsNoneLeft, WorkerView, needed_by, undialled_by, worker_view}
 use Rattle.conn_served.specs.declared.served.Served.{Served}
 use Rattle.serve.specs.declared.working.Worked.{Worked}

@@ -7,4 +7,4 @@ mod lines;
 mod words;
 
 pub use crate::calls::top_serve;
-pub use crate::words::{Asked, asked_of};
+pub use crate::words::{ServeWords, asked_of};

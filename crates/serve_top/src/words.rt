@@ -15,7 +15,7 @@ const MOST_WORKERS: u32 = 64;
 
 /// What the words of `serve` ask for beside a configuration.
 #[derive(Clone, Copy, Debug, PartialEq, Eq)]
-pub struct Asked {
+pub struct ServeWords {
     /// The port to listen at, 1 to 65535.
     pub port: u32,
     /// How many workers serve, 1 to 64.
@@ -23,7 +23,7 @@ pub struct Asked {
 }
 
 /// What the words ask for, where they are those of `serve`.
-pub fn asked_of(words: &[Text]) -> Option<Asked>
+pub fn asked_of(words: &[Text]) -> Option<ServeWords>
     ensures asked { result ≡ asked_of words.now }
 {
     match words {
@@ -39,12 +39,12 @@ pub fn asked_of(words: &[Text]) -> Option<Asked>
 }
 
 /// A port and a number of workers.
-fn asked_in(port: &Text, workers: &Text) -> Option<Asked>
+fn asked_in(port: &Text, workers: &Text) -> Option<ServeWords>
     ensures { result ≡ asked_in port.now workers.now }
 {
     let port = number_in(1, MOST_PORT, port.as_slice())?;
     let workers = number_in(1, MOST_WORKERS, workers.as_slice())?;
-    Some(Asked { port, workers })
+    Some(ServeWords { port, workers })
 }
 
 /// The second word.

@@ -21,7 +21,7 @@ use Rattle.z_client.specs.declared.arrivals.Arrival.{Arrival}
 use Rattle.z_client.specs.declared.arrivals.Arrival.TheVariants.{Unit as Whole, NotYet as NotCome, Breach as BadOctets, Failed as NoLink, Memory as NoMemory}
 use Rattle.z_client.specs.declared.found.Found.{Found}
 use Rattle.z_client.specs.declared.found.Found.TheVariants as found
-use Rattle.z_client.specs.declared.session.Parts.{Parts}
+use Rattle.z_client.specs.declared.session.LinkParts.{LinkParts}
 use Rattle.z_client.specs.Arrivals.{ArrivesBy, arrival_counted, reply_counted}
 use Rattle.z_client.specs.Heard.{heard_of}
 use Rattle.z_client.specs.Looks.{IsHeardIn, IsFirstOwed, IsOwed, EndsWait, IsToldCome, HasArrived, IsListened, FoundFits, FoundIn, FoundCounts, KeepsBreach, answer_of}
@@ -140,7 +140,7 @@ module _ {W : Type 0} (w : world.Ghosts W) (address : Address) (made : Made) whe
 
 -- ---- what becomes of a session
 
-module _ {W L : Type 0} (w : world.Ghosts W) (l : linked.Ghosts L) (p : Pending) (s : Parts L) where
+module _ {W L : Type 0} (w : world.Ghosts W) (l : linked.Ghosts L) (p : Pending) (s : LinkParts L) where
   broken_kept : pending_of s.waiting ≡ broken → IsTrueSession w l s
   broken_kept is not = absurd (not is)
 
@@ -183,7 +183,7 @@ module _ {W L : Type 0} (w : world.Ghosts W) (l : linked.Ghosts L) (p : Pending)
   }
 
   -- one that rests once an answer was heard
-  pub rest_listened : (size : ℕ) (heard : Heard) (new : Parts L) → HasArrived w l s p size → IsHeardIn p (take size (l.arrived s.link)) (Some heard)
+  pub rest_listened : (size : ℕ) (heard : Heard) (new : LinkParts L) → HasArrived w l s p size → IsHeardIn p (take size (l.arrived s.link)) (Some heard)
       → pending_of new.waiting ≡ resting → ((name : List ℕ) → made_in new.made.items name ≡ made_after p heard (made_in s.made.items) name)
       → new.address ≡ s.address → l.arrived new.link ≡ drop size (l.arrived s.link) → l.peer new.link ≡ l.peer s.link
       → Stands (l.arrived new.link) new.scan.passed new.scan.opened → IsListened w l s.address (made_in s.made.items) p new heard
@@ -230,7 +230,7 @@ another_found told p arrived size (found.Breach octets) keeps frame none untold 
 }
 
 -- something is heard of what has come from a told address
-pub none_untold : {W L : Type 0} (w : world.Ghosts W) (l : linked.Ghosts L) (p : Pending) (s : Parts L) (size : ℕ) → HasArrived w l s p size
+pub none_untold : {W L : Type 0} (w : world.Ghosts W) (l : linked.Ghosts L) (p : Pending) (s : LinkParts L) (size : ℕ) → HasArrived w l s p size
     → IsHeardIn p (take size (l.arrived s.link)) None → ¬ w.told s.address
 none_untold w l p s size has none told =
     told_heard w s.address (made_in s.made.items) p (l.peer s.link) (take size (l.arrived s.link)) none (has.come told)

@@ -16,7 +16,7 @@ use Rattle.gw_outside.specs.Wires.{IsReplyUnit}
 use Rattle.z_read.specs.Read.{IsReplyRead}
 use Rattle.z_read.specs.declared.fault.ReadFault.{ReadFault}
 use Rattle.z_read.specs.declared.fault.ReadFault.TheVariants as fault
-use Rattle.z_client.specs.declared.session.Parts.{Parts}
+use Rattle.z_client.specs.declared.session.LinkParts.{LinkParts}
 use Rattle.z_client.specs.declared.found.Found.{Found}
 use Rattle.z_client.specs.declared.found.Found.TheVariants as found
 use Rattle.z_client.specs.Heard.{heard_of, BeginsWithGone, IsBreach}
@@ -115,7 +115,7 @@ module _ {W : Type 0} (w : world.Ghosts W) (address : Address) where
 
 module _ {W L : Type 0} (w : world.Ghosts W) (l : linked.Ghosts L) where
   -- a unit of this size has arrived at a session that waits; where the address is told it is the reply to what is pending, and nothing more has come
-  pub record HasArrived (s : Parts L) (p : Pending) (size : ℕ) : Type 0 where
+  pub record HasArrived (s : LinkParts L) (p : Pending) (size : ℕ) : Type 0 where
     pub few : size ≤ length (l.arrived s.link)
     pub frame : IsFrame (take size (l.arrived s.link))
     pub waits : IsPending p
@@ -125,7 +125,7 @@ module _ {W L : Type 0} (w : world.Ghosts W) (l : linked.Ghosts L) where
     pub exact : l.exact ≡ true → w.told s.address
 
   -- a session at this address that made these sets, and what it is after a look that heard this
-  pub record IsListened (address : Address) (made : Made) (p : Pending) (new : Parts L) (heard : Heard) : Type 0 where
+  pub record IsListened (address : Address) (made : Made) (p : Pending) (new : LinkParts L) (heard : Heard) : Type 0 where
     pub fits : Fits p heard
     pub worlds : w.told address → IsWorlds w address made p heard
     pub pending : pending_of new.waiting ≡ pending_after p heard

@@ -13,7 +13,7 @@ use Rattle.z_types.specs.Same.{is_same}
 use Rattle.gw_outside.specs.Peers.{NamedSet, Peer, answers_at, held, set_of}
 use Rattle.gw_outside.specs.Sessions.{Made, IsWorlds}
 use Rattle.gw_outside.specs.Wires.{IsReplyUnit}
-use Rattle.z_client.specs.declared.session.Parts.{Parts}
+use Rattle.z_client.specs.declared.session.LinkParts.{LinkParts}
 use Rattle.z_client.specs.Heard.{heard_of}
 use Rattle.z_client.specs.Sets.{made_in, pending_of}
 
@@ -80,19 +80,19 @@ module _ {W : Type 0} (w : world.Ghosts W) (address : Address) where
     pub right : IsTrueReply made pending reply
 
 -- a session at this address that waits for the reply to its Init, and made no set
-pub record IsNewParts {L : Type 0} (address : Address) (s : Parts L) : Type 0 where
+pub record IsNewLinkParts {L : Type 0} (address : Address) (s : LinkParts L) : Type 0 where
   pub same_address : s.address ≡ address
   pub pending : pending_of s.waiting ≡ opening
   pub none_made : (name : List ℕ) → made_in s.made.items name ≡ None
 
 module _ {W L : Type 0} (w : world.Ghosts W) (l : linked.Ghosts L) where
   -- the octets that have arrived are scanned up to a place in them; where the address is told there are none, and the peer is true; an exact link is of a told address
-  pub record IsKept (s : Parts L) : Type 0 where
+  pub record IsKept (s : LinkParts L) : Type 0 where
     pub scanned : Stands (l.arrived s.link) s.scan.passed s.scan.opened
     pub nothing : w.told s.address → l.arrived s.link ≡ []
     pub peer : w.told s.address → IsToldTrue w s.address (made_in s.made.items) (pending_of s.waiting) (l.peer s.link)
     pub exact : l.exact ≡ true → w.told s.address
 
   -- of a session that is broken nothing is kept
-  abbrev pub IsTrueSession : Parts L → Type 0
+  abbrev pub IsTrueSession : LinkParts L → Type 0
   IsTrueSession s = pending_of s.waiting ≢ broken → IsKept s

@@ -16,5 +16,5 @@ mod typed;
 mod units;
 
 pub use crate::backend::ZBackend;
-pub use crate::session::{Parts, ZSession};
+pub use crate::session::{LinkParts, ZSession};
 pub use crate::sets::{FoundSet, Waiting};

@@ -13,7 +13,7 @@ ghost use Rattle.z_client.specs.TrueSession.{IsKept};
 use crate::arrivals::{Arrival, await_unit};
 use crate::found::Found;
 use crate::hearing::heard_in;
-use crate::session::Parts;
+use crate::session::LinkParts;
 use crate::sets::{Waiting, keep};
 use gw_outside::{Heard, Wire};
 use std::alloc::Global;
@@ -25,7 +25,7 @@ use z_types::{Memory, Text, World};
 pub(crate) fn listen<W: World, N: Wire<W>>(
     wire: &mut N,
     alloc: Global,
-    parts: &mut Parts<N::Link>,
+    parts: &mut LinkParts<N::Link>,
 ) -> Found
     requires pending { IsPending (pending_of parts.old.waiting) }
     requires kept { IsKept W.World N.Link.Linked parts.old }
@@ -69,7 +69,7 @@ pub(crate) fn listen<W: World, N: Wire<W>>(
 fn hear<W: World, N: Wire<W>>(
     wire: &mut N,
     alloc: Global,
-    parts: &mut Parts<N::Link>,
+    parts: &mut LinkParts<N::Link>,
     waiting: Waiting,
     size: usize,
 ) -> Found
@@ -117,7 +117,7 @@ fn unit_heard<W: World, N: Wire<W>>(
 fn settle<W: World, N: Wire<W>>(
     wire: &mut N,
     alloc: Global,
-    parts: &mut Parts<N::Link>,
+    parts: &mut LinkParts<N::Link>,
     waiting: Waiting,
     heard: Heard,
     size: usize,
@@ -151,7 +151,7 @@ fn settle<W: World, N: Wire<W>>(
 fn settle_gone<W: World, N: Wire<W>>(
     wire: &mut N,
     alloc: Global,
-    parts: &mut Parts<N::Link>,
+    parts: &mut LinkParts<N::Link>,
     waiting: Waiting,
     size: usize,
 ) -> Found
@@ -180,7 +180,7 @@ fn settle_gone<W: World, N: Wire<W>>(
 #[tactic(auto, using(crate::proofs::HappenedLemmas::same_self, crate::proofs::HappenedLemmas::same_again, crate::proofs::HappenedLemmas::same_link))]
 fn rest<W: World, N: Wire<W>>(
     wire: &mut N,
-    parts: &mut Parts<N::Link>,
+    parts: &mut LinkParts<N::Link>,
     waiting: Waiting,
     heard: &Heard,
     size: usize,

@@ -12,10 +12,10 @@ ghost use Rattle.gw_outside.specs.Steady.{OpensSteadily, AsksSteadily};
 ghost use Rattle.gw_outside.specs.Wires.{IsNewLink, IsRequestUnit};
 ghost use Rattle.z_client.specs.Links.{link_of};
 ghost use Rattle.z_client.specs.Sets.{made_in, pending_of};
-ghost use Rattle.z_client.specs.TrueSession.{IsNewParts, IsKept, IsTrueSession};
+ghost use Rattle.z_client.specs.TrueSession.{IsNewLinkParts, IsKept, IsTrueSession};
 ghost use Rattle.z_client.specs.Units.{init_request, request_of, Takes, TookInit};
 
-use crate::session::{Parts, ZSession};
+use crate::session::{LinkParts, ZSession};
 use crate::sets::Waiting;
 use gw_outside::{Began, Opening, Sent, Wire};
 use std::alloc::Global;
@@ -34,7 +34,7 @@ pub(crate) fn greet<W: World, N: Wire<W>>(
     requires link { IsNewLink W.World N.Link.Linked N.exact
         (inner address) (N.counts wire.old) link }
     requires unit { IsRequestUnit unit.now (init_request (login_of address)) }
-    ensures session { IfSession result (IsNewParts address) }
+    ensures session { IfSession result (IsNewLinkParts address) }
     ensures sent { IfSession result
         (λ s. TookInit W.World (N.happened wire.old) address (N.Link.peer s.link)) }
     ensures steady { W.told address → (N.happened wire.old).steady ≡ true
@@ -47,7 +47,7 @@ pub(crate) fn greet<W: World, N: Wire<W>>(
 {
     match wire.send(alloc, &mut link, unit.as_slice()) {
         Sent::Sent => Opening::Session(ZSession {
-            parts: Parts {
+            parts: LinkParts {
                 link,
                 scan: Scan::start(),
                 address,
@@ -65,7 +65,7 @@ pub(crate) fn greet<W: World, N: Wire<W>>(
 pub(crate) fn send_ask<W: World, N: Wire<W>>(
     wire: &mut N,
     alloc: Global,
-    parts: &mut Parts<N::Link>,
+    parts: &mut LinkParts<N::Link>,
     ask: Ask,
     unit: &Text,
 ) -> Began

@@ -13,7 +13,7 @@ use z_types::{Address, Sitting, World};
 /// A session apart from its world: its link, how far the octets that have arrived are scanned, its
 /// address, the sets that it made, and what it waits for.
 #[derive(Drop)]
-pub struct Parts<L> {
+pub struct LinkParts<L> {
     /// The link to the target.
     pub link: L,
     /// How far what has arrived over it is scanned for a unit (X.690:2021, 8.1).
@@ -31,16 +31,16 @@ pub struct Parts<L> {
 /// world's.
 #[derive(Drop)]
 pub struct ZSession<W: World, L: Linked> {
-    pub(crate) parts: Parts<L>,
+    pub(crate) parts: LinkParts<L>,
     pub(crate) world: PhantomData<W>,
 }
 
 impl<W: World, L: Linked> Model for ZSession<W, L> {
     ghost use Rattle.std.specs.Coded.{codes};
     ghost use Rattle.z_types.specs.Tree.{tree_code};
-    ghost use Rattle.z_client.specs.declared.session.Parts.{Parts};
+    ghost use Rattle.z_client.specs.declared.session.LinkParts.{LinkParts};
 
-    ghost Value = { Parts L };
+    ghost Value = { LinkParts L };
 
     ghost coded = { Prim.hlevel (codes, tree_code) };
 

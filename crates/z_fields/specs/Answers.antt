@@ -7,9 +7,9 @@ use Rattle.z_fields.specs.declared.answers.FieldFault.{FieldFault}
 use Rattle.z_fields.specs.declared.answers.FieldFault.TheVariants.{Refused, Memory}
 
 -- the value or the refusal
-abbrev pub told : {A : Type 0} → Result A Refusal → Result A FieldFault
-told (Ok value) = Ok value
-told (Err refusal) = Err (Refused refusal)
+abbrev pub as_fault : {A : Type 0} → Result A Refusal → Result A FieldFault
+as_fault (Ok value) = Ok value
+as_fault (Err refusal) = Err (Refused refusal)
 
 -- the answer is the value or the refusal that is wanted, or want of memory
 abbrev pub IsOrMemory : {A : Type 0} → Result A Refusal → Result A FieldFault → Type 0
@@ -18,10 +18,10 @@ IsOrMemory wanted (Err (Refused refusal)) = Err refusal ≡ wanted
 IsOrMemory wanted (Err Memory) = Unit {0}
 
 -- two answers: both values; or want of memory; or the first refusal of the lowest rank
-abbrev pub both_told : {A B : Type 0} → Result A FieldFault → Result B FieldFault → Result (A × B) FieldFault
-both_told (Ok a) (Ok b) = Ok (a, b)
-both_told (Ok a) (Err fault) = Err fault
-both_told (Err Memory) second = Err Memory
-both_told (Err (Refused r)) (Ok b) = Err (Refused r)
-both_told (Err (Refused r)) (Err Memory) = Err Memory
-both_told (Err (Refused r)) (Err (Refused s)) = Err (Refused (first_refusal r s))
+abbrev pub both_answers : {A B : Type 0} → Result A FieldFault → Result B FieldFault → Result (A × B) FieldFault
+both_answers (Ok a) (Ok b) = Ok (a, b)
+both_answers (Ok a) (Err fault) = Err fault
+both_answers (Err Memory) second = Err Memory
+both_answers (Err (Refused r)) (Ok b) = Err (Refused r)
+both_answers (Err (Refused r)) (Err Memory) = Err Memory
+both_answers (Err (Refused r)) (Err (Refused s)) = Err (Refused (first_refusal r s))

@@ -4,7 +4,7 @@
 ghost use Rattle.std.specs.Prelude.{◌≡◌};
 ghost use Rattle.unit_forms.specs.declared.refusal.Refusal.TheVariants as rule;
 ghost use Rattle.z_fields.specs.declared.answers.FieldFault.TheVariants as fault;
-ghost use Rattle.z_fields.specs.Answers.{both_told};
+ghost use Rattle.z_fields.specs.Answers.{both_answers};
 
 use unit_forms::{Refusal, first_refusal};
 use z_types::Memory;
@@ -66,7 +66,7 @@ pub fn both<A: Drop, B: Drop>(
     first: Result<A, FieldFault>,
     second: Result<B, FieldFault>,
 ) -> Result<(A, B), FieldFault>
-    ensures { result ≡ both_told first second }
+    ensures { result ≡ both_answers first second }
 {
     match first {
         Ok(a) => match second {

@@ -3,7 +3,7 @@
 ghost use Rattle.std.specs.Prelude.{◌≡◌, [], ◌∷◌};
 ghost use Rattle.unit_forms.specs.Tags as numbers;
 ghost use Rattle.unit_forms.specs.Reading.Rows.{context as context_tag, universal as universal_tag, octets_of as octets_in_field, bits_of as bits_in_field, truth_of as truth_in_field, integer_of as integer_in_field, number_of as number_in_field, oid_of as oid_in_field, required, optional, optional_of, required_universal};
-ghost use Rattle.z_fields.specs.Answers.{told, IsOrMemory};
+ghost use Rattle.z_fields.specs.Answers.{as_fault, IsOrMemory};
 
 use crate::answers::FieldFault;
 use crate::bits::bits_in;
@@ -55,7 +55,7 @@ pub fn octets_of(alloc: Global, field: &Field<'_>) -> Result<Text, FieldFault>
 /// A BIT STRING, in primitive form alone.
 #[inline(always)]
 pub fn bits_of(field: &Field<'_>) -> Result<u32, FieldFault>
-    ensures { result ≡ told (bits_in_field field.now) }
+    ensures { result ≡ as_fault (bits_in_field field.now) }
 {
     let tag = field.tag();
     if tag.constructed {
@@ -70,7 +70,7 @@ pub fn bits_of(field: &Field<'_>) -> Result<u32, FieldFault>
 /// A BOOLEAN.
 #[inline(always)]
 pub fn flag_of(field: &Field<'_>) -> Result<bool, FieldFault>
-    ensures { result ≡ told (truth_in_field field.now) }
+    ensures { result ≡ as_fault (truth_in_field field.now) }
 {
     let tag = field.tag();
     if tag.constructed {
@@ -85,7 +85,7 @@ pub fn flag_of(field: &Field<'_>) -> Result<bool, FieldFault>
 /// An INTEGER of up to 8 octets.
 #[inline(always)]
 pub fn integer_of(field: &Field<'_>) -> Result<i64, FieldFault>
-    ensures { result ≡ told (integer_in_field field.now) }
+    ensures { result ≡ as_fault (integer_in_field field.now) }
 {
     let tag = field.tag();
     if tag.constructed {
@@ -100,7 +100,7 @@ pub fn integer_of(field: &Field<'_>) -> Result<i64, FieldFault>
 /// An INTEGER from 0 to 2147483647.
 #[inline(always)]
 pub fn number_of(field: &Field<'_>) -> Result<u32, FieldFault>
-    ensures { result ≡ told (number_in_field field.now) }
+    ensures { result ≡ as_fault (number_in_field field.now) }
 {
     let tag = field.tag();
     if tag.constructed {
@@ -179,7 +179,7 @@ pub fn required_oid(alloc: Global, fields: &Fields<'_>) -> Result<Oid, FieldFaul
 /// The bits of this number, which have to be there.
 #[inline(always)]
 pub fn required_bits(fields: &Fields<'_>, number: u32) -> Result<u32, FieldFault>
-    ensures { result ≡ told (required number bits_in_field fields.now) }
+    ensures { result ≡ as_fault (required number bits_in_field fields.now) }
 {
     match fields.first_of(&[context(number)]) {
         Some(field) => bits_of(&field),
@@ -190,7 +190,7 @@ pub fn required_bits(fields: &Fields<'_>, number: u32) -> Result<u32, FieldFault
 /// The truth value of this number, which has to be there.
 #[inline(always)]
 pub fn required_flag(fields: &Fields<'_>, number: u32) -> Result<bool, FieldFault>
-    ensures { result ≡ told (required number truth_in_field fields.now) }
+    ensures { result ≡ as_fault (required number truth_in_field fields.now) }
 {
     match fields.first_of(&[context(number)]) {
         Some(field) => flag_of(&field),
@@ -201,7 +201,7 @@ pub fn required_flag(fields: &Fields<'_>, number: u32) -> Result<bool, FieldFaul
 /// The INTEGER of this number, which has to be there.
 #[inline(always)]
 pub fn required_integer(fields: &Fields<'_>, number: u32) -> Result<i64, FieldFault>
-    ensures { result ≡ told (required number integer_in_field fields.now) }
+    ensures { result ≡ as_fault (required number integer_in_field fields.now) }
 {
     match fields.first_of(&[context(number)]) {
         Some(field) => integer_of(&field),
@@ -212,7 +212,7 @@ pub fn required_integer(fields: &Fields<'_>, number: u32) -> Result<i64, FieldFa
 /// The number of this tag, which has to be there.
 #[inline(always)]
 pub fn required_number(fields: &Fields<'_>, number: u32) -> Result<u32, FieldFault>
-    ensures { result ≡ told (required number number_in_field fields.now) }
+    ensures { result ≡ as_fault (required number number_in_field fields.now) }
 {
     match fields.first_of(&[context(number)]) {
         Some(field) => number_of(&field),
@@ -223,7 +223,7 @@ pub fn required_number(fields: &Fields<'_>, number: u32) -> Result<u32, FieldFau
 /// The number of this tag, where it is there.
 #[inline(always)]
 pub fn optional_number(fields: &Fields<'_>, number: u32) -> Result<Option<u32>, FieldFault>
-    ensures { result ≡ told (optional number number_in_field fields.now) }
+    ensures { result ≡ as_fault (optional number number_in_field fields.now) }
 {
     match fields.first_of(&[context(number)]) {
         Some(field) => {

@@ -12,7 +12,7 @@ use Rattle.unit_forms.specs.Reading.Elements.{Field, first_element, other_elemen
 use Rattle.unit_forms.specs.Reading.Queries.{operand_in, operator_in, join_asked, joined_of, structure_with, structure_at}
 use Rattle.unit_forms.specs.Reading.Rows.{context}
 use Rattle.z_fields.proofs.AnswerLemmas.{both_are}
-use Rattle.z_fields.specs.Answers.{IsOrMemory, both_told}
+use Rattle.z_fields.specs.Answers.{IsOrMemory, both_answers}
 use Rattle.z_fields.specs.declared.answers.FieldFault.{FieldFault}
 use Rattle.z_fields.specs.declared.answers.FieldFault.TheVariants.{Refused, Memory}
 use Rattle.z_read.specs.Structures.{structure_of, size, size_of}
@@ -65,7 +65,7 @@ pub record IsJoint (found : Option Field) (read : Result (Asked Tree × (Asked T
   pub same : structure_of found ≡ read_as join_asked wanted
   pub parts : IsOrMemory wanted read
 
-pub two_structures : (found : Option Field) (field : Field) (tag : Tag) (is : Bool) (inside again others : Forest) (first second : Option Field) (left right : Result (Asked Tree) FieldFault) (operator : Result (Asked Operator) FieldFault) (later : Result (Asked Tree × Asked Operator) FieldFault) (read : Result (Asked Tree × (Asked Tree × Asked Operator)) FieldFault) → found ≡ Some field → tag ≡ field.tag → is ≡ (has_tag tag (context 0) || has_tag tag (context 1)) → is ≡ true → tag.constructed ≡ true → (tag.number ≡ 0 → ⊥) → inside ≡ field.inner → first ≡ first_element inside → others ≡ other_elements inside → second ≡ first_element others → IsOrMemory (structure_of first) left → IsOrMemory (structure_of second) right → again ≡ field.inner → IsOrMemory (operator_in again) operator → later ≡ both_told right operator → read ≡ both_told left later → IsJoint found read
+pub two_structures : (found : Option Field) (field : Field) (tag : Tag) (is : Bool) (inside again others : Forest) (first second : Option Field) (left right : Result (Asked Tree) FieldFault) (operator : Result (Asked Operator) FieldFault) (later : Result (Asked Tree × Asked Operator) FieldFault) (read : Result (Asked Tree × (Asked Tree × Asked Operator)) FieldFault) → found ≡ Some field → tag ≡ field.tag → is ≡ (has_tag tag (context 0) || has_tag tag (context 1)) → is ≡ true → tag.constructed ≡ true → (tag.number ≡ 0 → ⊥) → inside ≡ field.inner → first ≡ first_element inside → others ≡ other_elements inside → second ≡ first_element others → IsOrMemory (structure_of first) left → IsOrMemory (structure_of second) right → again ≡ field.inner → IsOrMemory (operator_in again) operator → later ≡ both_answers right operator → read ≡ both_answers left later → IsJoint found read
 two_structures found field tag is inside again others first second left right operator later read f t i y c n w p o q l r a m g j = record {
   wanted = structure_of first ⊗ (structure_of second ⊗ operator_in again);
   same =
@@ -76,8 +76,8 @@ two_structures found field tag is inside again others first second left right op
       ∙ ap (λ x. joined_of (structure_at 0 field.inner) x (operator_in again)) (sym (second_structure inside others second o q ∙ ap (structure_at 1) w))
       ∙ ap (λ x. joined_of x (structure_of second) (operator_in again)) (sym (first_structure inside first p ∙ ap (structure_at 0) w));
   parts =
-      subst (IsOrMemory (structure_of first ⊗ (structure_of second ⊗ operator_in again))) (sym (j ∙ ap (both_told left) g))
-      (both_are (structure_of first) (structure_of second ⊗ operator_in again) left (both_told right operator) l (both_are (structure_of second) (operator_in again) right operator r m));
+      subst (IsOrMemory (structure_of first ⊗ (structure_of second ⊗ operator_in again))) (sym (j ∙ ap (both_answers left) g))
+      (both_are (structure_of first) (structure_of second ⊗ operator_in again) left (both_answers right operator) l (both_are (structure_of second) (operator_in again) right operator r m));
 }
 
 -- why they are not read is why the structure is not

@@ -5,7 +5,7 @@ ghost use Rattle.std.specs.Fmt.{decimal};
 ghost use Rattle.unit_forms.specs.Tags as numbers;
 ghost use Rattle.unit_forms.specs.Reading.Rows.{octets_of as octets_in_field, number_of as number_in_field, universal as universal_tag, required_of, required_universal};
 ghost use Rattle.unit_forms.specs.Reading.Diagnostics.{diag_in, diag_of, other_query_type, other_form, proximity, specific_names, complex_composition, additional_ranges};
-ghost use Rattle.z_fields.specs.Answers.{IsOrMemory, told};
+ghost use Rattle.z_fields.specs.Answers.{IsOrMemory, as_fault};
 
 use crate::each::Part;
 use std::alloc::Global;
@@ -15,7 +15,7 @@ use z_types::{Condition, Diag, Memory, Text};
 
 /// The condition of a diagnostic.
 fn condition_in(fields: &Fields<'_>) -> Result<u32, FieldFault>
-    ensures { result ≡ told (required_universal numbers.integer number_in_field fields.now) }
+    ensures { result ≡ as_fault (required_universal numbers.integer number_in_field fields.now) }
 {
     match fields.first_of(&[universal(tags::INTEGER)]) {
         Some(field) => number_of(&field),

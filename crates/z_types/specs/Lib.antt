@@ -1,4 +1,5 @@
 pub mod Same
+pub mod Chains
 pub mod Counts
 pub mod Digits
 pub mod Bib1

@@ -118,19 +118,19 @@ fn name_weight(name: &Option<Text>) -> u64
 }
 
 /// The weight of the fields of a NamePlusRecord.
-fn fields_weight(record: &NamedRecord) -> u64
-    ensures { result ≡ within64 (length (named_fields record.now)) }
+fn fields_weight(named: &NamedRecord) -> u64
+    ensures { result ≡ within64 (length (named_fields named.now)) }
 {
     let tag = Tag::constructed_context(tags::RECORD_OF_NAME_PLUS_RECORD);
-    let item = element_weight(tag, item_weight(&record.item));
-    joined_weight(name_weight(&record.name), item)
+    let item = element_weight(tag, item_weight(&named.item));
+    joined_weight(name_weight(&named.name), item)
 }
 
 /// The weight of a record: the octets of its written form in a response, or the last number of 64 bits
 /// where they are more. It takes no memory.
 #[tactic(auto, unfolding(unit_forms::specs::Records::named_octets))]
-pub fn weight(record: &NamedRecord) -> u64
-    ensures { result ≡ weight record.now }
+pub fn weight(named: &NamedRecord) -> u64
+    ensures { result ≡ weight named.now }
 {
-    element_weight(SEQUENCE, fields_weight(record))
+    element_weight(SEQUENCE, fields_weight(named))
 }

@@ -1,5 +1,6 @@
 -- For contracts alone: steps of a connection, one behind another, until its request in work is answered (this project's own)
-use Rattle.std.specs.Prelude.{◌≡◌, ◌⊎◌, ℕ, Bool, List, [], ◌∷◌, Option, None, Some, Result, Ok, Err, IsSome, option_map}
+use Rattle.std.specs.Prelude.{◌≡◌, ◌⊎◌, ℕ, Bool, Option, None, Some, Result, Ok, Err, IsSome, option_map}
+use Rattle.z_types.specs.Chains.{StepsFrom}
 use Rattle.z_types.specs.declared.marks.End.{End}
 use Rattle.z_types.specs.declared.memory.Memory.{Memory as NoMemory}
 use Rattle.z_types.specs.declared.sitting.Sitting as sitting
@@ -84,18 +85,10 @@ module _ {W S : Type 0} (w : world.Ghosts W) (t : sitting.Ghosts S W) (exact : B
     pub step : StepsTo here next answer
     pub in_work : IsInWork next.conn
 
-  -- such steps from the first to the last, by where it stood before this one, the latest first
-  abbrev pub HasGone : (first : ConnAt S) → List (ConnAt S) → (last : ConnAt S) → Type 0
-  HasGone first [] last = last ≡ first
-  HasGone first (mid ∷ earlier) last = HasGone first earlier mid × GoesOnTo mid last
-
-  abbrev pub GoesFrom : (first last : ConnAt S) → Type 0
-  GoesFrom first last = (earlier : List (ConnAt S)) × HasGone first earlier last
-
   -- such steps, and the one that answers so behind them
   pub record HasDriven (first last : ConnAt S) (answer : Stepped) : Type 0 where
     pub amid : ConnAt S
-    pub goes : GoesFrom first amid
+    pub goes : StepsFrom GoesOnTo first amid
     pub ends : StepsTo amid last answer
 
   -- all steps of a connection that is driven: behind the last one its request is answered; or it lacked memory, and was given up then
@@ -107,6 +100,6 @@ module _ {W S : Type 0} (w : world.Ghosts W) (t : sitting.Ghosts S W) (exact : B
   pub record DrivesWork (view : PackageView S) (old new : AnsweringState S) (answer : Stepped) (end : Option End)
       (before behind : Outside S) : Type 0 where
     pub amid : PackageAt S
-    pub goes : package_drives.GoesFrom w t exact route (package_in view before) amid
+    pub goes : StepsFrom (package_drives.GoesOnTo w t exact route) (package_in view before) amid
     pub now : ℕ
     pub turns : TurnsWork w t exact route now amid.view (record old { in_work = Some amid.view }) new answer end (around amid) behind

@@ -1,5 +1,6 @@
 -- For contracts alone: a leg shares the session of its class (this project's own)
 use Rattle.std.specs.Prelude.{◌≡◌, ℕ, Bool, false, List, Some}
+use Rattle.z_types.specs.Chains.{GoesThrough, last_of}
 use Rattle.z_types.specs.declared.address.Address.{Address}
 use Rattle.z_types.specs.declared.key.SetKey.{SetKey}
 use Rattle.z_types.specs.declared.sitting.Sitting as sitting
@@ -24,7 +25,7 @@ use Rattle.sharing_rules.specs.Uses.{Use}
 use Rattle.sharing_rules.specs.steps.Shared.{AreKept, dial_due, of_class, search_due}
 use Rattle.leg_shares.specs.steps.Pools.{HaveSameLast, IsOneTarget, IsPoolOf, MayUse, StayOrExpire}
 use Rattle.leg_shares.specs.steps.Sharing.{IsKeptBehind, Shares, SharesThen, WentOn, with_use}
-use Rattle.leg_shares.specs.steps.Through.{GoesThrough, Point, at_first, last_of}
+use Rattle.leg_shares.specs.steps.Through.{GoesOn, Point, at_first}
 
 -- on a fair route the members of each class are one target
 abbrev pub FairClassIsOne : {W : Type 0} → world.Ghosts W → Type 0
@@ -80,5 +81,5 @@ module _ {W S : Type 0} (w : world.Ghosts W) (t : sitting.Ghosts S W) where
       (exact : Bool) (route : Route) (place now : ℕ) (before : List Use) (task : Task) (pool : Pool S) (points : List (Point S))
       → MayUse w route (class_of route place) now before (want_of task) → IsPoolOf route pool
       → IsKeptBehind w route (class_of route place) now before pool
-      → GoesThrough w t exact route place task now (at_first pool) points → IsDone (last_of (at_first pool) points).phase
+      → GoesThrough (GoesOn w t exact route place task now) (at_first pool) points → IsDone (last_of (at_first pool) points).phase
       → IsShared route (class_of route place) now before task (last_of (at_first pool) points)

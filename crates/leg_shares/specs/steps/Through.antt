@@ -1,6 +1,6 @@
 -- For contracts alone: all that a leg goes through over a told pool at one moment, where nothing goes wrong, among others that
 -- use other classes (this project's own)
-use Rattle.std.specs.Prelude.{◌≡◌, ◌⊎◌, ℕ, Bool, List, [], ◌∷◌, Some}
+use Rattle.std.specs.Prelude.{◌≡◌, ◌⊎◌, ℕ, Bool, Some}
 use Rattle.z_types.specs.declared.sitting.Sitting as sitting
 use Rattle.z_types.specs.declared.world.World as world
 use Rattle.route_config.specs.declared.route.Route.{Route}
@@ -49,12 +49,6 @@ module _ {W S : Type 0} (w : world.Ghosts W) (t : sitting.Ghosts S W) (exact : B
       pub of : IsPoolOf route new.pool
       pub own : StayOrExpire route now (of_class (class_of route place) old.pool.sessions) (of_class (class_of route place) new.pool.sessions)
 
-    -- from point to point
-    abbrev pub GoesThrough : Point S → List (Point S) → Type 0
-    GoesThrough point [] = Unit {0}
-    GoesThrough point (next ∷ points) = (TakesTurn point next ⊎ OthersGoOn point next) × GoesThrough next points
-
--- where points end that begin with this one
-abbrev pub last_of : {S : Type 0} → Point S → List (Point S) → Point S
-last_of point [] = point
-last_of point (next ∷ points) = last_of next points
+    -- one of these
+    abbrev pub GoesOn : (old new : Point S) → Type 0
+    GoesOn old new = TakesTurn old new ⊎ OthersGoOn old new

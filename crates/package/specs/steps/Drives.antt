@@ -1,7 +1,8 @@
 -- For contracts alone: turns of a package, one behind another, until none of its legs is left to turn (this project's own)
-use Rattle.std.specs.Prelude.{◌≡◌, ◌⊎◌, ℕ, Bool, List, [], ◌∷◌, Result, Ok, Err}
+use Rattle.std.specs.Prelude.{◌≡◌, ◌⊎◌, ℕ, Bool, Result, Ok, Err}
 use Rattle.futures.specs.declared.task.Poll.{Poll}
 use Rattle.futures.specs.declared.task.Poll.TheVariants.{Ready, Pending}
+use Rattle.z_types.specs.Chains.{StepsFrom}
 use Rattle.z_types.specs.declared.memory.Memory.{Memory}
 use Rattle.z_types.specs.declared.sitting.Sitting as sitting
 use Rattle.z_types.specs.declared.world.World as world
@@ -51,14 +52,6 @@ module _ {W S : Type 0} (w : world.Ghosts W) (t : sitting.Ghosts S W) (exact : B
     pub awaited : IsAwaited answer
     pub turn : TurnsTo here next answer
 
-  -- such turns from the first to the last, by where it stood before this one, the latest first
-  abbrev pub HasGone : (first : PackageAt S) → List (PackageAt S) → (last : PackageAt S) → Type 0
-  HasGone first [] last = last ≡ first
-  HasGone first (mid ∷ earlier) last = HasGone first earlier mid × GoesOnTo mid last
-
-  abbrev pub GoesFrom : (first last : PackageAt S) → Type 0
-  GoesFrom first last = (earlier : List (PackageAt S)) × HasGone first earlier last
-
   -- a turn, by what a poll answers with it: another one is due, or it is the last
   abbrev pub IsTurnOf : {A : Type 0} → (here next : PackageAt S) → Poll (Result A Memory) → Type 0
   IsTurnOf here next Pending = GoesOnTo here next
@@ -67,5 +60,5 @@ module _ {W S : Type 0} (w : world.Ghosts W) (t : sitting.Ghosts S W) (exact : B
   -- all turns of a package that is driven: behind the last one all legs are done, or it lacked memory
   pub record IsDriven {A : Type 0} (first last : PackageAt S) (out : Result A Memory) : Type 0 where
     pub amid : PackageAt S
-    pub goes : GoesFrom first amid
+    pub goes : StepsFrom GoesOnTo first amid
     pub ends : TurnsTo amid last (last_answer out)

@@ -3,10 +3,10 @@ use Rattle.std.specs.Prelude.{ℕ, ◌+◌, ◌≤◌, Bool, List, Option, None,
 use Rattle.std.specs.List.{sum_by}
 use Rattle.route_config.specs.declared.route.PoolNumbers.{PoolNumbers}
 use Rattle.route_config.specs.declared.route.Route.{Route}
-use Rattle.conn_costs.specs.steps.Conns.{HasTotals, RestsIfEnded, counted_on, dues_on, met_on, outside_counts, outside_meets}
-use Rattle.conn_costs.specs.steps.Growth.{RisesAsMuch, RisesEnough}
-use Rattle.conn_costs.specs.steps.Ledgers.{Cost, IsRaised}
-use Rattle.conn_costs.specs.steps.Numbers.{Caused, IsTold, Number}
+use Rattle.front_conn_costs.specs.steps.Conns.{HasTotals, RestsIfEnded, counted_on, dues_on, met_on, outside_counts, outside_meets}
+use Rattle.front_conn_costs.specs.steps.Growth.{RisesAsMuch, RisesEnough}
+use Rattle.front_conn_costs.specs.steps.Ledgers.{Cost, IsRaised}
+use Rattle.front_conn_costs.specs.steps.Numbers.{Caused, IsTold, Number}
 use Rattle.replay.specs.Clients.{ClientState, client_at}
 use Rattle.replay.specs.Trace.{Playing}
 

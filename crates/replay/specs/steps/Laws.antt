@@ -1,9 +1,9 @@
 -- For contracts alone: the laws of connections, together, of what they cost, and of what a run of them keeps (this project's own)
 use Rattle.z_types.specs.declared.sitting.Sitting as sitting
 use Rattle.z_types.specs.declared.world.World as world
-use Rattle.conn_costs.specs.steps.Laws.{CostsNothing, CostsOn, MarksAreMet, StartsCostless, StaysSoCosted, StepsCost, SumsAtRest}
-use Rattle.conn_quiet.specs.steps.Laws.{PackagesGoWell}
-use Rattle.conn_seats.specs.steps.Laws.{StepsKeepSeats, TurnsKeepSeats}
+use Rattle.front_conn_costs.specs.steps.Laws.{CostsNothing, CostsOn, MarksAreMet, StartsCostless, StaysSoCosted, StepsCost, SumsAtRest}
+use Rattle.package_quiet.specs.steps.Laws.{PackagesGoWell}
+use Rattle.front_conn_seats.specs.steps.Laws.{StepsKeepSeats, TurnsKeepSeats}
 use Rattle.front_conn.specs.steps.Feeding.{EndsAnswered, StandsAtStart, StandsWhenEnded, StandsWhenFed, StandsWhenWritten, StaysOfRoute}
 
 -- where a connection stands at its start, when it is fed, when its input has ended and when its output was written; that it stays of

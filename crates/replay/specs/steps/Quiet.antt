@@ -6,7 +6,7 @@ use Rattle.z_types.specs.declared.world.World as world
 use Rattle.route_config.specs.declared.route.Route.{Route}
 use Rattle.front_conn.specs.steps.Answering.{Outside}
 use Rattle.script.specs.declared.event.Event.{Event}
-use Rattle.conn_quiet.specs.steps.Quiet.{IsCalm, WentWell}
+use Rattle.package_quiet.specs.steps.Quiet.{IsCalm, WentWell}
 use Rattle.replay.specs.Undisturbed.{BefallsNothing}
 use Rattle.replay.specs.Wires.{AreTold}
 

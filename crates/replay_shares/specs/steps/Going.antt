@@ -15,9 +15,9 @@ use Rattle.front_conn.specs.steps.Answering.{Outside}
 use Rattle.front_conn.specs.steps.Totals.{totals_for}
 use Rattle.sharing_rules.specs.Needed.{count_after}
 use Rattle.sharing_rules.specs.Uses.{Use, uses_of}
-use Rattle.conn_costs.specs.steps.Conns.{AreTotalsOf}
-use Rattle.conn_costs.specs.steps.Numbers.{Number}
-use Rattle.conn_shares.specs.steps.Requests.{AreTurns, IsKeptAt, MayWork, behind}
+use Rattle.front_conn_costs.specs.steps.Conns.{AreTotalsOf}
+use Rattle.front_conn_costs.specs.steps.Numbers.{Number}
+use Rattle.package_shares.specs.steps.Requests.{AreTurns, IsKeptAt, MayWork, behind}
 use Rattle.replay_shares.specs.Orderly.{dated}
 use Rattle.replay_shares.specs.steps.Costs.{cost_on, is_needed}
 use Rattle.replay_shares.specs.steps.Resting.{IsKeptOver}

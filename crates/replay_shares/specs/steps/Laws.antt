@@ -18,9 +18,9 @@ use Rattle.script.specs.Events.{AreEvents}
 use Rattle.sharing_rules.specs.Needed.{count_after}
 use Rattle.sharing_rules.specs.Uses.{DatedWork, Use, uses_of}
 use Rattle.sharing_rules.specs.steps.Shared.{AreInOrder}
-use Rattle.conn_costs.specs.steps.Numbers.{Number}
-use Rattle.conn_shares.specs.steps.Requests.{RequestsShare, behind}
-use Rattle.conn_works.specs.steps.Laws.{BeginsNone, EndedIsWhole, MarksDecide, StaysSoBegun, StepsBegin}
+use Rattle.front_conn_costs.specs.steps.Numbers.{Number}
+use Rattle.package_shares.specs.steps.Requests.{RequestsShare, behind}
+use Rattle.front_conn_works.specs.steps.Laws.{BeginsNone, EndedIsWhole, MarksDecide, StaysSoBegun, StepsBegin}
 use Rattle.replay.specs.Clients.{ClientState}
 use Rattle.replay.specs.Trace.{HasRun, IsRunOf}
 use Rattle.replay.specs.declared.reports.Report.{Report}

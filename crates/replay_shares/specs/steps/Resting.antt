@@ -19,15 +19,15 @@ use Rattle.script.specs.declared.event.Event.{Event}
 use Rattle.sharing_rules.specs.Orderly.{keys_used}
 use Rattle.sharing_rules.specs.Uses.{DatedWork, Use, uses_of}
 use Rattle.sharing_rules.specs.steps.Shared.{AreInOrder}
-use Rattle.conn_costs.specs.steps.Conns.{AreTotalsOf}
-use Rattle.conn_costs.specs.steps.Numbers.{Number}
-use Rattle.conn_quiet.specs.steps.Quiet.{IsCalm}
-use Rattle.conn_shares.specs.steps.Requests.{behind}
-use Rattle.conn_shares.specs.steps.Together.{AreAllKept}
-use Rattle.conn_works.specs.steps.Begun.{HasBegun}
+use Rattle.front_conn_costs.specs.steps.Conns.{AreTotalsOf}
+use Rattle.front_conn_costs.specs.steps.Numbers.{Number}
+use Rattle.package_quiet.specs.steps.Quiet.{IsCalm}
+use Rattle.package_shares.specs.steps.Requests.{behind}
+use Rattle.package_shares.specs.steps.Together.{AreAllKept}
+use Rattle.front_conn_works.specs.steps.Begun.{HasBegun}
 use Rattle.replay.specs.Clients.{ClientState, client_at, client_or_new}
 use Rattle.replay.specs.Trace.{Playing}
-use Rattle.replay_shares.specs.Orderly.{IsApart, Turn, asked_before}
+use Rattle.replay_shares.specs.Orderly.{IsApart, ClientRun, asked_before}
 use Rattle.replay_shares.specs.Works.{AskByHead}
 use Rattle.replay_shares.specs.steps.Costs.{cost_of_all}
 
@@ -83,12 +83,12 @@ pub record MayDo (route : Route) (before : List Use) (works : List DatedWork) : 
 -- Behind events, with their runs, the last one first: each client rests, and has asked what it was to ask up to its last run; the pool
 -- is kept behind the uses of all; and each class has cost so much.
 pub record StandBehind {W S : Type 0} (w : world.Ghosts W) (t : sitting.Ghosts S W) (route : Route) (most now : ℕ) (events : List Event)
-    (turns : List Turn) (uses : List Use) (spent : Number → ℕ → ℕ) (here : Playing S) : Type 0 where
+    (runs : List ClientRun) (uses : List Use) (spent : Number → ℕ → ℕ) (here : Playing S) : Type 0 where
   pub door : here.outside.door.counts.most ≡ most
   pub places : length here.clients ≡ most_clients
   pub falls : AreInOrder now uses
   pub kept : IsKeptOver w t route now uses here.outside
   pub each : (place : ℕ) → place < most_clients
-      → IsResting w t route most (fed events (suc place)) (has_ended events (suc place)) (asked_before (suc place) turns)
+      → IsResting w t route most (fed events (suc place)) (has_ended events (suc place)) (asked_before (suc place) runs)
       (client_or_new (client_at here.clients place))
   pub cost : (number : Number) (class : ℕ) → within64 (cost_of_all number class here.clients) ≡ within64 (spent number class)

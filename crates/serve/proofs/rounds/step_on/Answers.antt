@@ -1,5 +1,5 @@
 use Rattle.std.proofs.Common.{◌∙◌, refl, sym, subst}
-use Rattle.conn_costs.specs.steps.Laws.{IsCosted}
+use Rattle.front_conn_costs.specs.steps.Laws.{IsCosted}
 use Rattle.front_conn.specs.declared.stepped.Stepped.TheVariants.{Idle, Memory, NotYet, Went}
 use Rattle.front_conn.specs.steps.Answering.{Outside}
 use Rattle.front_conn.specs.steps.Drives.{ConnAt, conn_at, outside_of}

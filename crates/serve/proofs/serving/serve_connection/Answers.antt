@@ -1,11 +1,12 @@
 use Rattle.std.proofs.Common.{◌≡◌, List, ◌∙◌, ap, sym, subst}
+use Rattle.z_types.specs.Chains.{StepsFrom}
 use Rattle.z_types.specs.declared.marks.Mark.{Mark}
 use Rattle.pool_sets.specs.Counts.{DoorCounts}
 use Rattle.conn_served.specs.Costs.{AreMarksOf, ArePaid, HaveCauses, tally_of, undialled}
+use Rattle.conn_served.specs.Runs.{GoesOnTo}
 use Rattle.front_conn.specs.steps.Answering.{Outside}
 use Rattle.front_conn.specs.steps.Drives.{ConnAt, conn_at, given_up_at, outside_of}
 use Rattle.front_conn.specs.steps.States.{ConnectionState}
-use Rattle.conn_served.specs.Runs.{GoesFrom}
 use Rattle.conn_served.specs.Serving.{IsServed, streams}
 use Rattle.conn_served.proofs.SeatLemmas.{run-back}
 use Rattle.serve.proofs.serving.serve_connection.Goals as goal
@@ -59,10 +60,10 @@ returns-clause-run g c =
       backend = here.outside.backend;
     } in record {
       last = comes.last;
-      gone = subst
+      stepped = subst
           (λ (s : ConnectionState g.row.B-Session.Denot).
-          GoesFrom g.W.World g.B.Session.Sitting g.B.Watched.exact c.args.route.now (record { conn = s; outside = before }) comes.last)
-          c.new-conn.ensures.new comes.gone;
+          StepsFrom (GoesOnTo g.W.World g.B.Session.Sitting g.B.Watched.exact c.args.route.now) (record { conn = s; outside = before }) comes.last)
+          c.new-conn.ensures.new comes.stepped;
       marks = c.into_marks.ensures ∙ ap (λ s. s.marks) c.give_up.ensures.state
           ∙ ap (λ (p : ConnAt g.row.B-Session.Denot). p.conn.marks) comes.left;
       left = given ∙ ap (λ (p : ConnAt g.row.B-Session.Denot). p.outside) comes.left;

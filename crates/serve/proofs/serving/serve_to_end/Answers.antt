@@ -7,7 +7,9 @@ use Rattle.z_types.specs.declared.marks.End.TheVariants.{Memory}
 use Rattle.conn_served.specs.steps.Serving.{GoesOn, IsWrittenOut}
 use Rattle.front_conn.specs.steps.States.{ConnectionState, IsConnOf}
 use Rattle.conn_served.specs.Costs.{AreMarksOf, ArePaid, HaveCauses, undialled}
-use Rattle.conn_served.proofs.RoundLemmas.{all-caused, all-paid, between-starts, goes-nowhere, goes-on, marks-on, round-meets, stands-so, tally_in}
+use Rattle.conn_served.specs.Runs.{GoesOnTo}
+use Rattle.z_types.proofs.ChainLemmas.{steps-nowhere, steps-on}
+use Rattle.conn_served.proofs.RoundLemmas.{all-caused, all-paid, between-starts, marks-on, round-meets, stands-so, tally_in}
 use Rattle.conn_served.proofs.ServingLemmas.{serving-memory, serving-starts}
 use Rattle.serve.proofs.serving.serve_to_end.Goals as goal
 
@@ -20,7 +22,7 @@ loop-round-init g c =
           (λ (s : ConnectionState g.row.S.Denot).
           IsConnOf g.W.World g.S.Sitting c.args.route.now (g.D.Door.counts c.args.door.now).most s)
           (sym c.requires.new) (λ e. record { sets = tt; in_work = tt; one_work = tt });
-      goes = goes-nowhere g.W.World g.S.Sitting g.B.Watched.exact c.args.route.now
+      goes = steps-nowhere (GoesOnTo g.W.World g.S.Sitting g.B.Watched.exact c.args.route.now)
           (conn_at g.D.Door g.B.Watched c.args.conn.now c.args.door.now c.args.backend.now);
       met = λ kind others h. h;
       paid = (c.costs_nothing.ensures g.B.Watched.exact c.args.route.now c.args.conn.now
@@ -55,7 +57,7 @@ loop-round-preserved g c =
           GoesOn g.W.World c.args.route.now start (streams g.I.Source g.K.Sink c.go_on.new.source c.go_on.new.sink) c.go_on.new.conn e)
           none (c.go_on.ensures.goes start c.loop-round.invariant.at);
       of = c.go_on.ensures.of;
-      goes = goes-on g.W.World g.S.Sitting g.B.Watched.exact c.args.route.now first mid here c.loop-round.invariant.goes round.so.goes;
+      goes = steps-on (GoesOnTo g.W.World g.S.Sitting g.B.Watched.exact c.args.route.now) first mid here c.loop-round.invariant.goes round.so.goes;
       met = round-meets c.args.route.now.pool first.conn mid.conn here.conn first.outside mid.outside here.outside
           c.loop-round.invariant.met round.so.met;
       paid = c.pays_on.ensures first.conn mid.conn here.conn first.outside mid.outside here.outside
@@ -103,7 +105,7 @@ returns-in-Some-clause-comes g c =
     let mid : ConnAt g.row.S.Denot = conn_at g.D.Door g.B.Watched c.loop-round.conn c.loop-round.door c.loop-round.backend in
     let round = c.in-Some.ensures.round in record {
       last = round.last;
-      gone = goes-on g.W.World g.S.Sitting g.B.Watched.exact c.args.route.now first mid round.last c.loop-round.invariant.goes round.so.goes;
+      stepped = steps-on (GoesOnTo g.W.World g.S.Sitting g.B.Watched.exact c.args.route.now) first mid round.last c.loop-round.invariant.goes round.so.goes;
       left = round.left;
     }
 
@@ -123,6 +125,6 @@ returns-clause-paid g c =
 pub returns-clause-comes : goal.returns-clause-comes
 returns-clause-comes g c = record {
   last = conn_at g.D.Door g.B.Watched c.loop-round.conn c.loop-round.door c.loop-round.backend;
-  gone = c.loop-round.invariant.goes;
+  stepped = c.loop-round.invariant.goes;
   left = refl;
 }

@@ -3,8 +3,8 @@ use Rattle.leg.specs.Terms.{terms_of}
 use Rattle.leg.proofs.AccountSteps.{may_count, account_fits, most_stays}
 use Rattle.leg.proofs.turns.Leg.turn.Goals as goal
 
-pub step-phase-requires-clause-counts : goal.step-phase-requires-clause-counts
-step-phase-requires-clause-counts g c =
+pub turn_phase-phase-requires-clause-counts : goal.turn_phase-phase-requires-clause-counts
+turn_phase-phase-requires-clause-counts g c =
     let k = c.self.invariant in
     let l = c.terms_of-terms.ensures in
     let own = c.self.inside in
@@ -14,9 +14,9 @@ step-phase-requires-clause-counts g c =
 
 pub returns-clause-bounds : goal.returns-clause-bounds
 returns-clause-bounds g c =
-    account_fits (want_of c.self.inside.task) c.step-phase.result.0 c.step-phase.new.account c.step-phase.ensures.step.holds.kept.account
+    account_fits (want_of c.self.inside.task) c.turn_phase-phase.result.0 c.turn_phase-phase.new.account c.turn_phase-phase.ensures.step.holds.kept.account
 
 pub returns-clause-most : goal.returns-clause-most
 returns-clause-most g c =
-    let law = c.step-phase.ensures.step.law in
+    let law = c.turn_phase-phase.ensures.step.law in
     rw law.door_counts (most_stays (want_of c.self.inside.task) law.deed (g.D.Door.counts c.args.door.now))

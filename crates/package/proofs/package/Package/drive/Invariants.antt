@@ -1,5 +1,6 @@
 use Rattle.std.proofs.Common.{◌≡◌}
-use Rattle.package.specs.steps.Drives.{GoesFrom, package_at}
+use Rattle.z_types.specs.Chains.{StepsFrom}
+use Rattle.package.specs.steps.Drives.{GoesOnTo, package_at}
 use Rattle.package.specs.steps.Packages.{IsPackageOf}
 use Rattle.package.proofs.package.Package.drive.Given as goal
 
@@ -11,7 +12,7 @@ invariant-loop-turn g l = record {
   route : l.flight.route.now ≡ l.initial.flight.route.now;
   of : IsPackageOf g.W.World g.S.Sitting l.flight.route.now (g.D.Door.counts l.flight.door.now).most l.flight.driven.now;
   most : (g.D.Door.counts l.flight.door.now).most ≡ (g.D.Door.counts l.initial.flight.door.now).most;
-  goes : GoesFrom g.W.World g.S.Sitting g.B.Watched.exact l.initial.flight.route.now
+  goes : StepsFrom (GoesOnTo g.W.World g.S.Sitting g.B.Watched.exact l.initial.flight.route.now)
       (package_at g.D.Door g.B.Watched l.initial.flight.driven.now l.initial.flight.door.now l.initial.flight.backend.now)
       (package_at g.D.Door g.B.Watched l.flight.driven.now l.flight.door.now l.flight.backend.now);
 }

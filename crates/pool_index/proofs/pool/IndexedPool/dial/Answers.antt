@@ -7,8 +7,8 @@ use Rattle.pool_index.specs.RosterView.{out_session}
 use Rattle.pool_index.proofs.Given.{ascends_upto}
 use Rattle.pool_index.proofs.pool.IndexedPool.dial.Goals as goal
 
-pub dial-requires : goal.dial-requires
-dial-requires g c =
+pub add_out-requires : goal.add_out-requires
+add_out-requires g c =
     let os = c.self.inside.roster.sessions in
     record {
       next = ascends_upto 0 (c.self.inside.given + 1) (2 ^ 64 - 1) _ (omega arith)
@@ -17,8 +17,8 @@ dial-requires g c =
 
 pub invariant_of-self-2 : goal.invariant_of-self-2
 invariant_of-self-2 g c =
-    pool_dials g.S.Sitting c.self.inside.roster.sessions c.dial.new.self.sessions c.self.inside.given c.self.inside.opens c.saturating_add-self-inside-2.result c.args.class c.member_for-member.result c.in-Ok.address
-    (ap (λ r. r.sessions) c.in-Ok-dial.ensures.ok) (omega arith) c.saturating_add-self-inside-2.ensures c.self.invariant
+    pool_dials g.S.Sitting c.self.inside.roster.sessions c.add_out.new.self.sessions c.self.inside.given c.self.inside.opens c.saturating_add-self-inside-2.result c.args.class c.member_for-member.result c.in-Ok.address
+    (ap (λ r. r.sessions) c.in-Ok-add_out.ensures.ok) (omega arith) c.saturating_add-self-inside-2.ensures c.self.invariant
 
 pub returns-clause-plain : goal.returns-clause-plain
 returns-clause-plain g c =
@@ -29,5 +29,5 @@ returns-clause-plain g c =
     let few : nat_lt (open_of class at os) c.self.inside.max_sessions ≡ true = lt-ltb (open_of class at os) c.self.inside.max_sessions below in
     let left : nat_lt c.self.inside.given (2 ^ 64 - 1) ≡ true = lt-ltb c.self.inside.given (2 ^ 64 - 1) (omega arith) in
     let member : c.member_for-member.result ≡ member_for class at os = c.member_for-member.ensures.member ∙ ap (member_for class at) (all_pass os) in
-    rw (← c.self.view_is, c.in-Ok-dial.ensures.ok) (dial_plain class at _ c.member_for-member.result c.in-Ok.address _ few left member
+    rw (← c.self.view_is, c.in-Ok-add_out.ensures.ok) (dial_plain class at _ c.member_for-member.result c.in-Ok.address _ few left member
     (address_is at c.member_for-member.result c.index-at-member.result c.in-Ok.address c.member_for-member.ensures.within c.index-at-member.is c.in-Ok.ensures) refl)

@@ -1,5 +1,5 @@
 use Rattle.std.proofs.Common.{◌∙◌, ◌^◌, ◌-◌, ap, subst, sym}
-use Rattle.pool_core.specs.PoolView.{Ascends}
+use Rattle.pool_sets.specs.Plain.{Ascends}
 use Rattle.pool_index.specs.Told.{told}
 use Rattle.pool_index.proofs.Settling.{told_same, berths_same}
 use Rattle.pool_index.proofs.Rosters.{rise_in}

@@ -1,7 +1,7 @@
 use Rattle.std.proofs.Common.{◌∙◌, sym, ap, subst}
 use Rattle.z_client.specs.declared.backend.ZBackend.{ZBackend}
 use Rattle.z_client.specs.declared.own.Own.{Own}
-use Rattle.z_client.specs.declared.session.Parts.{Parts}
+use Rattle.z_client.specs.declared.session.LinkParts.{LinkParts}
 use Rattle.z_client.specs.Heard.{IsBreach}
 use Rattle.z_client.specs.Sets.{pending_of}
 use Rattle.z_client.proofs.backend.ZBackendBackend.look.Goals as goal
@@ -14,5 +14,5 @@ returns-clause-breach g c = λ rose.
       | in-Gone w ↦ absurd (rose (ap (λ (b : ZBackend g.row.N.Denot). b.own.breaches) w.self-is ∙ ap (λ (o : Own). o.breaches) w.count_gone.ensures))
       | in-Breach w ↦
           subst (λ octets. IsBreach (pending_of c.args.session.now.waiting) octets) (sym (ap (λ (b : ZBackend g.row.N.Denot). b.last) w.self-is))
-          (subst (λ (s : Parts g.row.N-Link.Denot). IsBreach (pending_of s.waiting) w.in-Breach.octets) c.session.view_is w.in-Breach.ensures.found.breach)
+          (subst (λ (s : LinkParts g.row.N-Link.Denot). IsBreach (pending_of s.waiting) w.in-Breach.octets) c.session.view_is w.in-Breach.ensures.found.breach)
     ]

@@ -1,5 +1,0 @@
-use Rattle.conn_costs.proofs.KeptLemmas.{leaves}
-use Rattle.conn_costs.proofs.laws.leaves_no_more.Goals as goal
-
-pub returns : goal.returns
-returns g c = λ pool kind state. leaves pool kind state

@@ -1,5 +1,0 @@
-use Rattle.conn_costs.proofs.KeptLemmas.{starts}
-use Rattle.conn_costs.proofs.laws.starts_costless.Goals as goal
-
-pub returns : goal.returns
-returns g c = λ route. starts route

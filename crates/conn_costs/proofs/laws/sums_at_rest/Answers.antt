@@ -1,5 +1,0 @@
-use Rattle.conn_costs.proofs.KeptLemmas.{summed}
-use Rattle.conn_costs.proofs.laws.sums_at_rest.Goals as goal
-
-pub returns : goal.returns
-returns g c = λ state rests. summed state rests

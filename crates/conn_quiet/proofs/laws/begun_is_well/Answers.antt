@@ -1,5 +1,0 @@
-use Rattle.conn_quiet.proofs.PackageLemmas.{new-well}
-use Rattle.conn_quiet.proofs.laws.begun_is_well.Goals as goal
-
-pub returns : goal.returns
-returns g c = λ route work. new-well g.W.World g.S.Sitting route work

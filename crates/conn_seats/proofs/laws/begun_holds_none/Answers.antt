@@ -1,8 +1,0 @@
-use Rattle.std.proofs.Common.{◌++◌}
-use Rattle.package.specs.steps.Packages.{new_package}
-use Rattle.conn_seats.proofs.PackageLemmas.{new-none, none-held}
-use Rattle.conn_seats.proofs.laws.begun_holds_none.Goals as goal
-
-pub returns : goal.returns
-returns g c = λ route work others pool h.
-    none-held ((new_package route work).first ++ (new_package route work).later) others pool (new-none route work) h

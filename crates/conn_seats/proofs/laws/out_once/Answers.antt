@@ -1,5 +1,0 @@
-use Rattle.conn_seats.proofs.CountLemmas.{once}
-use Rattle.conn_seats.proofs.laws.out_once.Goals as goal
-
-pub returns : goal.returns
-returns g c = λ pool seat a. once seat 0 pool.given pool.sessions a

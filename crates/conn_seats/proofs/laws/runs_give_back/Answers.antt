@@ -1,5 +1,0 @@
-use Rattle.conn_seats.proofs.ThroughLemmas.{run-gives-back}
-use Rattle.conn_seats.proofs.laws.runs_give_back.Goals as goal
-
-pub returns : goal.returns
-returns g c = λ exact route pool points seat a h. run-gives-back g.W.World g.S.Sitting exact route pool points seat a h

@@ -1,7 +1,0 @@
-use Rattle.std.proofs.Common.{refl, true}
-use Rattle.conn_shares.proofs.RequestLemmas.{begun-may}
-use Rattle.conn_shares.proofs.laws.begun_may_share.Goals as goal
-
-pub returns : goal.returns
-returns g c = λ route now before work fair numbers may.
-    begun-may g.W.World g.S.Sitting true route now before work refl fair numbers may

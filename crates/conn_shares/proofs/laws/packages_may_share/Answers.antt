@@ -1,7 +1,0 @@
-use Rattle.std.proofs.Common.{refl, true}
-use Rattle.conn_shares.proofs.RequestLemmas.{package-may}
-use Rattle.conn_shares.proofs.laws.packages_may_share.Goals as goal
-
-pub returns : goal.returns
-returns g c = λ route now before work most view fair numbers may is of.
-    package-may g.W.World g.S.Sitting true route now before work refl fair numbers may most view is of

@@ -1,5 +1,0 @@
-use Rattle.conn_works.proofs.BegunLemmas.{new-begun}
-use Rattle.conn_works.proofs.laws.begins_none.Goals as goal
-
-pub returns : goal.returns
-returns g c = λ route. new-begun g.W.World g.row.S.Denot route

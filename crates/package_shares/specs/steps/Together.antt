@@ -1,0 +1,83 @@
+-- For contracts alone: legs together over a told pool at one moment, each of a class of its own (this project's own)
+use Rattle.std.specs.Prelude.{◌≡◌, ℕ, nat_eq, false, List, [], ◌∷◌, map, Option, Some}
+use Rattle.std.specs.List.{AllByRecursion, IsDistinct, list_any}
+use Rattle.z_types.specs.declared.sitting.Sitting as sitting
+use Rattle.z_types.specs.declared.world.World as world
+use Rattle.route_config.specs.declared.route.Route.{Route}
+use Rattle.pool_sets.specs.Plain.{Pool}
+use Rattle.leg.specs.Kept.{one_if}
+use Rattle.leg.specs.LegView.{LegView}
+use Rattle.leg.specs.Phases.{IsDone}
+use Rattle.leg.specs.Tasks.{want_of}
+use Rattle.leg.specs.Terms.{class_of}
+use Rattle.sharing_rules.specs.Uses.{Use}
+use Rattle.sharing_rules.specs.steps.Shared.{dial_due, search_due, use_now}
+use Rattle.package_quiet.specs.steps.Quiet.{HasNoCause}
+use Rattle.leg_shares.specs.steps.Pools.{IsPoolOf, MayUse}
+use Rattle.leg_shares.specs.steps.Sharing.{IsKeptBehind, Shares}
+
+-- ---- their uses
+
+module _ {S : Type 0} where
+  -- the class of a leg
+  abbrev pub class_in : Route → LegView S → ℕ
+  class_in route leg = class_of route leg.leg
+
+  abbrev pub classes_of : Route → List (LegView S) → List ℕ
+  classes_of route legs = map (class_in route) legs
+
+  -- none of the legs goes to the class
+  abbrev pub IsOfNone : Route → List (LegView S) → ℕ → Type 0
+  IsOfNone route legs class = list_any (nat_eq class) (classes_of route legs) ≡ false
+
+  -- no two go to one class
+  abbrev pub AreApart : Route → List (LegView S) → Type 0
+  AreApart route legs = IsDistinct nat_eq (classes_of route legs)
+
+  -- the use of a leg
+  abbrev pub use_of : Route → ℕ → LegView S → Use
+  use_of route now leg = use_now (class_in route leg) now (want_of leg.task)
+
+  -- those of legs behind others, the last one first
+  abbrev pub uses_behind : Route → ℕ → List Use → List (LegView S) → List Use
+  uses_behind route now before [] = before
+  uses_behind route now before (leg ∷ legs) = uses_behind route now (use_of route now leg ∷ before) legs
+
+  -- nothing went wrong with them
+  abbrev pub AreUndisturbed : List (LegView S) → Type 0
+  AreUndisturbed legs = AllByRecursion (λ leg. HasNoCause leg.account) legs
+
+module _ {W S : Type 0} (w : world.Ghosts W) (route : Route) (now : ℕ) (before : List Use) where
+  -- each class is kept behind these uses
+  pub record AreAllKept (pool : Pool S) : Type 0 where
+    pub of : IsPoolOf route pool
+    pub each : (class : ℕ) → IsKeptBehind w route class now before pool
+
+  -- legs go to different classes, which may be used
+  pub record MayShare (legs : List (LegView S)) : Type 0 where
+    pub apart : AreApart route legs
+    pub each : AllByRecursion (λ leg. MayUse w route (class_in route leg) now before (want_of leg.task)) legs
+
+  -- a leg that is done had the dials and searches that its use needs
+  pub record HadItsCost (leg : LegView S) : Type 0 where
+    pub done : IsDone leg.phase
+    pub dials : leg.account.dials ≡ one_if (dial_due route (class_in route leg) now before)
+    pub searches : leg.account.searches ≡ one_if (search_due w route (class_in route leg) now before (want_of leg.task))
+
+-- ---- where they stand
+
+module _ {W S : Type 0} (w : world.Ghosts W) (t : sitting.Ghosts S W) (route : Route) (now : ℕ) (before : List Use) where
+  abbrev pub IsSharing : Pool S → LegView S → Type 0
+  IsSharing pool leg = Shares w t route (class_in route leg) now before leg.task leg.phase leg.account pool
+
+  -- each shares its class, and the classes that none of them goes to are kept
+  pub record AreSharing (legs : List (LegView S)) (pool : Pool S) : Type 0 where
+    pub of : IsPoolOf route pool
+    pub each : AllByRecursion (IsSharing pool) legs
+    pub rest : (class : ℕ) → IsOfNone route legs class → IsKeptBehind w route class now before pool
+
+  -- so over a pool that is told
+  pub record AreSharingOver (legs : List (LegView S)) (after : Option (Pool S)) : Type 0 where
+    pub pool : Pool S
+    pub told : after ≡ Some pool
+    pub share : AreSharing legs pool
