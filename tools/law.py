@@ -11,13 +11,15 @@ CRATES = TOP / "crates"
 PAGE = TOP / "docs" / "LAW.md"
 HEADLINE = CRATES / "gateway_top" / "specs" / "Headline.antt"
 BEGINS = re.compile(r"(?:(?:abbrev|unfoldable|pub|record|data|opaque) )+(?P<name>[^\s:{(]+)")
-IMPORT = re.compile(r"^\s*(?:ghost )?use (?P<path>Rattle\.\w+\.[\w.]+?)(?:\.\{(?P<names>[^}]*)\}| as (?P<alias>\w+))?;?$", re.M)
+IMPORT = re.compile(r"^\s*(?:ghost )?use (?P<path>Rattle\.\w+\.[\w.«»]+?)(?:\.\{(?P<names>[^}]*)\}| as (?P<alias>\w+))?;?$", re.M)
 WORD = re.compile(r"[^\W\d][\w']*(?:\.[\w']+)*")
 
 
 def target(path):
     """The file that a path leads into, and the name that is left of it; none where it leads into std."""
-    _, crate, kind, *rest = path.split(".")
+    _, crate, kind, *rest = path.replace("«", "").replace("»", "").split(".")
+    while rest and (CRATES / rest[0]).is_dir():
+        crate, *rest = rest
     if not (CRATES / crate).is_dir():
         return None
     if kind != "specs" or rest[:1] == ["contracts"]:

@@ -5,7 +5,7 @@ use Rattle.z_types.specs.Numbers.{HasNumbers}
 use Rattle.z_types.specs.declared.work.Work.{Work}
 use Rattle.route_config.specs.declared.route.Route.{Route}
 use Rattle.gateway_rules.specs.Works.{CanBegin, IsAskable}
-use Rattle.package_rules.specs.Planned.{AreThere}
+use Rattle.package.specs.package_rules.Planned.{AreThere}
 use Rattle.z_types.specs.declared.query.Attr.{Attr}
 
 -- an attribute of one type and value

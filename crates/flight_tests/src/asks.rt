@@ -3,10 +3,10 @@
 ghost use Rattle.std.specs.Prelude.{ℕ, ◌<◌, ◌≤◌, [], All, IfOk, length};
 ghost use Rattle.gw_outside.specs.Asks.{AreFewShort, HasNoSet, MaySearch};
 ghost use Rattle.z_sets.specs.Askable.{IsAskableQuery};
-ghost use Rattle.leg.specs.Turns.{IsLegOf};
+ghost use Rattle.package.specs.leg.Turns.{IsLegOf};
 ghost use Rattle.flight_tests.specs.Flown.{IsOneAttribute};
 
-use leg::{Job, Leg, LegAsk};
+use package::leg::{Job, Leg, LegAsk};
 use route_config::Route;
 use std::alloc::Global;
 use z_types::{Attr, List, Memory, Oid, Rpn, RpnQuery, SetKey, Sitting, Term, Text, World};

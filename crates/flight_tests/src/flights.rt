@@ -1,13 +1,13 @@
 //! Legs that are waited for.
 
 ghost use Rattle.std.specs.Prelude.{All, IfOk, map};
-ghost use Rattle.leg.specs.Turns.{IsLegOf};
+ghost use Rattle.package.specs.leg.Turns.{IsLegOf};
 ghost use Rattle.package.specs.steps.Flights.{Gives};
 ghost use Rattle.package.specs.steps.Packages.{asked_of};
 
 use futures::executor::block_on;
 use gw_outside::{Backend, Clock};
-use leg::{Account, Leg, LegAnswer};
+use package::leg::{Account, Leg, LegAnswer};
 use package::AllLegs;
 use pool_sets::Door;
 use route_config::Route;

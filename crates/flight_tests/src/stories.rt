@@ -5,7 +5,7 @@ use crate::flights::wait_for_all;
 use crate::outside::{CountingClock, Session, slow_targets};
 use crate::routes::{SIXTEEN, THREE_LEGS, TWO_LOOKS, route_of, sixteen_legs};
 use crate::stories::Wanted::{Hits, Marked};
-use leg::{Account, Leg, LegAnswer};
+use package::leg::{Account, Leg, LegAnswer};
 use pool_core::Pool;
 use route_config::Route;
 use std::alloc::Global;

@@ -7,8 +7,8 @@ use Rattle.z_types.specs.declared.marks.End.{End}
 use Rattle.z_types.specs.declared.marks.End.TheVariants.{Finished, Cut}
 use Rattle.z_ber.specs.Frames.{IsFrame}
 use Rattle.z_frame.specs.Framing.{Framing, IsGiven}
-use Rattle.gateway_rules.specs.Answers as kind
-use Rattle.gateway_rules.specs.Answers.{kind_of, IsOpen, IsBad}
+use Rattle.front_z.specs.gateway_rules.Answers as kind
+use Rattle.front_z.specs.gateway_rules.Answers.{kind_of, IsOpen, IsBad}
 use Rattle.front_conn.specs.steps.States.{ConnectionState}
 use Rattle.sru_request.specs.Head.{head_length}
 use Rattle.sru_request.specs.Request.{IsAnswerIn, IsHeadAnswer, most_head_octets}

@@ -13,17 +13,17 @@ use Rattle.z_types.specs.declared.work.Work.{Work}
 use Rattle.route_config.specs.Sound.{IsSound}
 use Rattle.route_config.specs.declared.route.Route.{Route}
 use Rattle.unit_forms.specs.Replies.{spell_reply}
-use Rattle.gateway_rules.specs.Asking as asking
-use Rattle.gateway_rules.specs.Asking.{Asking, asked_with}
-use Rattle.gateway_rules.specs.Course as course
-use Rattle.gateway_rules.specs.Course.{Meeting, met}
-use Rattle.gateway_rules.specs.Replies.{bad_unit_reply, close_reply, limit_reply}
-use Rattle.gateway_rules.specs.Statuses.{finished}
-use Rattle.front_session.specs.Admitting.{hits_named}
-use Rattle.front_session.specs.Sessions.{SessionState, Waiting, client_of, progress_of}
+use Rattle.front_z.specs.gateway_rules.Asking as asking
+use Rattle.front_z.specs.gateway_rules.Asking.{Asking, asked_with}
+use Rattle.front_z.specs.gateway_rules.Course as course
+use Rattle.front_z.specs.gateway_rules.Course.{Meeting, met}
+use Rattle.front_z.specs.gateway_rules.Replies.{bad_unit_reply, close_reply, limit_reply}
+use Rattle.front_z.specs.gateway_rules.Statuses.{finished}
+use Rattle.front_z.specs.front_session.Admitting.{hits_named}
+use Rattle.front_z.specs.front_session.Sessions.{SessionState, Waiting, client_of, progress_of}
 use Rattle.front_z.specs.Units.{IsBegun, IsDueBegun, IsEnded, IsMetBegun, Served}
 use Rattle.front_z.specs.declared.units.Begun.TheVariants as begun
-use Rattle.package_rules.specs.Planned.{AreThere}
+use Rattle.package.specs.package_rules.Planned.{AreThere}
 use Rattle.front_conn.specs.steps.States.{HasLegsOf, IsWaitedFor}
 use Rattle.front_conn.proofs.WorkLemmas.{work-there}
 

@@ -8,12 +8,12 @@ use Rattle.z_types.specs.declared.sitting.Sitting as sitting
 use Rattle.z_types.specs.declared.work.Work.{Work}
 use Rattle.z_types.specs.declared.world.World as world
 use Rattle.route_config.specs.declared.route.Route.{Route}
-use Rattle.front_session.specs.Sessions.{SessionState}
+use Rattle.front_z.specs.front_session.Sessions.{SessionState}
 use Rattle.front_z.specs.Units.{IsBegun}
 use Rattle.front_z.specs.declared.units.Begun.TheVariants as begun
 use Rattle.package.specs.steps.Packages.{IsPackageOf, PackageView, new_package}
-use Rattle.front_sru.specs.declared.state.SruStage.{SruStage}
-use Rattle.front_sru.specs.declared.state.SruStage.TheVariants.{Idle}
+use Rattle.front_http.specs.front_sru.declared.state.SruStage.{SruStage}
+use Rattle.front_http.specs.front_sru.declared.state.SruStage.TheVariants.{Idle}
 use Rattle.front_conn.specs.declared.totals.Total.{Total}
 use Rattle.front_conn.specs.steps.Answering.{AnsweringState, IsBegunSo, IsListed, IsWorkBegun, served, with_package}
 use Rattle.front_conn.specs.steps.States.{IsOneWork}

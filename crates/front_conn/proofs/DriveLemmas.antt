@@ -10,8 +10,8 @@ use Rattle.z_types.specs.declared.work.Work.{Work}
 use Rattle.z_types.specs.declared.world.World as world
 use Rattle.z_frame.specs.Framing.{Framing}
 use Rattle.route_config.specs.declared.route.Route.{Route}
-use Rattle.leg.specs.declared.answers.Turned.{Turned}
-use Rattle.leg.specs.declared.answers.Turned.TheVariants as turned
+use Rattle.package.specs.leg.declared.answers.Turned.{Turned}
+use Rattle.package.specs.leg.declared.answers.Turned.TheVariants as turned
 use Rattle.package.specs.steps.Drives as package_drives
 use Rattle.package.specs.steps.Drives.{PackageAt}
 use Rattle.package.specs.steps.Packages.{IsPackageOf, PackageView}

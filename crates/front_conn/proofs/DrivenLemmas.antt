@@ -9,13 +9,13 @@ use Rattle.z_types.specs.declared.sitting.Sitting as sitting
 use Rattle.z_types.specs.declared.world.World as world
 use Rattle.z_frame.specs.Framing.{Framing}
 use Rattle.route_config.specs.declared.route.Route.{Route}
-use Rattle.front_sru.specs.declared.begun.Begun as sru_begun
-use Rattle.front_sru.specs.declared.begun.Begun.TheVariants as get
-use Rattle.front_sru.specs.declared.state.SruStage.{SruStage}
-use Rattle.front_sru.specs.declared.state.SruStage.TheVariants as stage
-use Rattle.leg.specs.declared.answers.Turned.{Turned}
-use Rattle.leg.specs.declared.answers.Turned.TheVariants as turned
-use Rattle.leg.specs.Turns.{DoorView}
+use Rattle.front_http.specs.front_sru.declared.begun.Begun as sru_begun
+use Rattle.front_http.specs.front_sru.declared.begun.Begun.TheVariants as get
+use Rattle.front_http.specs.front_sru.declared.state.SruStage.{SruStage}
+use Rattle.front_http.specs.front_sru.declared.state.SruStage.TheVariants as stage
+use Rattle.package.specs.leg.declared.answers.Turned.{Turned}
+use Rattle.package.specs.leg.declared.answers.Turned.TheVariants as turned
+use Rattle.package.specs.leg.Turns.{DoorView}
 use Rattle.package.specs.steps.Ends.{lost_seats}
 use Rattle.package.specs.steps.Packages.{PackageView}
 use Rattle.front_conn.specs.declared.stepped.Stepped.{Stepped}

@@ -12,21 +12,21 @@ use Rattle.z_types.specs.Bounds.{within64}
 use Rattle.route_config.specs.declared.route.Route.{Route}
 use Rattle.unit_forms.specs.Replies.{spell_reply}
 use Rattle.z_ber.specs.Frames.{IsFrame}
-use Rattle.gateway_rules.specs.Answers as kind
-use Rattle.gateway_rules.specs.Answers.{Kind, kind_of, IsReceived, IsOpen, IsBad, IsCourseOf, RestLeadsTo}
+use Rattle.front_z.specs.gateway_rules.Answers as kind
+use Rattle.front_z.specs.gateway_rules.Answers.{Kind, kind_of, IsReceived, IsOpen, IsBad, IsCourseOf, RestLeadsTo}
 use Rattle.sru_request.specs.Request.{IsHeadAnswer}
 use Rattle.sru_request.specs.declared.head.HeadGot.TheVariants.{NeedMore}
-use Rattle.sru_rules.specs.Answers.{Answers}
-use Rattle.sru_rules.specs.Laws.{HeadIsCut}
-use Rattle.gateway_rules.specs.Course as course
-use Rattle.gateway_rules.specs.Course.{Received, octets_of, ends}
-use Rattle.gateway_rules.specs.Runs.{marks_of, written_as}
-use Rattle.gateway_rules.specs.Replies.{bad_unit_reply}
-use Rattle.gateway_rules.specs.Session as session
-use Rattle.gateway_rules.specs.Session.{run, stopped}
-use Rattle.gateway_rules.specs.State.{new_client, at_the_start}
-use Rattle.gateway_rules.proofs.OneEnding.{extent-filled}
-use Rattle.gateway_rules.proofs.Runs.{rest-ends}
+use Rattle.front_http.specs.sru_rules.Answers.{Answers}
+use Rattle.front_http.specs.sru_rules.Laws.{HeadIsCut}
+use Rattle.front_z.specs.gateway_rules.Course as course
+use Rattle.front_z.specs.gateway_rules.Course.{Received, octets_of, ends}
+use Rattle.front_z.specs.gateway_rules.Runs.{marks_of, written_as}
+use Rattle.front_z.specs.gateway_rules.Replies.{bad_unit_reply}
+use Rattle.front_z.specs.gateway_rules.Session as session
+use Rattle.front_z.specs.gateway_rules.Session.{run, stopped}
+use Rattle.front_z.specs.gateway_rules.State.{new_client, at_the_start}
+use Rattle.front_z.proofs.gateway_rules.OneEnding.{extent-filled}
+use Rattle.front_z.proofs.gateway_rules.Runs.{rest-ends}
 use Rattle.front_conn.specs.steps.States.{BeginsWithUnits, ConnectionState, MayCome, Rests}
 use Rattle.front_conn.specs.steps.Steps.{KeepsState}
 use Rattle.front_conn.proofs.StateLemmas.{as-none, as-units, kind-fed, kind-more, of-ended, rests-of}

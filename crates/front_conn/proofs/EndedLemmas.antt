@@ -9,13 +9,13 @@ use Rattle.z_types.specs.declared.sitting.Sitting as sitting
 use Rattle.z_types.specs.declared.work.Work.{Work}
 use Rattle.z_types.specs.declared.world.World as world
 use Rattle.route_config.specs.declared.route.Route.{Route}
-use Rattle.gateway_rules.specs.Works.{FitsWork}
-use Rattle.front_session.specs.Sessions.{SessionState, Waiting}
+use Rattle.front_z.specs.gateway_rules.Works.{FitsWork}
+use Rattle.front_z.specs.front_session.Sessions.{SessionState, Waiting}
 use Rattle.front_z.specs.Units.{IsEnded}
-use Rattle.leg.specs.declared.accounts.Account.{Account}
-use Rattle.leg.specs.declared.answers.Turned.{Turned}
-use Rattle.leg.specs.declared.answers.Turned.TheVariants as what
-use Rattle.leg.specs.LegView.{LegView}
+use Rattle.package.specs.leg.declared.accounts.Account.{Account}
+use Rattle.package.specs.leg.declared.answers.Turned.{Turned}
+use Rattle.package.specs.leg.declared.answers.Turned.TheVariants as what
+use Rattle.package.specs.leg.LegView.{LegView}
 use Rattle.package.specs.steps.Ends.{cause_in, lost_seats, outcome_in}
 use Rattle.pool_sets.specs.Plain as plain
 use Rattle.package.specs.steps.Packages.{IsOver, IsPackageOf, PackageView, all_accounts}
@@ -24,12 +24,12 @@ use Rattle.front_conn.specs.declared.stepped.Stepped.{Stepped}
 use Rattle.front_conn.specs.declared.totals.Total.{Total}
 use Rattle.front_conn.specs.steps.Answering.{AnsweringState, EndsAt, EndsWork, IsAnsweredBy, IsEndAfter, IsGetEndedIf, IsKeptBehindGet, IsReady, IsRequestEndedIf, Outside, TurnsWork, WorksOn, given_up, legs_in, served, totals_of_all}
 use Rattle.front_conn.specs.steps.States.{IsOneWork, IsWaitedAt, IsWaitedFor}
-use Rattle.front_sru.specs.Gets.{work_of}
-use Rattle.front_sru.specs.Kept.{is_idle}
-use Rattle.front_sru.specs.declared.begun.Begun as sru_begun
-use Rattle.front_sru.specs.declared.begun.Begun.TheVariants as get
-use Rattle.front_sru.specs.declared.state.SruStage.{SruStage}
-use Rattle.front_sru.specs.declared.state.SruStage.TheVariants.{Idle, Searching, Fetching}
+use Rattle.front_http.specs.front_sru.Gets.{work_of}
+use Rattle.front_http.specs.front_sru.Kept.{is_idle}
+use Rattle.front_http.specs.front_sru.declared.begun.Begun as sru_begun
+use Rattle.front_http.specs.front_sru.declared.begun.Begun.TheVariants as get
+use Rattle.front_http.specs.front_sru.declared.state.SruStage.{SruStage}
+use Rattle.front_http.specs.front_sru.declared.state.SruStage.TheVariants.{Idle, Searching, Fetching}
 use Rattle.z_types.specs.declared.marks.End.{End}
 use Rattle.front_conn.specs.steps.Totals.{totals_after}
 

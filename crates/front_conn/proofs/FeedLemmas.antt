@@ -4,17 +4,17 @@ use Rattle.z_types.specs.declared.marks.End.{End}
 use Rattle.z_types.specs.declared.sitting.Sitting as sitting
 use Rattle.z_types.specs.declared.world.World as world
 use Rattle.route_config.specs.declared.route.Route.{Route}
-use Rattle.sru_rules.specs.Answers.{Answers}
-use Rattle.front_sru.specs.declared.state.SruStage.{SruStage}
-use Rattle.front_sru.specs.declared.state.SruStage.TheVariants.{Idle, Searching, Fetching}
+use Rattle.front_http.specs.sru_rules.Answers.{Answers}
+use Rattle.front_http.specs.front_sru.declared.state.SruStage.{SruStage}
+use Rattle.front_http.specs.front_sru.declared.state.SruStage.TheVariants.{Idle, Searching, Fetching}
 use Rattle.front_http.specs.Laws.{GetsStand}
-use Rattle.gateway_rules.specs.Answers as kind
-use Rattle.gateway_rules.specs.Answers.{kind_of}
-use Rattle.gateway_rules.specs.Course.{Received, octets_of}
-use Rattle.gateway_rules.specs.Session as session
-use Rattle.gateway_rules.specs.Session.{stopped}
-use Rattle.gateway_rules.specs.State.{new_client, at_the_start}
-use Rattle.front_session.specs.Sessions.{SessionState}
+use Rattle.front_z.specs.gateway_rules.Answers as kind
+use Rattle.front_z.specs.gateway_rules.Answers.{kind_of}
+use Rattle.front_z.specs.gateway_rules.Course.{Received, octets_of}
+use Rattle.front_z.specs.gateway_rules.Session as session
+use Rattle.front_z.specs.gateway_rules.Session.{stopped}
+use Rattle.front_z.specs.gateway_rules.State.{new_client, at_the_start}
+use Rattle.front_z.specs.front_session.Sessions.{SessionState}
 use Rattle.package.specs.steps.Packages.{PackageView}
 use Rattle.front_conn.specs.steps.Feeding.{EndsAnswered, StandsAtStart, StandsWhenEnded, StandsWhenFed, StandsWhenWritten, StaysOfRoute, fed_piece, with_end, without_out}
 use Rattle.front_conn.specs.steps.States.{BeginsWithUnits, ConnectionState, HasAnswered, HasEnded, IsConnOf, IsStateOf, MayCome, Rests, StandsOrEnded, Works, WorksAt, WorksOnGet}

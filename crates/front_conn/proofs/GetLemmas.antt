@@ -9,14 +9,14 @@ use Rattle.z_types.specs.declared.sitting.Sitting as sitting
 use Rattle.z_types.specs.declared.work.Work.{Work}
 use Rattle.z_types.specs.declared.world.World as world
 use Rattle.route_config.specs.declared.route.Route.{Route}
-use Rattle.gateway_rules.specs.Works.{mark_of}
+use Rattle.front_z.specs.gateway_rules.Works.{mark_of}
 use Rattle.package.specs.steps.Ends.{cause_in, outcome_in}
 use Rattle.package.specs.steps.Packages.{IsPackageOf, PackageView, answers_of, new_package}
-use Rattle.package_rules.specs.Planned.{AreThere}
-use Rattle.package_rules.specs.Truth.{FinishedHasMark}
-use Rattle.front_sru.specs.Gets.{Awaits, IsEnded, Served, work_of}
-use Rattle.front_sru.specs.declared.begun.Begun.TheVariants as get
-use Rattle.front_sru.specs.declared.state.SruStage.{SruStage}
+use Rattle.package.specs.package_rules.Planned.{AreThere}
+use Rattle.package.specs.package_rules.Truth.{FinishedHasMark}
+use Rattle.front_http.specs.front_sru.Gets.{Awaits, IsEnded, Served, work_of}
+use Rattle.front_http.specs.front_sru.declared.begun.Begun.TheVariants as get
+use Rattle.front_http.specs.front_sru.declared.state.SruStage.{SruStage}
 use Rattle.front_http.proofs.Gets.{get-fetch, get-mark, get-out}
 use Rattle.front_conn.specs.steps.Answering.{AnsweringState, IsGetEndedIf, IsListed, IsReady, IsWorkBegun, get_served}
 use Rattle.front_conn.specs.steps.States.{IsOneWork}

@@ -8,22 +8,22 @@ use Rattle.z_types.specs.declared.work.Work.{Work}
 use Rattle.z_types.specs.declared.world.World as world
 use Rattle.route_config.specs.declared.route.Database.{Database}
 use Rattle.route_config.specs.declared.route.Route.{Route}
-use Rattle.gateway_rules.specs.Answers as kind
-use Rattle.gateway_rules.specs.Answers.{kind_of}
+use Rattle.front_z.specs.gateway_rules.Answers as kind
+use Rattle.front_z.specs.gateway_rules.Answers.{kind_of}
 use Rattle.package.specs.steps.Packages.{PackageView, new_package}
-use Rattle.front_session.specs.Sessions.{Waiting}
+use Rattle.front_z.specs.front_session.Sessions.{Waiting}
 use Rattle.sru_request.specs.declared.faults.HeadFault.{HeadFault}
 use Rattle.sru_request.specs.declared.faults.HeadFault.TheVariants.{BadHttp, NotGet, HeadTooLarge, Memory}
 use Rattle.sru_request.specs.declared.head.Get.{Get}
-use Rattle.sru_rules.specs.declared.retrieval.Retrieval.{Retrieval}
-use Rattle.sru_rules.specs.Answers.{Answers}
-use Rattle.sru_rules.specs.Course.{database_of}
-use Rattle.sru_rules.specs.Run.{Due, at_once, due, searches}
-use Rattle.front_sru.specs.Gets.{IsDueDone, IsFoundBegun, Served, work_of}
-use Rattle.front_sru.specs.declared.begun.Begun as sru_begun
-use Rattle.front_sru.specs.declared.begun.Begun.TheVariants as get
-use Rattle.front_sru.specs.declared.state.SruStage.{SruStage}
-use Rattle.front_sru.specs.declared.state.SruStage.TheVariants.{Idle, Searching, Fetching}
+use Rattle.front_http.specs.sru_rules.declared.retrieval.Retrieval.{Retrieval}
+use Rattle.front_http.specs.sru_rules.Answers.{Answers}
+use Rattle.front_http.specs.sru_rules.Course.{database_of}
+use Rattle.front_http.specs.sru_rules.Run.{Due, at_once, due, searches}
+use Rattle.front_http.specs.front_sru.Gets.{IsDueDone, IsFoundBegun, Served, work_of}
+use Rattle.front_http.specs.front_sru.declared.begun.Begun as sru_begun
+use Rattle.front_http.specs.front_sru.declared.begun.Begun.TheVariants as get
+use Rattle.front_http.specs.front_sru.declared.state.SruStage.{SruStage}
+use Rattle.front_http.specs.front_sru.declared.state.SruStage.TheVariants.{Idle, Searching, Fetching}
 use Rattle.front_http.specs.Gets.{IsAnswered, WaitsFor}
 use Rattle.front_http.specs.Heads.{IsFaultBegun, IsHeadBegun}
 use Rattle.front_http.specs.Laws.{HeadsAnswer, HeadsStand}

@@ -14,15 +14,15 @@ use Rattle.route_config.specs.Sound.{AllBelow, IsSound}
 use Rattle.route_config.specs.declared.route.Database.{Database}
 use Rattle.route_config.specs.declared.route.Route.{Route}
 use Rattle.package.specs.steps.Packages.{IsPackageOf, PackageView, new_package}
-use Rattle.package_rules.specs.Planned.{AreThere}
+use Rattle.package.specs.package_rules.Planned.{AreThere}
 use Rattle.sru_request.specs.Name.{name_of}
 use Rattle.sru_request.specs.declared.faults.HeadFault.{HeadFault}
 use Rattle.sru_request.specs.declared.head.Get.{Get}
-use Rattle.front_session.specs.Sessions.{Waiting}
-use Rattle.front_sru.specs.Gets.{Awaits, Served, work_of}
-use Rattle.front_sru.specs.declared.begun.Begun.TheVariants as get
-use Rattle.front_sru.specs.declared.state.SruStage.{SruStage}
-use Rattle.front_sru.specs.declared.state.SruStage.TheVariants.{Idle, Searching, Fetching}
+use Rattle.front_z.specs.front_session.Sessions.{Waiting}
+use Rattle.front_http.specs.front_sru.Gets.{Awaits, Served, work_of}
+use Rattle.front_http.specs.front_sru.declared.begun.Begun.TheVariants as get
+use Rattle.front_http.specs.front_sru.declared.state.SruStage.{SruStage}
+use Rattle.front_http.specs.front_sru.declared.state.SruStage.TheVariants.{Idle, Searching, Fetching}
 use Rattle.front_http.specs.Heads.{IsHeadBegun}
 use Rattle.front_http.proofs.Heads.{head-out, head-search}
 use Rattle.front_conn.specs.declared.totals.Total.{Total}

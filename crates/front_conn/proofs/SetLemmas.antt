@@ -18,14 +18,14 @@ use Rattle.z_types.specs.declared.world.World as world
 use Rattle.z_types.specs.Same.{is_same}
 use Rattle.z_sets.specs.Sets.{StoredSet, stored, set_named}
 use Rattle.route_config.specs.declared.route.Route.{Route}
-use Rattle.gateway_rules.specs.Asking.{asked, asked_with, hits_meant, known_hits, present_due, unless_refused, works}
-use Rattle.gateway_rules.specs.Marks.{Cause}
-use Rattle.gateway_rules.specs.Outcomes.{found, outcome_of, under_mark}
-use Rattle.gateway_rules.specs.Targets.{hits_of}
-use Rattle.package_rules.specs.Planned.{AreThere}
-use Rattle.package_rules.specs.Truth.{HasWorldsHits}
-use Rattle.front_session.specs.Sessions.{SessionState, client_of}
-use Rattle.front_session.specs.Admitting.{hits_named, HasGivenHits, IsFoundSet}
+use Rattle.front_z.specs.gateway_rules.Asking.{asked, asked_with, hits_meant, known_hits, present_due, unless_refused, works}
+use Rattle.front_z.specs.gateway_rules.Marks.{Cause}
+use Rattle.front_z.specs.gateway_rules.Outcomes.{found, outcome_of, under_mark}
+use Rattle.front_z.specs.gateway_rules.Targets.{hits_of}
+use Rattle.package.specs.package_rules.Planned.{AreThere}
+use Rattle.package.specs.package_rules.Truth.{HasWorldsHits}
+use Rattle.front_z.specs.front_session.Sessions.{SessionState, client_of}
+use Rattle.front_z.specs.front_session.Admitting.{hits_named, HasGivenHits, IsFoundSet}
 use Rattle.front_conn.specs.steps.States.{HasLegsOf, HasMeantHits}
 use Rattle.front_conn.proofs.WorkLemmas.{ComesFrom, comes-from}
 

@@ -13,22 +13,22 @@ use Rattle.z_types.specs.declared.world.World as world
 use Rattle.z_types.specs.Bounds.{within64}
 use Rattle.route_config.specs.declared.route.Route.{Route}
 use Rattle.unit_forms.specs.Replies.{spell_reply}
-use Rattle.gateway_rules.specs.Answers as kind
-use Rattle.gateway_rules.specs.Answers.{Kind, kind_of, IsReceived}
-use Rattle.sru_rules.specs.Answers.{Answers, AnswersAs}
-use Rattle.front_sru.specs.declared.state.SruStage.{SruStage}
-use Rattle.front_sru.specs.declared.state.SruStage.TheVariants.{Idle, Searching, Fetching}
+use Rattle.front_z.specs.gateway_rules.Answers as kind
+use Rattle.front_z.specs.gateway_rules.Answers.{Kind, kind_of, IsReceived}
+use Rattle.front_http.specs.sru_rules.Answers.{Answers, AnswersAs}
+use Rattle.front_http.specs.front_sru.declared.state.SruStage.{SruStage}
+use Rattle.front_http.specs.front_sru.declared.state.SruStage.TheVariants.{Idle, Searching, Fetching}
 use Rattle.front_http.specs.Gets.{WaitsFor}
-use Rattle.gateway_rules.specs.Course as course
-use Rattle.gateway_rules.specs.Course.{Meeting, Received, octets_of, met, met_in_place, is_in_place, after, accepts, leads_to}
-use Rattle.gateway_rules.specs.Marks.{Cause, Taken, IsAllowed}
-use Rattle.gateway_rules.specs.Runs.{HasRun, marks_of, written_as}
-use Rattle.gateway_rules.specs.Session as session
-use Rattle.gateway_rules.specs.Session.{Run, run, in_front, stopped, answered, reached}
-use Rattle.gateway_rules.specs.State.{Progress, ClientState}
+use Rattle.front_z.specs.gateway_rules.Course as course
+use Rattle.front_z.specs.gateway_rules.Course.{Meeting, Received, octets_of, met, met_in_place, is_in_place, after, accepts, leads_to}
+use Rattle.front_z.specs.gateway_rules.Marks.{Cause, Taken, IsAllowed}
+use Rattle.front_z.specs.gateway_rules.Runs.{HasRun, marks_of, written_as}
+use Rattle.front_z.specs.gateway_rules.Session as session
+use Rattle.front_z.specs.gateway_rules.Session.{Run, run, in_front, stopped, answered, reached}
+use Rattle.front_z.specs.gateway_rules.State.{Progress, ClientState}
 use Rattle.limit_rules.specs.Limits.{are_units_spent}
-use Rattle.gateway_rules.proofs.Runs.{runs-go-on, units-end}
-use Rattle.front_session.specs.Sessions.{SessionState, client_of, progress_of}
+use Rattle.front_z.proofs.gateway_rules.Runs.{runs-go-on, units-end}
+use Rattle.front_z.specs.front_session.Sessions.{SessionState, client_of, progress_of}
 use Rattle.front_z.specs.Units.{Served}
 use Rattle.package.specs.steps.Packages.{PackageView}
 use Rattle.front_conn.specs.steps.Answering.{IsAnsweredUnder}

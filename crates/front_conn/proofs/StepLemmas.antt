@@ -10,13 +10,13 @@ use Rattle.z_types.specs.declared.world.World as world
 use Rattle.route_config.specs.declared.route.Route.{Route}
 use Rattle.unit_forms.specs.Replies.{spell_reply}
 use Rattle.z_frame.specs.Framing.{Framing}
-use Rattle.gateway_rules.specs.Replies.{bad_unit_reply}
+use Rattle.front_z.specs.gateway_rules.Replies.{bad_unit_reply}
 use Rattle.package.specs.steps.Packages.{IsPackageOf, PackageView}
 use Rattle.front_conn.specs.steps.Ahead.{AreAhead}
 use Rattle.sru_request.specs.declared.faults.HeadFault.{HeadFault}
 use Rattle.sru_request.specs.declared.head.Get.{Get}
-use Rattle.sru_rules.specs.Laws.{HeadIsCut}
-use Rattle.front_session.specs.Sessions.{SessionState}
+use Rattle.front_http.specs.sru_rules.Laws.{HeadIsCut}
+use Rattle.front_z.specs.front_session.Sessions.{SessionState}
 use Rattle.front_http.specs.Laws.{HeadsAnswer, HeadsStand}
 use Rattle.front_conn.specs.steps.Answering.{AnsweringState, IsBegunSo, IsEndAfter, IsHeadBegunSo, IsHeadTaken, IsUnbegun, IsUnitBegun}
 use Rattle.front_conn.specs.steps.States.{ConnectionState, HasLegsOf, IsOfRoute, IsOneWork, IsStateOf}

@@ -2,8 +2,8 @@
 use Rattle.std.proofs.Common.{◌≡◌, ◌∙◌, ◌<◌, ◌+◌, ℕ, zero, suc, List, [], ◌∷◌, ◌++◌, add-one, ap, arith, get_or, length, map, refl, sym, take}
 use Rattle.std.proofs.lemmas.List.{map-append}
 use Rattle.std.specs.List.{range_with_len}
-use Rattle.leg.specs.declared.accounts.Account.{Account}
-use Rattle.package_rules.proofs.Taken.{take_next}
+use Rattle.package.specs.leg.declared.accounts.Account.{Account}
+use Rattle.package.proofs.package_rules.Taken.{take_next}
 use Rattle.front_conn.specs.declared.totals.Total.{Total}
 use Rattle.front_conn.specs.steps.Totals.{no_total, totals_after, totals_with}
 

@@ -5,7 +5,7 @@ use Rattle.std.specs.List.{AllByRecursion}
 use Rattle.z_types.specs.declared.marks.End.{End}
 use Rattle.z_types.specs.declared.marks.Mark.{Mark}
 use Rattle.z_types.specs.declared.memory.Memory.{Memory as NoMemory}
-use Rattle.gateway_rules.specs.Targets.{hits_of}
+use Rattle.front_z.specs.gateway_rules.Targets.{hits_of}
 use Rattle.z_types.specs.declared.outcome.Outcome.{Outcome}
 use Rattle.z_types.specs.declared.requests.Request.{Request}
 use Rattle.z_types.specs.declared.requests.Request.TheVariants as request
@@ -15,37 +15,37 @@ use Rattle.z_types.specs.declared.world.World as world
 use Rattle.route_config.specs.Sound.{IsSound}
 use Rattle.route_config.specs.declared.route.Route.{Route}
 use Rattle.unit_forms.specs.Replies.{spell_reply}
-use Rattle.gateway_rules.specs.Asking as asking
-use Rattle.gateway_rules.specs.Asking.{Asking, asked}
-use Rattle.gateway_rules.specs.Course.{octets_of}
-use Rattle.gateway_rules.specs.Fair.{IsFair}
-use Rattle.gateway_rules.specs.Marks.{Cause, IsAllowed}
-use Rattle.gateway_rules.specs.Outcomes.{classes_asked, outcome_of}
-use Rattle.gateway_rules.specs.Session.{answer_to, answered, classes_of, reached}
-use Rattle.gateway_rules.specs.Settling.{Settled, agreed_after, settled}
-use Rattle.gateway_rules.specs.State.{ClientState}
-use Rattle.gateway_rules.specs.declared.agreement.Agreement.{Agreement}
-use Rattle.front_session.specs.Admitting.{HasGivenHits, waits}
+use Rattle.front_z.specs.gateway_rules.Asking as asking
+use Rattle.front_z.specs.gateway_rules.Asking.{Asking, asked}
+use Rattle.front_z.specs.gateway_rules.Course.{octets_of}
+use Rattle.front_z.specs.gateway_rules.Fair.{IsFair}
+use Rattle.front_z.specs.gateway_rules.Marks.{Cause, IsAllowed}
+use Rattle.front_z.specs.gateway_rules.Outcomes.{classes_asked, outcome_of}
+use Rattle.front_z.specs.gateway_rules.Session.{answer_to, answered, classes_of, reached}
+use Rattle.front_z.specs.gateway_rules.Settling.{Settled, agreed_after, settled}
+use Rattle.front_z.specs.gateway_rules.State.{ClientState}
+use Rattle.front_z.specs.gateway_rules.declared.agreement.Agreement.{Agreement}
+use Rattle.front_z.specs.front_session.Admitting.{HasGivenHits, waits}
 use Rattle.z_sets.specs.Sets.{stored}
-use Rattle.front_session.specs.Sessions.{SessionState, Waiting, client_of}
+use Rattle.front_z.specs.front_session.Sessions.{SessionState, Waiting, client_of}
 use Rattle.front_z.specs.Units.{IsEnded, Served}
-use Rattle.leg.specs.declared.answers.Turned.{Turned}
-use Rattle.leg.specs.declared.answers.Turned.TheVariants as turned
+use Rattle.package.specs.leg.declared.answers.Turned.{Turned}
+use Rattle.package.specs.leg.declared.answers.Turned.TheVariants as turned
 use Rattle.package.specs.steps.Ends.{cause_in, outcome_in}
 use Rattle.package.specs.steps.Laws.{CauseIsAllowed, OutcomeIsTrue}
 use Rattle.package.specs.steps.Packages.{IsOver, IsPackageOf, PackageView, new_package}
-use Rattle.package_rules.specs.Planned.{AreThere}
-use Rattle.package_rules.specs.Truth.{HasWorldsHits, HaveMembers}
+use Rattle.package.specs.package_rules.Planned.{AreThere}
+use Rattle.package.specs.package_rules.Truth.{HasWorldsHits, HaveMembers}
 use Rattle.front_conn.specs.declared.stepped.Stepped.{Stepped}
-use Rattle.sru_rules.specs.declared.retrieval.Retrieval.{Retrieval}
-use Rattle.sru_rules.specs.Answers.{Answers}
-use Rattle.sru_rules.specs.Asking.{fetch_work, search_work}
-use Rattle.sru_rules.specs.Laws.{FoundIsMeant}
-use Rattle.front_sru.specs.Gets.{work_of}
-use Rattle.front_sru.specs.declared.begun.Begun as sru_begun
-use Rattle.front_sru.specs.declared.begun.Begun.TheVariants as get
-use Rattle.front_sru.specs.declared.state.SruStage.{SruStage}
-use Rattle.front_sru.specs.declared.state.SruStage.TheVariants.{Idle, Searching, Fetching}
+use Rattle.front_http.specs.sru_rules.declared.retrieval.Retrieval.{Retrieval}
+use Rattle.front_http.specs.sru_rules.Answers.{Answers}
+use Rattle.front_http.specs.sru_rules.Asking.{fetch_work, search_work}
+use Rattle.front_http.specs.sru_rules.Laws.{FoundIsMeant}
+use Rattle.front_http.specs.front_sru.Gets.{work_of}
+use Rattle.front_http.specs.front_sru.declared.begun.Begun as sru_begun
+use Rattle.front_http.specs.front_sru.declared.begun.Begun.TheVariants as get
+use Rattle.front_http.specs.front_sru.declared.state.SruStage.{SruStage}
+use Rattle.front_http.specs.front_sru.declared.state.SruStage.TheVariants.{Idle, Searching, Fetching}
 use Rattle.front_http.specs.Gets.{GoesOnBehind, IsAnswered, StandsInGet, WaitsFor}
 use Rattle.front_http.specs.Laws.{GetsGoOn}
 use Rattle.front_conn.specs.steps.Answering.{AnsweringState, EndsAt, EndsWork, IsAnsweredBy, IsAnsweredUnder, IsEndAfter, IsGetEnded, IsKeptBehindGet, WorksOn, get_served, served}

@@ -14,20 +14,20 @@ use Rattle.z_types.specs.Bounds.{within64}
 use Rattle.z_ber.specs.Frames.{IsFrame}
 use Rattle.route_config.specs.declared.route.Route.{Route}
 use Rattle.unit_forms.specs.Replies.{spell_reply}
-use Rattle.gateway_rules.specs.Answers as kind
-use Rattle.gateway_rules.specs.Answers.{kind_of, IsReceived}
-use Rattle.gateway_rules.specs.Asking as asking
-use Rattle.gateway_rules.specs.Asking.{Asking, asked, asked_with}
-use Rattle.gateway_rules.specs.Course as course
-use Rattle.gateway_rules.specs.Course.{Meeting, Received, met, octets_of}
-use Rattle.gateway_rules.specs.Marks.{Taken, plain}
-use Rattle.gateway_rules.specs.Replies.{bad_unit_reply, close_reply, limit_reply}
-use Rattle.gateway_rules.specs.Session as session
-use Rattle.gateway_rules.specs.Session.{Run, answer_to, in_front, reached, stopped}
-use Rattle.gateway_rules.specs.Settling.{Settled}
-use Rattle.gateway_rules.specs.Statuses.{finished}
-use Rattle.front_session.specs.Admitting.{counted, hits_named}
-use Rattle.front_session.specs.Sessions.{SessionState, client_of, progress_of}
+use Rattle.front_z.specs.gateway_rules.Answers as kind
+use Rattle.front_z.specs.gateway_rules.Answers.{kind_of, IsReceived}
+use Rattle.front_z.specs.gateway_rules.Asking as asking
+use Rattle.front_z.specs.gateway_rules.Asking.{Asking, asked, asked_with}
+use Rattle.front_z.specs.gateway_rules.Course as course
+use Rattle.front_z.specs.gateway_rules.Course.{Meeting, Received, met, octets_of}
+use Rattle.front_z.specs.gateway_rules.Marks.{Taken, plain}
+use Rattle.front_z.specs.gateway_rules.Replies.{bad_unit_reply, close_reply, limit_reply}
+use Rattle.front_z.specs.gateway_rules.Session as session
+use Rattle.front_z.specs.gateway_rules.Session.{Run, answer_to, in_front, reached, stopped}
+use Rattle.front_z.specs.gateway_rules.Settling.{Settled}
+use Rattle.front_z.specs.gateway_rules.Statuses.{finished}
+use Rattle.front_z.specs.front_session.Admitting.{counted, hits_named}
+use Rattle.front_z.specs.front_session.Sessions.{SessionState, client_of, progress_of}
 use Rattle.front_z.specs.Units.{IsBegun, IsDueBegun, IsMetBegun, Served}
 use Rattle.front_z.specs.declared.units.Begun.{Begun}
 use Rattle.front_z.specs.declared.units.Begun.TheVariants as begun

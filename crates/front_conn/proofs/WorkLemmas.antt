@@ -26,11 +26,11 @@ use Rattle.route_config.specs.Sound.{AllBelow, IsSound}
 use Rattle.route_config.specs.declared.route.Database.{Database}
 use Rattle.route_config.specs.declared.route.Route.{Route}
 use Rattle.virt_db.specs.Legs.{distinct, legs_behind, legs_of}
-use Rattle.gateway_rules.specs.Asking.{Asking, at_once, asked_with, fetch_work, leg_work, query_work, scan_work, search_work, unless_refused, works}
-use Rattle.gateway_rules.specs.Checks.{checked, present_checks, scan_checks, search_checks}
-use Rattle.gateway_rules.specs.State.{ClientState}
-use Rattle.gateway_rules.proofs.Runs.{all-append}
-use Rattle.package_rules.specs.Planned.{AreThere}
+use Rattle.front_z.specs.gateway_rules.Asking.{Asking, at_once, asked_with, fetch_work, leg_work, query_work, scan_work, search_work, unless_refused, works}
+use Rattle.front_z.specs.gateway_rules.Checks.{checked, present_checks, scan_checks, search_checks}
+use Rattle.front_z.specs.gateway_rules.State.{ClientState}
+use Rattle.front_z.proofs.gateway_rules.Runs.{all-append}
+use Rattle.package.specs.package_rules.Planned.{AreThere}
 use Rattle.front_conn.specs.steps.States.{HasLegsOf}
 
 -- ---- what a request asks

@@ -4,15 +4,15 @@
 ghost use Rattle.std.specs.Prelude.{◌≡◌, ◌++◌, ◌∷◌, [], IfOk, IfSome, IsSome, None, OnErr, OnOk, Some, is_some, option_to_list, take};
 ghost use Rattle.z_types.specs.declared.marks.End.TheVariants.{Malformed};
 ghost use Rattle.unit_forms.specs.Replies.{spell_reply};
-ghost use Rattle.gateway_rules.specs.Replies.{bad_unit_reply};
+ghost use Rattle.front_z.specs.gateway_rules.Replies.{bad_unit_reply};
 ghost use Rattle.std.specs.List.{AllByRecursion};
 ghost use Rattle.std.specs.Option.{option_map};
 ghost use Rattle.front_z.specs.Units.{IsEnded};
-ghost use Rattle.gateway_rules.specs.Works.{CanBegin, FitsWork, IsAskable};
+ghost use Rattle.front_z.specs.gateway_rules.Works.{CanBegin, FitsWork, IsAskable};
 ghost use Rattle.package.specs.steps.Ends.{cause_in, lost_seats, outcome_in};
 ghost use Rattle.package.specs.steps.Packages.{AsksSo, IsOver, IsPackageOf};
-ghost use Rattle.package_rules.specs.Planned.{AreThere};
-ghost use Rattle.front_sru.specs.Gets.{work_of};
+ghost use Rattle.package.specs.package_rules.Planned.{AreThere};
+ghost use Rattle.front_http.specs.front_sru.Gets.{work_of};
 ghost use Rattle.front_conn.specs.steps.Answering.{EndsWork, IsBegunSo, IsGetEndedIf, IsHeadBegunSo, IsListed, IsReady, IsRequestEndedIf, IsWorkBegun, TurnsWork, given_up, legs_in};
 ghost use Rattle.front_conn.specs.steps.Drives.{DrivesWork, outside_of};
 ghost use Rattle.front_conn.specs.steps.States.{HasLegsOf, IsOneWork, IsWaitedFor};
@@ -21,14 +21,14 @@ use crate::Stepped;
 use crate::ends::end_step;
 use crate::totals::{Total, add_accounts, make_totals};
 use front_http::begin_head;
-use front_session::FrontSession;
-use front_sru::{SruState, end_get};
+use front_z::front_session::FrontSession;
+use front_http::front_sru::{SruState, end_get};
 use front_z::{Begun, begin_unit, end_unit};
-use gateway_rules::{bad_unit_reply, mark_of};
+use front_z::gateway_rules::{bad_unit_reply, mark_of};
 use gw_outside::{Backend, Clock};
-use leg::Turned;
+use package::leg::Turned;
 use package::{Package, package_outcome_fits};
-use package_rules::finished_has_mark;
+use package::package_rules::finished_has_mark;
 use pool_sets::Door;
 use route_config::Route;
 use sru_request::{Get, HeadFault};
@@ -36,7 +36,7 @@ use std::alloc::Global;
 use std::marker::Model;
 use std::sync::Wait;
 use z_types::{End, List, Mark, Memory, Sitting, Text, Work, World};
-use z_write::put_reply;
+use front_z::z_write::put_reply;
 
 /// The session of a client and its GET, the legs of its request in work, and what was answered.
 #[derive(Drop)]
@@ -246,9 +246,9 @@ impl<W: World, S: Sitting<W>> Answering<W, S> {
         }
         let written = self.out.len();
         match begin_head(alloc, &mut self.get, route, head, &mut self.out) {
-            front_sru::Begun::Write(mark, end) => self.list(mark, end, written),
-            front_sru::Begun::Work(work) => self.start(alloc, route, work),
-            front_sru::Begun::Memory => Err(Memory),
+            front_http::front_sru::Begun::Write(mark, end) => self.list(mark, end, written),
+            front_http::front_sru::Begun::Work(work) => self.start(alloc, route, work),
+            front_http::front_sru::Begun::Memory => Err(Memory),
         }
     }
 
@@ -432,9 +432,9 @@ impl<W: World, S: Sitting<W>> Answering<W, S> {
         let written = self.out.len();
         let outcome = done.finish(alloc, route)?;
         match end_get(alloc, &mut self.get, route, outcome, &mut self.out) {
-            front_sru::Begun::Write(mark, end) => self.list(mark, end, written),
-            front_sru::Begun::Work(work) => self.start(alloc, route, work),
-            front_sru::Begun::Memory => Err(Memory),
+            front_http::front_sru::Begun::Write(mark, end) => self.list(mark, end, written),
+            front_http::front_sru::Begun::Work(work) => self.start(alloc, route, work),
+            front_http::front_sru::Begun::Memory => Err(Memory),
         }
     }
 

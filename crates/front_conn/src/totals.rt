@@ -4,7 +4,7 @@ ghost use Rattle.std.specs.Prelude.{◌≡◌, IfOk, OnErr, OnOk, map};
 ghost use Rattle.std.specs.List.{range_with_len};
 ghost use Rattle.front_conn.specs.steps.Totals.{no_total, no_totals, totals_after, totals_for, totals_with, with_account};
 
-use leg::Account;
+use package::leg::Account;
 use route_config::Route;
 use std::alloc::Global;
 use std::mem;

@@ -9,21 +9,21 @@ use Rattle.z_types.specs.declared.sitting.Sitting as sitting
 use Rattle.z_types.specs.declared.world.World as world
 use Rattle.route_config.specs.declared.route.PoolNumbers.{PoolNumbers}
 use Rattle.route_config.specs.declared.route.Route.{Route}
-use Rattle.leg.specs.Kept.{StandsAt}
-use Rattle.leg.specs.LegView.{LegView}
-use Rattle.leg.specs.Phases.{answered}
-use Rattle.leg.specs.Right.{IsCaused}
-use Rattle.leg.specs.Terms.{Terms, terms_of}
-use Rattle.leg.specs.Turns.{IsLegOf}
-use Rattle.leg.specs.declared.accounts.Account.{Account}
-use Rattle.leg.specs.declared.answers.LegAnswer.{LegAnswer}
-use Rattle.leg.specs.declared.answers.LegAnswer.TheVariants as answer
-use Rattle.leg.specs.declared.phases.Phase.{Phase}
-use Rattle.leg.specs.declared.phases.Phase.TheVariants.{Begin, Dialling, Dialled, Ready, Searching, Presenting, Fetching, Scanning, Returning, Losing, Redialling, Spoiled, Done, Ended}
-use Rattle.leg.specs.declared.tasks.Task.{Task}
-use Rattle.package_rules.specs.declared.answered.Answered.{Answered}
-use Rattle.package_rules.specs.Said.{cause_of}
-use Rattle.package.specs.steps.Packages.{answers_of}
+use Rattle.front_conn.specs.leg.Kept.{StandsAt}
+use Rattle.front_conn.specs.leg.LegView.{LegView}
+use Rattle.front_conn.specs.leg.Phases.{answered}
+use Rattle.front_conn.specs.leg.Right.{IsCaused}
+use Rattle.front_conn.specs.leg.Terms.{Terms, terms_of}
+use Rattle.front_conn.specs.leg.Turns.{IsLegOf}
+use Rattle.front_conn.specs.leg.declared.accounts.Account.{Account}
+use Rattle.front_conn.specs.leg.declared.answers.LegAnswer.{LegAnswer}
+use Rattle.front_conn.specs.leg.declared.answers.LegAnswer.TheVariants as answer
+use Rattle.front_conn.specs.leg.declared.phases.Phase.{Phase}
+use Rattle.front_conn.specs.leg.declared.phases.Phase.TheVariants.{Begin, Dialling, Dialled, Ready, Searching, Presenting, Fetching, Scanning, Returning, Losing, Redialling, Spoiled, Done, Ended}
+use Rattle.front_conn.specs.leg.declared.tasks.Task.{Task}
+use Rattle.front_conn.specs.package_rules.declared.answered.Answered.{Answered}
+use Rattle.front_conn.specs.package_rules.Said.{cause_of}
+use Rattle.front_conn.specs.package.steps.Packages.{answers_of}
 use Rattle.front_conn_costs.specs.steps.Numbers.{Caused, link, silent, gone, full, is_of, met_by, weight}
 
 -- as many of a mark as it is of a kind

@@ -18,28 +18,28 @@ use Rattle.z_types.specs.declared.world.World as world
 use Rattle.route_config.specs.Sound.{IsSound}
 use Rattle.route_config.specs.declared.route.Route.{Route}
 use Rattle.route_config.specs.declared.route.RouteLeg.{RouteLeg}
-use Rattle.gateway_rules.specs.Asking.{Asking, at_once, works}
-use Rattle.gateway_rules.specs.Course.{Meeting, bad, beyond, closing, due, met}
-use Rattle.front_session.specs.Sessions.{progress_of}
-use Rattle.front_z.specs.Units.{IsBegun, IsDueBegun, IsMetBegun, Served}
-use Rattle.front_z.specs.declared.units.Begun.{Begun}
-use Rattle.front_z.specs.declared.units.Begun.TheVariants as begun
-use Rattle.leg.specs.Deeds.{BackendView}
-use Rattle.leg.specs.LegView.{LegView}
-use Rattle.leg.specs.Phases.{answered}
-use Rattle.leg.specs.Terms.{class_of, terms_of}
-use Rattle.leg.specs.Turns.{DoorView, IsLegOf}
-use Rattle.leg.specs.declared.answers.LegAnswer.{LegAnswer}
-use Rattle.leg.specs.declared.answers.Turned.{Turned}
-use Rattle.leg.specs.declared.answers.Turned.TheVariants as turned
-use Rattle.package_rules.specs.declared.answered.Answered.{Answered}
-use Rattle.package_rules.specs.Asked.{Asked, first_asked}
-use Rattle.package_rules.specs.Said.{cause_of}
-use Rattle.package.specs.steps.Ends.{cause_in}
-use Rattle.package.specs.steps.Packages.{HasFitting, IsPackageOf, PackageView, all_accounts, answer_of}
-use Rattle.package.specs.steps.Packages.{begun as leg_begun}
-use Rattle.package.specs.steps.Packages.{new_package}
-use Rattle.package.specs.steps.Turns.{is_memory}
+use Rattle.front_conn.specs.gateway_rules.Asking.{Asking, at_once, works}
+use Rattle.front_conn.specs.gateway_rules.Course.{Meeting, bad, beyond, closing, due, met}
+use Rattle.front_conn.specs.front_session.Sessions.{progress_of}
+use Rattle.front_conn.specs.front_z.Units.{IsBegun, IsDueBegun, IsMetBegun, Served}
+use Rattle.front_conn.specs.front_z.declared.units.Begun.{Begun}
+use Rattle.front_conn.specs.front_z.declared.units.Begun.TheVariants as begun
+use Rattle.front_conn.specs.leg.Deeds.{BackendView}
+use Rattle.front_conn.specs.leg.LegView.{LegView}
+use Rattle.front_conn.specs.leg.Phases.{answered}
+use Rattle.front_conn.specs.leg.Terms.{class_of, terms_of}
+use Rattle.front_conn.specs.leg.Turns.{DoorView, IsLegOf}
+use Rattle.front_conn.specs.leg.declared.answers.LegAnswer.{LegAnswer}
+use Rattle.front_conn.specs.leg.declared.answers.Turned.{Turned}
+use Rattle.front_conn.specs.leg.declared.answers.Turned.TheVariants as turned
+use Rattle.front_conn.specs.package_rules.declared.answered.Answered.{Answered}
+use Rattle.front_conn.specs.package_rules.Asked.{Asked, first_asked}
+use Rattle.front_conn.specs.package_rules.Said.{cause_of}
+use Rattle.front_conn.specs.package.steps.Ends.{cause_in}
+use Rattle.front_conn.specs.package.steps.Packages.{HasFitting, IsPackageOf, PackageView, all_accounts, answer_of}
+use Rattle.front_conn.specs.package.steps.Packages.{begun as leg_begun}
+use Rattle.front_conn.specs.package.steps.Packages.{new_package}
+use Rattle.front_conn.specs.package.steps.Turns.{is_memory}
 use Rattle.front_conn.specs.declared.stepped.Stepped.{Stepped}
 use Rattle.front_conn.specs.declared.stepped.Stepped.TheVariants.{Idle, NotYet, Went, Memory}
 use Rattle.front_conn.specs.declared.totals.Total.{Total}
@@ -57,10 +57,10 @@ use Rattle.front_conn_costs.proofs.OverLemmas.{IsLeft, IsLeftBy, IsPlainAtMost, 
 use Rattle.front_conn_costs.proofs.PackageLemmas.{package-turned}
 use Rattle.sru_request.specs.declared.faults.HeadFault.{HeadFault}
 use Rattle.sru_request.specs.declared.head.Get.{Get}
-use Rattle.front_sru.specs.Gets as sru
-use Rattle.front_sru.specs.declared.begun.Begun as sru_begun
-use Rattle.front_sru.specs.declared.begun.Begun.TheVariants as get
-use Rattle.front_http.specs.Heads.{IsHeadBegun}
+use Rattle.front_conn.specs.front_sru.Gets as sru
+use Rattle.front_conn.specs.front_sru.declared.begun.Begun as sru_begun
+use Rattle.front_conn.specs.front_sru.declared.begun.Begun.TheVariants as get
+use Rattle.front_conn.specs.front_http.Heads.{IsHeadBegun}
 use Rattle.front_conn_costs.proofs.TotalLemmas.{after-sum, all-classes, made-sum}
 use Rattle.front_conn_costs.proofs.TurnLemmas.{turn-as-much, turn-enough}
 

@@ -17,17 +17,17 @@ use Rattle.z_types.specs.declared.work.Work.TheVariants as work
 use Rattle.z_types.specs.declared.world.World as world
 use Rattle.route_config.specs.declared.route.Route.{Route}
 use Rattle.z_types.specs.declared.query.RpnQuery.{RpnQuery}
-use Rattle.gateway_rules.specs.Outcomes.{places_from}
-use Rattle.gateway_rules.specs.Works.{CanBegin}
-use Rattle.leg.specs.LegView.{LegView}
-use Rattle.leg.specs.Phases.{is_done}
-use Rattle.leg.specs.declared.answers.Turned.{Turned}
-use Rattle.leg.specs.declared.answers.Turned.TheVariants as turned
-use Rattle.package_rules.specs.Asked.{Asked, all_records_asked, element_shown, first_asked, hits_asked, places_shown, ranks_of, records_asked, span_of, spans_of, then_asked}
-use Rattle.package_rules.specs.declared.answered.Answered.{Answered}
-use Rattle.package_rules.specs.Planned.{by_hits, then_asked_by, unless_marked}
-use Rattle.package_rules.specs.Said.{all_hits, cause_of}
-use Rattle.package.specs.steps.Packages.{IsPackageOf, IsPlanned, PackageView, answers_of, asked_of}
+use Rattle.front_conn.specs.gateway_rules.Outcomes.{places_from}
+use Rattle.front_conn.specs.gateway_rules.Works.{CanBegin}
+use Rattle.front_conn.specs.leg.LegView.{LegView}
+use Rattle.front_conn.specs.leg.Phases.{is_done}
+use Rattle.front_conn.specs.leg.declared.answers.Turned.{Turned}
+use Rattle.front_conn.specs.leg.declared.answers.Turned.TheVariants as turned
+use Rattle.front_conn.specs.package_rules.Asked.{Asked, all_records_asked, element_shown, first_asked, hits_asked, places_shown, ranks_of, records_asked, span_of, spans_of, then_asked}
+use Rattle.front_conn.specs.package_rules.declared.answered.Answered.{Answered}
+use Rattle.front_conn.specs.package_rules.Planned.{by_hits, then_asked_by, unless_marked}
+use Rattle.front_conn.specs.package_rules.Said.{all_hits, cause_of}
+use Rattle.front_conn.specs.package.steps.Packages.{IsPackageOf, IsPlanned, PackageView, answers_of, asked_of}
 use Rattle.front_conn.specs.declared.stepped.Stepped.{Stepped}
 use Rattle.front_conn.specs.steps.Answering.{AnsweringState, Outside, WorksOn, legs_in}
 use Rattle.front_conn.specs.steps.States.{ConnectionState}

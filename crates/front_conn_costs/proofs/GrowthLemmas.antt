@@ -4,7 +4,7 @@ use Rattle.std.specs.List.{sum_by}
 use Rattle.std.proofs.lemmas.List.Sums.{get_or-le-sum_by, sum_by-set}
 use Rattle.z_types.specs.Bounds.{within64}
 use Rattle.z_types.specs.Counts.{one_more}
-use Rattle.leg.specs.Accounts.{more}
+use Rattle.front_conn.specs.leg.Accounts.{more}
 use Rattle.front_conn_costs.specs.steps.Growth.{RisesAsMuch, RisesEnough}
 
 -- ---- just as much

@@ -8,12 +8,12 @@ use Rattle.z_types.specs.declared.sitting.Sitting as sitting
 use Rattle.z_types.specs.declared.world.World as world
 use Rattle.route_config.specs.declared.route.PoolNumbers.{PoolNumbers}
 use Rattle.route_config.specs.declared.route.Route.{Route}
-use Rattle.front_session.specs.Sessions.{new_session}
-use Rattle.front_z.specs.declared.units.Begun.{Begun}
-use Rattle.front_z.specs.declared.units.Begun.TheVariants as begun
-use Rattle.leg.specs.declared.answers.Turned.{Turned}
-use Rattle.leg.specs.declared.answers.Turned.TheVariants as turned
-use Rattle.package.specs.steps.Packages.{PackageView, all_accounts}
+use Rattle.front_conn.specs.front_session.Sessions.{new_session}
+use Rattle.front_conn.specs.front_z.declared.units.Begun.{Begun}
+use Rattle.front_conn.specs.front_z.declared.units.Begun.TheVariants as begun
+use Rattle.front_conn.specs.leg.declared.answers.Turned.{Turned}
+use Rattle.front_conn.specs.leg.declared.answers.Turned.TheVariants as turned
+use Rattle.front_conn.specs.package.steps.Packages.{PackageView, all_accounts}
 use Rattle.front_conn.specs.declared.stepped.Stepped.{Stepped}
 use Rattle.front_conn.specs.declared.stepped.Stepped.TheVariants.{Idle, NotYet, Went, Memory}
 use Rattle.front_conn.specs.declared.totals.Total.{Total}
@@ -25,8 +25,8 @@ use Rattle.front_conn.specs.steps.Totals.{totals_for}
 use Rattle.front_conn_costs.specs.steps.Conns.{AreTotalsOf, HasTotals, RestsIfEnded, counted_on, in_total, marks_of, met_on}
 use Rattle.front_conn_costs.specs.steps.Laws.{IsCostless, IsSummed}
 use Rattle.front_conn_costs.specs.steps.Numbers.{Caused, Number, weight}
-use Rattle.front_sru.specs.declared.begun.Begun as sru_begun
-use Rattle.front_sru.specs.declared.begun.Begun.TheVariants as get
+use Rattle.front_conn.specs.front_sru.declared.begun.Begun as sru_begun
+use Rattle.front_conn.specs.front_sru.declared.begun.Begun.TheVariants as get
 use Rattle.front_conn_costs.proofs.OverLemmas.{IsLeftBy, went-left}
 use Rattle.front_conn_costs.proofs.TotalLemmas.{after-classes, classes_of, made-classes, none-made}
 

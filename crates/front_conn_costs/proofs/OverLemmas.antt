@@ -8,19 +8,19 @@ use Rattle.z_types.specs.declared.memory.Memory.{Memory as NoMemory}
 use Rattle.z_types.specs.declared.work.Work.{Work}
 use Rattle.route_config.specs.declared.route.Database.{Database}
 use Rattle.route_config.specs.declared.route.Route.{Route}
-use Rattle.package.specs.steps.Ends.{cause_in}
-use Rattle.package.specs.steps.Packages.{IsOver, PackageView, all_accounts, new_package}
+use Rattle.front_conn.specs.package.steps.Ends.{cause_in}
+use Rattle.front_conn.specs.package.steps.Packages.{IsOver, PackageView, all_accounts, new_package}
 use Rattle.sru_request.specs.declared.faults.HeadFault.{HeadFault}
 use Rattle.sru_request.specs.declared.faults.HeadFault.TheVariants.{BadHttp, NotGet, HeadTooLarge, Memory}
 use Rattle.sru_request.specs.declared.head.Get.{Get}
-use Rattle.sru_rules.specs.Course.{database_of}
-use Rattle.sru_rules.specs.Run.{Due, at_once, due, searches}
-use Rattle.front_sru.specs.Gets.{IsDueDone, IsFoundBegun, Served}
-use Rattle.front_sru.specs.declared.begun.Begun.{Begun}
-use Rattle.front_sru.specs.declared.begun.Begun.TheVariants as begun
-use Rattle.front_sru.specs.declared.state.SruStage.{SruStage}
-use Rattle.front_sru.specs.declared.state.SruStage.TheVariants as at
-use Rattle.front_http.specs.Heads.{IsFaultBegun, IsHeadBegun}
+use Rattle.front_conn.specs.sru_rules.Course.{database_of}
+use Rattle.front_conn.specs.sru_rules.Run.{Due, at_once, due, searches}
+use Rattle.front_conn.specs.front_sru.Gets.{IsDueDone, IsFoundBegun, Served}
+use Rattle.front_conn.specs.front_sru.declared.begun.Begun.{Begun}
+use Rattle.front_conn.specs.front_sru.declared.begun.Begun.TheVariants as begun
+use Rattle.front_conn.specs.front_sru.declared.state.SruStage.{SruStage}
+use Rattle.front_conn.specs.front_sru.declared.state.SruStage.TheVariants as at
+use Rattle.front_conn.specs.front_http.Heads.{IsFaultBegun, IsHeadBegun}
 use Rattle.front_conn.specs.declared.stepped.Stepped.{Stepped}
 use Rattle.front_conn.specs.declared.stepped.Stepped.TheVariants as memory
 use Rattle.front_conn.specs.steps.Answering.{AnsweringState, EndsAt, EndsWork, IsEndAfter, IsKeptBehindGet, IsOverThen}

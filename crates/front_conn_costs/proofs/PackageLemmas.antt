@@ -6,17 +6,17 @@ use Rattle.std.proofs.lemmas.Bool.{and_parts, or_parts}
 use Rattle.z_types.specs.declared.sitting.Sitting as sitting
 use Rattle.z_types.specs.declared.world.World as world
 use Rattle.route_config.specs.declared.route.Route.{Route}
-use Rattle.leg.specs.Deeds.{BackendView}
-use Rattle.leg.specs.LegView.{LegView}
-use Rattle.leg.specs.Phases.{is_done}
-use Rattle.leg.specs.Turns.{DoorView}
-use Rattle.leg.specs.declared.answers.Turned.{Turned}
-use Rattle.leg.specs.declared.answers.Turned.TheVariants as turned
-use Rattle.package_rules.specs.Asked.{Asked}
-use Rattle.package.specs.declared.turning.Round.{Round}
-use Rattle.package.specs.steps.Packages.{AsksSo, IsPlanned, PackageView, answers_of, begun}
-use Rattle.package.specs.steps.Turns.{GoesOn, HadTurn, HasTurned, HaveTurned, IsPackageTurn, Plans, TakesTurn, all_done, is_memory, no_round, round_after}
-use Rattle.package_rules.specs.Planned.{then_asked_by}
+use Rattle.front_conn.specs.leg.Deeds.{BackendView}
+use Rattle.front_conn.specs.leg.LegView.{LegView}
+use Rattle.front_conn.specs.leg.Phases.{is_done}
+use Rattle.front_conn.specs.leg.Turns.{DoorView}
+use Rattle.front_conn.specs.leg.declared.answers.Turned.{Turned}
+use Rattle.front_conn.specs.leg.declared.answers.Turned.TheVariants as turned
+use Rattle.front_conn.specs.package_rules.Asked.{Asked}
+use Rattle.front_conn.specs.package.declared.turning.Round.{Round}
+use Rattle.front_conn.specs.package.steps.Packages.{AsksSo, IsPlanned, PackageView, answers_of, begun}
+use Rattle.front_conn.specs.package.steps.Turns.{GoesOn, HadTurn, HasTurned, HaveTurned, IsPackageTurn, Plans, TakesTurn, all_done, is_memory, no_round, round_after}
+use Rattle.front_conn.specs.package_rules.Planned.{then_asked_by}
 use Rattle.front_conn_costs.proofs.TurnLemmas.{HadMemory}
 
 -- some legs had memory in a round, or all are done behind it

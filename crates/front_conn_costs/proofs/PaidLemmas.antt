@@ -9,19 +9,19 @@ use Rattle.z_types.specs.declared.sitting.Sitting as sitting
 use Rattle.z_types.specs.declared.work.Work.{Work}
 use Rattle.z_types.specs.declared.world.World as world
 use Rattle.route_config.specs.declared.route.Route.{Route}
-use Rattle.front_z.specs.declared.units.Begun.{Begun}
-use Rattle.front_z.specs.declared.units.Begun.TheVariants as begun
-use Rattle.leg.specs.LegView.{LegView}
-use Rattle.leg.specs.Phases.{answered, is_done}
-use Rattle.leg.specs.declared.answers.LegAnswer.{LegAnswer}
-use Rattle.leg.specs.declared.answers.Turned.{Turned}
-use Rattle.leg.specs.declared.answers.Turned.TheVariants as turned
-use Rattle.leg.specs.declared.phases.Phase.{Phase}
-use Rattle.leg.specs.declared.phases.Phase.TheVariants.{Begin, Dialling, Dialled, Ready, Searching, Presenting, Fetching, Scanning, Returning, Losing, Redialling, Spoiled, Done, Ended}
-use Rattle.leg.specs.declared.tasks.Task.{Task}
-use Rattle.package_rules.specs.Asked.{Asked, first_asked}
-use Rattle.package.specs.steps.Packages.{HasFitting, IsPackageOf, PackageView, new_package}
-use Rattle.package.specs.steps.Packages.{begun as leg_begun}
+use Rattle.front_conn.specs.front_z.declared.units.Begun.{Begun}
+use Rattle.front_conn.specs.front_z.declared.units.Begun.TheVariants as begun
+use Rattle.front_conn.specs.leg.LegView.{LegView}
+use Rattle.front_conn.specs.leg.Phases.{answered, is_done}
+use Rattle.front_conn.specs.leg.declared.answers.LegAnswer.{LegAnswer}
+use Rattle.front_conn.specs.leg.declared.answers.Turned.{Turned}
+use Rattle.front_conn.specs.leg.declared.answers.Turned.TheVariants as turned
+use Rattle.front_conn.specs.leg.declared.phases.Phase.{Phase}
+use Rattle.front_conn.specs.leg.declared.phases.Phase.TheVariants.{Begin, Dialling, Dialled, Ready, Searching, Presenting, Fetching, Scanning, Returning, Losing, Redialling, Spoiled, Done, Ended}
+use Rattle.front_conn.specs.leg.declared.tasks.Task.{Task}
+use Rattle.front_conn.specs.package_rules.Asked.{Asked, first_asked}
+use Rattle.front_conn.specs.package.steps.Packages.{HasFitting, IsPackageOf, PackageView, new_package}
+use Rattle.front_conn.specs.package.steps.Packages.{begun as leg_begun}
 use Rattle.front_conn.specs.declared.stepped.Stepped.{Stepped}
 use Rattle.front_conn.specs.declared.stepped.Stepped.TheVariants.{Idle, NotYet, Went, Memory}
 use Rattle.front_conn.specs.steps.Answering.{AnsweringState, IsKeptBehind, IsKeptBehindHead, Outside, TurnsWork, WorksOn, legs_in}
@@ -34,8 +34,8 @@ use Rattle.front_conn_costs.specs.steps.Ledgers.{Dues, IsPaid, dues_in, dues_of}
 use Rattle.front_conn_costs.proofs.LedgerLemmas.{Pays, Seen, no_dues, package-pays, pays-both, pays-nothing}
 use Rattle.front_conn_costs.proofs.OverLemmas.{IsLeftBy, over-left}
 use Rattle.front_conn_costs.proofs.PhaseLemmas.{unused}
-use Rattle.front_sru.specs.declared.begun.Begun as sru_begun
-use Rattle.front_sru.specs.declared.begun.Begun.TheVariants as get
+use Rattle.front_conn.specs.front_sru.declared.begun.Begun as sru_begun
+use Rattle.front_conn.specs.front_sru.declared.begun.Begun.TheVariants as get
 
 abbrev seen_of : {S : Type 0} → Outside S → Seen
 seen_of outside = record { door = outside.door.counts; backend = outside.backend.counts }

@@ -11,19 +11,19 @@ use Rattle.gw_outside.specs.declared.backends.Heard.TheVariants as look
 use Rattle.gw_outside.specs.declared.backends.Opening.TheVariants as opening
 use Rattle.pool_sets.specs.Table.{after_forget}
 use Rattle.pool_sets.specs.declared.doors.Taken.TheVariants as taken
-use Rattle.leg.specs.declared.answers.LegAnswer.TheVariants as answer
-use Rattle.leg.specs.declared.phases.Held.{Held}
-use Rattle.leg.specs.declared.phases.Phase.{Phase}
-use Rattle.leg.specs.declared.phases.Phase.TheVariants.{Begin, Dialling, Dialled, Ready, Searching, Presenting, Fetching, Scanning, Returning, Losing, Redialling, Spoiled, Done, Ended}
-use Rattle.leg.specs.declared.tasks.Task.{Task}
-use Rattle.leg.specs.declared.tasks.Task.TheVariants.{Hits, Records, Scan}
-use Rattle.leg.specs.Deeds.{Deed, took, opened, began, heard, put_back, gave_up, redialled, no_memory, nothing, rises_of}
-use Rattle.leg.specs.Kept.{ahead_of, one_if}
-use Rattle.leg.specs.Phases.{hold, replied, with_session, with_sets}
-use Rattle.leg.specs.Rules.{after_fault, after_first, first_ask, gone_again, next, next_ask, recorded, unless_silent, with_items, with_set}
-use Rattle.leg.specs.Tasks.{want_of}
-use Rattle.leg.specs.Terms.{Terms}
-use Rattle.leg.specs.Turns.{IsAskedIf, IsDue}
+use Rattle.front_conn.specs.leg.declared.answers.LegAnswer.TheVariants as answer
+use Rattle.front_conn.specs.leg.declared.phases.Held.{Held}
+use Rattle.front_conn.specs.leg.declared.phases.Phase.{Phase}
+use Rattle.front_conn.specs.leg.declared.phases.Phase.TheVariants.{Begin, Dialling, Dialled, Ready, Searching, Presenting, Fetching, Scanning, Returning, Losing, Redialling, Spoiled, Done, Ended}
+use Rattle.front_conn.specs.leg.declared.tasks.Task.{Task}
+use Rattle.front_conn.specs.leg.declared.tasks.Task.TheVariants.{Hits, Records, Scan}
+use Rattle.front_conn.specs.leg.Deeds.{Deed, took, opened, began, heard, put_back, gave_up, redialled, no_memory, nothing, rises_of}
+use Rattle.front_conn.specs.leg.Kept.{ahead_of, one_if}
+use Rattle.front_conn.specs.leg.Phases.{hold, replied, with_session, with_sets}
+use Rattle.front_conn.specs.leg.Rules.{after_fault, after_first, first_ask, gone_again, next, next_ask, recorded, unless_silent, with_items, with_set}
+use Rattle.front_conn.specs.leg.Tasks.{want_of}
+use Rattle.front_conn.specs.leg.Terms.{Terms}
+use Rattle.front_conn.specs.leg.Turns.{IsAskedIf, IsDue}
 
 one-most : (b : Bool) → one_if b ≤ 1
 one-most true = omega arith

@@ -8,9 +8,9 @@ use Rattle.std.proofs.lemmas.List.FromFn.{length-range_with_len}
 use Rattle.std.proofs.lemmas.List.Sums.{get_or-le-sum_by, sum_by-cons, sum_by-set}
 use Rattle.z_types.specs.Bounds.{within64}
 use Rattle.route_config.specs.declared.route.Route.{Route}
-use Rattle.leg.specs.LegView.{LegView}
-use Rattle.leg.specs.declared.accounts.Account.{Account}
-use Rattle.package.specs.steps.Packages.{accounts_of}
+use Rattle.front_conn.specs.leg.LegView.{LegView}
+use Rattle.front_conn.specs.leg.declared.accounts.Account.{Account}
+use Rattle.front_conn.specs.package.steps.Packages.{accounts_of}
 use Rattle.front_conn.specs.declared.totals.Total.{Total}
 use Rattle.front_conn.specs.steps.Totals.{no_total, totals_after, totals_for, totals_with, with_account}
 use Rattle.front_conn_costs.specs.steps.Conns.{AreTotalsOf, in_total}

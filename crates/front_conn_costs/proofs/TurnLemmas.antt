@@ -12,20 +12,20 @@ use Rattle.gw_outside.specs.declared.backends.Heard.TheVariants as look
 use Rattle.gw_outside.specs.declared.backends.Opening.TheVariants as opening
 use Rattle.pool_sets.specs.Counts.{DoorCounts, is_booked, is_dial, is_full}
 use Rattle.pool_sets.specs.declared.doors.Taken.TheVariants as taken
-use Rattle.leg.specs.declared.accounts.Account.{Account}
-use Rattle.leg.specs.declared.accounts.Rises.{Rises}
-use Rattle.leg.specs.declared.answers.Turned.{Turned}
-use Rattle.leg.specs.declared.answers.Turned.TheVariants as turned
-use Rattle.leg.specs.declared.phases.Phase.{Phase}
-use Rattle.leg.specs.declared.phases.Phase.TheVariants.{Begin, Dialling, Dialled, Ready, Searching, Presenting, Fetching, Scanning, Returning, Losing, Redialling, Spoiled, Done, Ended}
-use Rattle.leg.specs.declared.tasks.Task.{Task}
-use Rattle.leg.specs.Accounts.{counted, more, no_rises, rises_by}
-use Rattle.leg.specs.Deeds.{Deed, took, opened, began, heard, put_back, gave_up, redialled, no_memory, nothing, rises_of, waits, door_counts, BackendView, CountsMove}
-use Rattle.leg.specs.Phases.{is_done}
-use Rattle.leg.specs.Rules.{Ends, Lack, always, answer_of, lack_of, left_by, next}
-use Rattle.leg.specs.Tasks.{want_of}
-use Rattle.leg.specs.Terms.{Terms}
-use Rattle.leg.specs.Turns.{DoorView, IsTurn}
+use Rattle.front_conn.specs.leg.declared.accounts.Account.{Account}
+use Rattle.front_conn.specs.leg.declared.accounts.Rises.{Rises}
+use Rattle.front_conn.specs.leg.declared.answers.Turned.{Turned}
+use Rattle.front_conn.specs.leg.declared.answers.Turned.TheVariants as turned
+use Rattle.front_conn.specs.leg.declared.phases.Phase.{Phase}
+use Rattle.front_conn.specs.leg.declared.phases.Phase.TheVariants.{Begin, Dialling, Dialled, Ready, Searching, Presenting, Fetching, Scanning, Returning, Losing, Redialling, Spoiled, Done, Ended}
+use Rattle.front_conn.specs.leg.declared.tasks.Task.{Task}
+use Rattle.front_conn.specs.leg.Accounts.{counted, more, no_rises, rises_by}
+use Rattle.front_conn.specs.leg.Deeds.{Deed, took, opened, began, heard, put_back, gave_up, redialled, no_memory, nothing, rises_of, waits, door_counts, BackendView, CountsMove}
+use Rattle.front_conn.specs.leg.Phases.{is_done}
+use Rattle.front_conn.specs.leg.Rules.{Ends, Lack, always, answer_of, lack_of, left_by, next}
+use Rattle.front_conn.specs.leg.Tasks.{want_of}
+use Rattle.front_conn.specs.leg.Terms.{Terms}
+use Rattle.front_conn.specs.leg.Turns.{DoorView, IsTurn}
 use Rattle.front_conn_costs.specs.steps.Growth.{RisesAsMuch, RisesEnough}
 use Rattle.front_conn_costs.specs.steps.Numbers.{Number, dials, searches, gones, faults, in_account, in_counts, IsTold, Caused, link, silent, gone, full, met_by, met_outside}
 use Rattle.front_conn_costs.proofs.GrowthLemmas.{as-one, enough-one}

@@ -9,3 +9,9 @@ pub use laws::{
     starts_costless, stays_costed, steps_cost, steps_count, steps_keep_totals, steps_meet,
     steps_owe_few, steps_pay, sums_at_rest,
 };
+
+// Handed on: crates above name these through this one.
+pub use front_conn::front_http;
+pub use front_conn::gateway_rules;
+pub use front_conn::sru_rules;
+pub use front_conn;

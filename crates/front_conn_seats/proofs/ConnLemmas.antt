@@ -10,21 +10,21 @@ use Rattle.z_types.specs.declared.world.World as world
 use Rattle.route_config.specs.declared.route.Route.{Route}
 use Rattle.pool_sets.specs.Plain.{Pool}
 use Rattle.pool_sets.specs.declared.doors.Seat.{Seat}
-use Rattle.front_z.specs.declared.units.Begun.{Begun}
-use Rattle.front_z.specs.declared.units.Begun.TheVariants as begun
-use Rattle.leg.specs.LegView.{LegView}
-use Rattle.leg.specs.Phases.{answered, seat_of}
-use Rattle.leg.specs.declared.answers.Turned.{Turned}
-use Rattle.leg.specs.declared.answers.Turned.TheVariants as turned
-use Rattle.leg.specs.declared.phases.Phase.{Phase}
-use Rattle.leg.specs.declared.phases.Phase.TheVariants.{Begin, Dialling, Dialled, Ready, Searching, Presenting, Fetching, Scanning, Returning, Losing, Redialling, Spoiled, Done, Ended}
-use Rattle.leg.specs.declared.tasks.Task.{Task}
-use Rattle.package.specs.steps.Ends.{lost_seats}
-use Rattle.package.specs.steps.Packages.{AreDone, HasFitting, IsOver, IsPackageOf, PackageView, new_package}
-use Rattle.front_sru.specs.declared.begun.Begun as sru_begun
-use Rattle.front_sru.specs.declared.begun.Begun.TheVariants as get
-use Rattle.front_sru.specs.declared.state.SruStage.{SruStage}
-use Rattle.front_sru.specs.declared.state.SruStage.TheVariants as at
+use Rattle.front_conn.specs.front_z.declared.units.Begun.{Begun}
+use Rattle.front_conn.specs.front_z.declared.units.Begun.TheVariants as begun
+use Rattle.front_conn.specs.leg.LegView.{LegView}
+use Rattle.front_conn.specs.leg.Phases.{answered, seat_of}
+use Rattle.front_conn.specs.leg.declared.answers.Turned.{Turned}
+use Rattle.front_conn.specs.leg.declared.answers.Turned.TheVariants as turned
+use Rattle.front_conn.specs.leg.declared.phases.Phase.{Phase}
+use Rattle.front_conn.specs.leg.declared.phases.Phase.TheVariants.{Begin, Dialling, Dialled, Ready, Searching, Presenting, Fetching, Scanning, Returning, Losing, Redialling, Spoiled, Done, Ended}
+use Rattle.front_conn.specs.leg.declared.tasks.Task.{Task}
+use Rattle.front_conn.specs.package.steps.Ends.{lost_seats}
+use Rattle.front_conn.specs.package.steps.Packages.{AreDone, HasFitting, IsOver, IsPackageOf, PackageView, new_package}
+use Rattle.front_conn.specs.front_sru.declared.begun.Begun as sru_begun
+use Rattle.front_conn.specs.front_sru.declared.begun.Begun.TheVariants as get
+use Rattle.front_conn.specs.front_sru.declared.state.SruStage.{SruStage}
+use Rattle.front_conn.specs.front_sru.declared.state.SruStage.TheVariants as at
 use Rattle.front_conn.specs.declared.stepped.Stepped.{Stepped}
 use Rattle.front_conn.specs.declared.stepped.Stepped.TheVariants.{Idle, NotYet, Went, Memory}
 use Rattle.front_conn.specs.steps.Answering.{AnsweringState, EndsAt, IsKeptBehind, IsKeptBehindGet, IsKeptBehindHead, Outside, TurnsWork, WorksOn, legs_in}

@@ -16,21 +16,21 @@ use Rattle.pool_sets.specs.Table.{after_forget}
 use Rattle.pool_sets.specs.declared.doors.Seat.{Seat}
 use Rattle.pool_sets.specs.declared.doors.Taken.{Taken}
 use Rattle.pool_sets.specs.declared.doors.Taken.TheVariants as taken
-use Rattle.leg.specs.Deeds.{BackendView, Deed, took, opened, began, heard, put_back, gave_up, redialled, no_memory, nothing}
-use Rattle.leg.specs.Phases.{given_up, hold, replied, seat_of, with_sets, with_session}
-use Rattle.leg.specs.Rules.{Ends, Lack, after_fault, after_first, after_take, answer_of, gone_again, lack_of, left_by, never, always, out_of_range, perhaps, next, next_ask, recorded, unless_silent, with_items, with_set}
-use Rattle.leg.specs.Tasks.{want_of}
-use Rattle.leg.specs.Terms.{Terms}
-use Rattle.leg.specs.Turns.{DoorView, GivesUp, IsAskedIf, IsDue, IsTurn, PoolMoves, lost_seat}
-use Rattle.leg.specs.declared.accounts.Account.{Account}
-use Rattle.leg.specs.declared.answers.LegAnswer.TheVariants as answer
-use Rattle.leg.specs.declared.answers.Turned.{Turned}
-use Rattle.leg.specs.declared.answers.Turned.TheVariants as turned
-use Rattle.leg.specs.declared.phases.Held.{Held}
-use Rattle.leg.specs.declared.phases.Phase.{Phase}
-use Rattle.leg.specs.declared.phases.Phase.TheVariants.{Begin, Dialling, Dialled, Ready, Searching, Presenting, Fetching, Scanning, Returning, Losing, Redialling, Spoiled, Done, Ended}
-use Rattle.leg.specs.declared.tasks.Task.{Task}
-use Rattle.leg.specs.declared.tasks.Task.TheVariants.{Hits, Records, Scan}
+use Rattle.front_conn.specs.leg.Deeds.{BackendView, Deed, took, opened, began, heard, put_back, gave_up, redialled, no_memory, nothing}
+use Rattle.front_conn.specs.leg.Phases.{given_up, hold, replied, seat_of, with_sets, with_session}
+use Rattle.front_conn.specs.leg.Rules.{Ends, Lack, after_fault, after_first, after_take, answer_of, gone_again, lack_of, left_by, never, always, out_of_range, perhaps, next, next_ask, recorded, unless_silent, with_items, with_set}
+use Rattle.front_conn.specs.leg.Tasks.{want_of}
+use Rattle.front_conn.specs.leg.Terms.{Terms}
+use Rattle.front_conn.specs.leg.Turns.{DoorView, GivesUp, IsAskedIf, IsDue, IsTurn, PoolMoves, lost_seat}
+use Rattle.front_conn.specs.leg.declared.accounts.Account.{Account}
+use Rattle.front_conn.specs.leg.declared.answers.LegAnswer.TheVariants as answer
+use Rattle.front_conn.specs.leg.declared.answers.Turned.{Turned}
+use Rattle.front_conn.specs.leg.declared.answers.Turned.TheVariants as turned
+use Rattle.front_conn.specs.leg.declared.phases.Held.{Held}
+use Rattle.front_conn.specs.leg.declared.phases.Phase.{Phase}
+use Rattle.front_conn.specs.leg.declared.phases.Phase.TheVariants.{Begin, Dialling, Dialled, Ready, Searching, Presenting, Fetching, Scanning, Returning, Losing, Redialling, Spoiled, Done, Ended}
+use Rattle.front_conn.specs.leg.declared.tasks.Task.{Task}
+use Rattle.front_conn.specs.leg.declared.tasks.Task.TheVariants.{Hits, Records, Scan}
 use Rattle.front_conn_seats.specs.steps.Seats.{AreOut, AreOutOf, DoesItsTask, IsHeld, held_at, no_seat}
 use Rattle.front_conn_seats.proofs.PoolLemmas.{expire-out, lose-out, lost-seat-out, put-back-out, redial-out, seat_in, take-given}
 

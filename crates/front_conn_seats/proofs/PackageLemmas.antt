@@ -8,20 +8,20 @@ use Rattle.z_types.specs.declared.world.World as world
 use Rattle.route_config.specs.declared.route.Route.{Route}
 use Rattle.pool_sets.specs.Plain.{Pool}
 use Rattle.pool_sets.specs.declared.doors.Seat.{Seat}
-use Rattle.leg.specs.Deeds.{BackendView}
-use Rattle.leg.specs.LegView.{LegView}
-use Rattle.leg.specs.Phases.{is_done, seat_of}
-use Rattle.leg.specs.Terms.{terms_of}
-use Rattle.leg.specs.Turns.{DoorView, lost_seat}
-use Rattle.leg.specs.declared.answers.Turned.{Turned}
-use Rattle.leg.specs.declared.answers.Turned.TheVariants as turned
-use Rattle.leg.specs.declared.tasks.Task.{Task}
-use Rattle.package_rules.specs.Asked.{Asked, first_asked}
-use Rattle.package_rules.specs.Planned.{then_asked_by}
-use Rattle.package.specs.declared.turning.Round.{Round}
-use Rattle.package.specs.steps.Ends.{gave_all_up, gave_up, lost_seats}
-use Rattle.package.specs.steps.Packages.{AsksSo, IsPlanned, PackageView, answers_of, begun, new_package}
-use Rattle.package.specs.steps.Turns.{GoesOn, HadTurn, HasTurned, HaveTurned, IsPackageTurn, Plans, TakesTurn, all_done, no_round}
+use Rattle.front_conn.specs.leg.Deeds.{BackendView}
+use Rattle.front_conn.specs.leg.LegView.{LegView}
+use Rattle.front_conn.specs.leg.Phases.{is_done, seat_of}
+use Rattle.front_conn.specs.leg.Terms.{terms_of}
+use Rattle.front_conn.specs.leg.Turns.{DoorView, lost_seat}
+use Rattle.front_conn.specs.leg.declared.answers.Turned.{Turned}
+use Rattle.front_conn.specs.leg.declared.answers.Turned.TheVariants as turned
+use Rattle.front_conn.specs.leg.declared.tasks.Task.{Task}
+use Rattle.front_conn.specs.package_rules.Asked.{Asked, first_asked}
+use Rattle.front_conn.specs.package_rules.Planned.{then_asked_by}
+use Rattle.front_conn.specs.package.declared.turning.Round.{Round}
+use Rattle.front_conn.specs.package.steps.Ends.{gave_all_up, gave_up, lost_seats}
+use Rattle.front_conn.specs.package.steps.Packages.{AsksSo, IsPlanned, PackageView, answers_of, begun, new_package}
+use Rattle.front_conn.specs.package.steps.Turns.{GoesOn, HadTurn, HasTurned, HaveTurned, IsPackageTurn, Plans, TakesTurn, all_done, no_round}
 use Rattle.front_conn_seats.specs.steps.Seats.{AreHeld, AreOut, AreOutOf, DoesItsTask, IsHeld, held_at, held_in, no_seat}
 use Rattle.front_conn_seats.proofs.PoolLemmas.{lost-seat-out, out-as}
 use Rattle.front_conn_seats.proofs.LegLemmas.{gave-up, turn-keeps}

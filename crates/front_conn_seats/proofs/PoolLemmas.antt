@@ -16,7 +16,7 @@ use Rattle.pool_sets.specs.Sessions.{Session, Idler, first_some, idle_in, idle_w
 use Rattle.pool_sets.specs.Plain.{Ascends, Pool, any_idle, choice, dial_for, expire, has_number, idle_again, is_seat, lost, one_idle, open_one, out_for, out_of, put, redial, redial_at_seat, redial_member, stays_open, take_of, with_fresh_sets}
 use Rattle.pool_sets.proofs.SeatLemmas.{count-append, count-cons, once}
 use Rattle.pool_core.proofs.Ascending.{ascends_filter, ascends_map, ascends_push}
-use Rattle.leg.specs.Turns.{lost_seat}
+use Rattle.front_conn.specs.leg.Turns.{lost_seat}
 use Rattle.front_conn_seats.specs.steps.Seats.{AreOut, held_at, is_same, no_seat}
 use Rattle.front_conn_seats.proofs.CountLemmas.{expired-out, lent-out, lost-out, put-out, redialled-out, without}
 

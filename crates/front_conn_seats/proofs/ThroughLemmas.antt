@@ -7,7 +7,7 @@ use Rattle.z_types.specs.declared.world.World as world
 use Rattle.route_config.specs.declared.route.Route.{Route}
 use Rattle.pool_sets.specs.Plain.{Ascends, Pool, out_of}
 use Rattle.pool_sets.specs.declared.doors.Seat.{Seat}
-use Rattle.package.specs.steps.Packages.{PackageView}
+use Rattle.front_conn.specs.package.steps.Packages.{PackageView}
 use Rattle.front_conn.specs.steps.Answering.{legs_in}
 use Rattle.front_conn.specs.steps.Feeding.{fed_piece}
 use Rattle.front_conn.specs.steps.States.{ConnectionState}

@@ -8,15 +8,15 @@ use Rattle.z_types.specs.declared.marks.Mark.{Mark}
 use Rattle.z_types.specs.declared.work.Work.{Work}
 use Rattle.z_types.specs.declared.world.World as world
 use Rattle.route_config.specs.declared.route.Route.{Route}
-use Rattle.gateway_rules.specs.Answers as kind
-use Rattle.gateway_rules.specs.Answers.{IsReceived, kind_of}
-use Rattle.gateway_rules.specs.Course.{Course, Received, course, octets_of}
-use Rattle.gateway_rules.specs.Marks.{Cause}
-use Rattle.gateway_rules.specs.Runs.{marks_of}
-use Rattle.gateway_rules.specs.State.{at_the_start, new_client}
-use Rattle.gateway_rules.proofs.OneEnding.{connection-one, frame-filled}
-use Rattle.package.specs.steps.Packages.{PackageView}
-use Rattle.front_session.specs.Sessions.{new_session}
+use Rattle.front_conn.specs.gateway_rules.Answers as kind
+use Rattle.front_conn.specs.gateway_rules.Answers.{IsReceived, kind_of}
+use Rattle.front_conn.specs.gateway_rules.Course.{Course, Received, course, octets_of}
+use Rattle.front_conn.specs.gateway_rules.Marks.{Cause}
+use Rattle.front_conn.specs.gateway_rules.Runs.{marks_of}
+use Rattle.front_conn.specs.gateway_rules.State.{at_the_start, new_client}
+use Rattle.front_conn.proofs.gateway_rules.OneEnding.{connection-one, frame-filled}
+use Rattle.front_conn.specs.package.steps.Packages.{PackageView}
+use Rattle.front_conn.specs.front_session.Sessions.{new_session}
 use Rattle.front_conn.specs.steps.Feeding.{fed_piece, with_end, without_out}
 use Rattle.front_conn.specs.steps.States.{ConnectionState, MayCome, nothing_yet}
 use Rattle.front_conn_works.specs.Works.{works_of}

@@ -2,13 +2,13 @@
 use Rattle.std.proofs.Common.{◌≡◌, List, [], ◌∷◌, ◌++◌, Some, refl, sym, ap, ◌∙◌, append_assoc}
 use Rattle.z_types.specs.declared.world.World as world
 use Rattle.route_config.specs.declared.route.Route.{Route}
-use Rattle.gateway_rules.specs.Course as at
-use Rattle.gateway_rules.specs.Course.{Course, Received, course, followed, stands_at}
-use Rattle.gateway_rules.specs.Marks.{Cause}
-use Rattle.gateway_rules.specs.Session as session
-use Rattle.gateway_rules.specs.Session.{IsServed, answered, run}
-use Rattle.gateway_rules.specs.State.{ClientState, Progress}
-use Rattle.gateway_rules.proofs.Composition.{course-append}
+use Rattle.front_conn.specs.gateway_rules.Course as at
+use Rattle.front_conn.specs.gateway_rules.Course.{Course, Received, course, followed, stands_at}
+use Rattle.front_conn.specs.gateway_rules.Marks.{Cause}
+use Rattle.front_conn.specs.gateway_rules.Session as session
+use Rattle.front_conn.specs.gateway_rules.Session.{IsServed, answered, run}
+use Rattle.front_conn.specs.gateway_rules.State.{ClientState, Progress}
+use Rattle.front_conn.proofs.gateway_rules.Composition.{course-append}
 use Rattle.front_conn_works.specs.Works.{work_of, works_of}
 
 module _ {W : Type 0} (w : world.Ghosts W) (route : Route) where

@@ -8,16 +8,16 @@ use Rattle.z_types.specs.declared.memory.Memory.{Memory as NoMemory}
 use Rattle.z_types.specs.declared.sitting.Sitting as sitting
 use Rattle.z_types.specs.declared.world.World as world
 use Rattle.route_config.specs.declared.route.Route.{Route}
-use Rattle.front_sru.specs.declared.begun.Begun as sru_begun
-use Rattle.front_sru.specs.declared.begun.Begun.TheVariants as get
-use Rattle.front_sru.specs.declared.state.SruStage.{SruStage}
-use Rattle.front_sru.specs.declared.state.SruStage.TheVariants.{Idle as NoGet, Searching, Fetching}
-use Rattle.front_z.specs.declared.units.Begun.{Begun}
-use Rattle.front_z.specs.declared.units.Begun.TheVariants as begun
-use Rattle.leg.specs.declared.answers.Turned.{Turned}
-use Rattle.leg.specs.declared.answers.Turned.TheVariants as turned
-use Rattle.package.specs.steps.Ends.{cause_in}
-use Rattle.package.specs.steps.Packages.{PackageView}
+use Rattle.front_conn.specs.front_sru.declared.begun.Begun as sru_begun
+use Rattle.front_conn.specs.front_sru.declared.begun.Begun.TheVariants as get
+use Rattle.front_conn.specs.front_sru.declared.state.SruStage.{SruStage}
+use Rattle.front_conn.specs.front_sru.declared.state.SruStage.TheVariants.{Idle as NoGet, Searching, Fetching}
+use Rattle.front_conn.specs.front_z.declared.units.Begun.{Begun}
+use Rattle.front_conn.specs.front_z.declared.units.Begun.TheVariants as begun
+use Rattle.front_conn.specs.leg.declared.answers.Turned.{Turned}
+use Rattle.front_conn.specs.leg.declared.answers.Turned.TheVariants as turned
+use Rattle.front_conn.specs.package.steps.Ends.{cause_in}
+use Rattle.front_conn.specs.package.steps.Packages.{PackageView}
 use Rattle.front_conn.specs.declared.stepped.Stepped.{Stepped}
 use Rattle.front_conn.specs.declared.stepped.Stepped.TheVariants.{Idle, NotYet, Went, Memory}
 use Rattle.front_conn.specs.steps.Answering.{AnsweringState, EndsAt, IsEndAfter, IsKeptBehind, IsKeptBehindGet, IsKeptBehindHead, Outside, WorksOn}

@@ -11,18 +11,18 @@ use Rattle.z_types.specs.declared.requests.Request.TheVariants as request
 use Rattle.z_types.specs.declared.work.Work.{Work}
 use Rattle.z_types.specs.declared.world.World as world
 use Rattle.route_config.specs.declared.route.Route.{Route}
-use Rattle.gateway_rules.specs.Asking as asking
-use Rattle.gateway_rules.specs.Asking.{Asking, asked}
-use Rattle.gateway_rules.specs.Course as at
-use Rattle.gateway_rules.specs.Course.{Course}
-use Rattle.gateway_rules.specs.Cut.{cut_of}
-use Rattle.gateway_rules.specs.Given.{returned}
-use Rattle.gateway_rules.specs.Marks.{Cause}
-use Rattle.gateway_rules.specs.Outcomes.{plain_outcome, under_mark}
-use Rattle.gateway_rules.specs.Runs.{marks_of}
-use Rattle.gateway_rules.specs.Session.{answer_to, answered, run}
-use Rattle.gateway_rules.specs.Settling.{asked_of, client_after, fetched_of, found_hits, given_of, sets_after, why_failed}
-use Rattle.gateway_rules.specs.State.{ClientState}
+use Rattle.front_conn.specs.gateway_rules.Asking as asking
+use Rattle.front_conn.specs.gateway_rules.Asking.{Asking, asked}
+use Rattle.front_conn.specs.gateway_rules.Course as at
+use Rattle.front_conn.specs.gateway_rules.Course.{Course}
+use Rattle.front_conn.specs.gateway_rules.Cut.{cut_of}
+use Rattle.front_conn.specs.gateway_rules.Given.{returned}
+use Rattle.front_conn.specs.gateway_rules.Marks.{Cause}
+use Rattle.front_conn.specs.gateway_rules.Outcomes.{plain_outcome, under_mark}
+use Rattle.front_conn.specs.gateway_rules.Runs.{marks_of}
+use Rattle.front_conn.specs.gateway_rules.Session.{answer_to, answered, run}
+use Rattle.front_conn.specs.gateway_rules.Settling.{asked_of, client_after, fetched_of, found_hits, given_of, sets_after, why_failed}
+use Rattle.front_conn.specs.gateway_rules.State.{ClientState}
 use Rattle.front_conn_works.specs.Works.{work_of, works_of}
 
 -- ---- the client behind a request

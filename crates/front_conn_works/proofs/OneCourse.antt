@@ -5,11 +5,11 @@ use Rattle.std.specs.List.{AllByRecursion}
 use Rattle.std.proofs.lemmas.List.{append_cancel_left}
 use Rattle.z_ber.proofs.OneSplit.{frame_begins_no_other}
 use Rattle.route_config.specs.declared.route.Route.{Route}
-use Rattle.gateway_rules.specs.Answers.{IsReceived, RestLeadsTo}
-use Rattle.gateway_rules.specs.Course as at
-use Rattle.gateway_rules.specs.Course.{Course, Meeting, Received, after, course, followed, leads_to, met, octets_of, stands_at}
-use Rattle.gateway_rules.specs.State.{Progress}
-use Rattle.gateway_rules.proofs.OneEnding.{extent-filled, received-one, rest-begins_none}
+use Rattle.front_conn.specs.gateway_rules.Answers.{IsReceived, RestLeadsTo}
+use Rattle.front_conn.specs.gateway_rules.Course as at
+use Rattle.front_conn.specs.gateway_rules.Course.{Course, Meeting, Received, after, course, followed, leads_to, met, octets_of, stands_at}
+use Rattle.front_conn.specs.gateway_rules.State.{Progress}
+use Rattle.front_conn.proofs.gateway_rules.OneEnding.{extent-filled, received-one, rest-begins_none}
 
 -- ---- units
 

@@ -6,19 +6,19 @@ use Rattle.z_types.specs.declared.marks.Mark.{Mark}
 use Rattle.z_types.specs.declared.work.Work.{Work}
 use Rattle.z_types.specs.declared.world.World as world
 use Rattle.route_config.specs.declared.route.Route.{Route}
-use Rattle.gateway_rules.specs.Answers as kind
-use Rattle.gateway_rules.specs.Answers.{IsConnection, IsCourse, IsCourseOf, Kind, kind_of}
-use Rattle.gateway_rules.specs.Course as at
-use Rattle.gateway_rules.specs.Course.{Course, course, followed, octets_of}
-use Rattle.gateway_rules.specs.Marks.{Cause}
-use Rattle.gateway_rules.specs.Replies.{bad_unit_reply}
-use Rattle.gateway_rules.specs.Runs.{marks_of}
-use Rattle.gateway_rules.specs.Session as session
-use Rattle.gateway_rules.specs.Session.{IsServed, Run, Stop, run}
-use Rattle.gateway_rules.specs.State.{ClientState, Progress, at_the_start, new_client}
-use Rattle.gateway_rules.proofs.Composition.{run-followed}
-use Rattle.gateway_rules.proofs.Joined.{goes_on}
-use Rattle.sru_rules.specs.Answers.{Answers, AnswersAs}
+use Rattle.front_conn.specs.gateway_rules.Answers as kind
+use Rattle.front_conn.specs.gateway_rules.Answers.{IsConnection, IsCourse, IsCourseOf, Kind, kind_of}
+use Rattle.front_conn.specs.gateway_rules.Course as at
+use Rattle.front_conn.specs.gateway_rules.Course.{Course, course, followed, octets_of}
+use Rattle.front_conn.specs.gateway_rules.Marks.{Cause}
+use Rattle.front_conn.specs.gateway_rules.Replies.{bad_unit_reply}
+use Rattle.front_conn.specs.gateway_rules.Runs.{marks_of}
+use Rattle.front_conn.specs.gateway_rules.Session as session
+use Rattle.front_conn.specs.gateway_rules.Session.{IsServed, Run, Stop, run}
+use Rattle.front_conn.specs.gateway_rules.State.{ClientState, Progress, at_the_start, new_client}
+use Rattle.front_conn.proofs.gateway_rules.Composition.{run-followed}
+use Rattle.front_conn.proofs.gateway_rules.Joined.{goes_on}
+use Rattle.front_conn.specs.sru_rules.Answers.{Answers, AnswersAs}
 use Rattle.front_conn.specs.steps.States.{ConnectionState, Rests}
 use Rattle.front_conn.proofs.StateLemmas.{stand_of}
 use Rattle.front_conn_works.specs.Works.{works_of}

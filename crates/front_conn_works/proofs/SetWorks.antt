@@ -9,9 +9,9 @@ use Rattle.z_types.specs.declared.requests.Request.TheVariants as request
 use Rattle.z_types.specs.declared.world.World as world
 use Rattle.z_sets.specs.Sets.{StoredSet, set_named, stored}
 use Rattle.route_config.specs.declared.route.Route.{Route}
-use Rattle.gateway_rules.specs.Asking.{asked, asked_with, hits_meant, known_hits, present_due, unless_refused}
-use Rattle.front_session.specs.Admitting.{hits_named}
-use Rattle.front_session.specs.Sessions.{SessionState, client_of}
+use Rattle.front_conn.specs.gateway_rules.Asking.{asked, asked_with, hits_meant, known_hits, present_due, unless_refused}
+use Rattle.front_conn.specs.front_session.Admitting.{hits_named}
+use Rattle.front_conn.specs.front_session.Sessions.{SessionState, client_of}
 use Rattle.front_conn.specs.steps.States.{HasMeantHits}
 
 module _ {W : Type 0} (w : world.Ghosts W) (route : Route) where

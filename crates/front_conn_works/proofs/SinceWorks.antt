@@ -8,14 +8,14 @@ use Rattle.z_types.specs.declared.sitting.Sitting as sitting
 use Rattle.z_types.specs.declared.work.Work.{Work}
 use Rattle.z_types.specs.declared.world.World as world
 use Rattle.route_config.specs.declared.route.Route.{Route}
-use Rattle.gateway_rules.specs.Answers.{IsReceived}
-use Rattle.gateway_rules.specs.Course.{Received, course, octets_of}
-use Rattle.gateway_rules.specs.Marks.{Cause}
-use Rattle.gateway_rules.specs.Runs.{marks_of}
-use Rattle.gateway_rules.specs.Session.{Run, run}
-use Rattle.gateway_rules.specs.State.{ClientState, at_the_start, new_client}
-use Rattle.gateway_rules.proofs.Runs.{all-append}
-use Rattle.front_session.specs.Sessions.{client_of}
+use Rattle.front_conn.specs.gateway_rules.Answers.{IsReceived}
+use Rattle.front_conn.specs.gateway_rules.Course.{Received, course, octets_of}
+use Rattle.front_conn.specs.gateway_rules.Marks.{Cause}
+use Rattle.front_conn.specs.gateway_rules.Runs.{marks_of}
+use Rattle.front_conn.specs.gateway_rules.Session.{Run, run}
+use Rattle.front_conn.specs.gateway_rules.State.{ClientState, at_the_start, new_client}
+use Rattle.front_conn.proofs.gateway_rules.Runs.{all-append}
+use Rattle.front_conn.specs.front_session.Sessions.{client_of}
 use Rattle.front_conn.specs.steps.States.{Rests}
 use Rattle.front_conn.proofs.StateLemmas.{rests-of, stand_of}
 use Rattle.front_conn_works.specs.Works.{works_of}

@@ -5,11 +5,11 @@ use Rattle.z_types.specs.declared.sitting.Sitting as sitting
 use Rattle.z_types.specs.declared.work.Work.{Work}
 use Rattle.z_types.specs.declared.world.World as world
 use Rattle.route_config.specs.declared.route.Route.{Route}
-use Rattle.gateway_rules.specs.Answers as kind
-use Rattle.gateway_rules.specs.Answers.{kind_of}
-use Rattle.gateway_rules.specs.Course.{octets_of}
-use Rattle.gateway_rules.specs.Fair.{IsFair}
-use Rattle.package.specs.steps.Packages.{PackageView}
+use Rattle.front_conn.specs.gateway_rules.Answers as kind
+use Rattle.front_conn.specs.gateway_rules.Answers.{kind_of}
+use Rattle.front_conn.specs.gateway_rules.Course.{octets_of}
+use Rattle.front_conn.specs.gateway_rules.Fair.{IsFair}
+use Rattle.front_conn.specs.package.steps.Packages.{PackageView}
 use Rattle.front_conn.specs.declared.stepped.Stepped.{Stepped}
 use Rattle.front_conn.specs.declared.stepped.Stepped.TheVariants.{Idle, NotYet, Went, Memory}
 use Rattle.front_conn.specs.steps.Answering.{Outside}

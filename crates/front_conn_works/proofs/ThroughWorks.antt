@@ -6,10 +6,10 @@ use Rattle.z_types.specs.declared.sitting.Sitting as sitting
 use Rattle.z_types.specs.declared.work.Work.{Work}
 use Rattle.z_types.specs.declared.world.World as world
 use Rattle.route_config.specs.declared.route.Route.{Route}
-use Rattle.gateway_rules.specs.Answers as kind
-use Rattle.gateway_rules.specs.Answers.{kind_of}
-use Rattle.gateway_rules.specs.Fair.{IsFair}
-use Rattle.package.specs.steps.Packages.{PackageView}
+use Rattle.front_conn.specs.gateway_rules.Answers as kind
+use Rattle.front_conn.specs.gateway_rules.Answers.{kind_of}
+use Rattle.front_conn.specs.gateway_rules.Fair.{IsFair}
+use Rattle.front_conn.specs.package.steps.Packages.{PackageView}
 use Rattle.front_conn.specs.steps.Feeding.{StandsWhenEnded, StandsWhenFed, StandsWhenWritten, fed_piece, with_end, with_piece, without_out}
 use Rattle.front_conn.specs.steps.States.{ConnectionState, IsStateOf}
 use Rattle.front_conn_works.specs.steps.Begun.{HasBegun, begun_by}

@@ -12,25 +12,25 @@ use Rattle.z_types.specs.declared.requests.Request.{Request}
 use Rattle.z_types.specs.declared.work.Work.{Work}
 use Rattle.z_types.specs.declared.world.World as world
 use Rattle.route_config.specs.declared.route.Route.{Route}
-use Rattle.gateway_rules.specs.Answers as kind
-use Rattle.gateway_rules.specs.Answers.{IsConnection, IsCourseOf, IsReceived, Kind, kind_of}
-use Rattle.gateway_rules.specs.Asking as asking
-use Rattle.gateway_rules.specs.Asking.{Asking, asked_with}
-use Rattle.gateway_rules.specs.Course as at
-use Rattle.gateway_rules.specs.Course.{Course, Meeting, Received, after, course, leads_to, met, octets_of, stands_at}
-use Rattle.gateway_rules.specs.Marks.{Cause, plain}
-use Rattle.gateway_rules.specs.Runs.{marks_of}
-use Rattle.gateway_rules.specs.Session as session
-use Rattle.gateway_rules.specs.Session.{Run, run}
-use Rattle.gateway_rules.specs.State.{ClientState, Progress, at_the_start, new_client}
-use Rattle.gateway_rules.proofs.Composition.{course-append}
-use Rattle.gateway_rules.proofs.Runs.{all-append}
-use Rattle.front_session.specs.Admitting.{hits_named}
-use Rattle.front_session.specs.Sessions.{SessionState, client_of, progress_of}
-use Rattle.front_z.specs.Units.{IsBegun, IsDueBegun, IsMetBegun}
-use Rattle.front_z.specs.declared.units.Begun.{Begun}
-use Rattle.front_z.specs.declared.units.Begun.TheVariants as begun
-use Rattle.package.specs.steps.Packages.{PackageView}
+use Rattle.front_conn.specs.gateway_rules.Answers as kind
+use Rattle.front_conn.specs.gateway_rules.Answers.{IsConnection, IsCourseOf, IsReceived, Kind, kind_of}
+use Rattle.front_conn.specs.gateway_rules.Asking as asking
+use Rattle.front_conn.specs.gateway_rules.Asking.{Asking, asked_with}
+use Rattle.front_conn.specs.gateway_rules.Course as at
+use Rattle.front_conn.specs.gateway_rules.Course.{Course, Meeting, Received, after, course, leads_to, met, octets_of, stands_at}
+use Rattle.front_conn.specs.gateway_rules.Marks.{Cause, plain}
+use Rattle.front_conn.specs.gateway_rules.Runs.{marks_of}
+use Rattle.front_conn.specs.gateway_rules.Session as session
+use Rattle.front_conn.specs.gateway_rules.Session.{Run, run}
+use Rattle.front_conn.specs.gateway_rules.State.{ClientState, Progress, at_the_start, new_client}
+use Rattle.front_conn.proofs.gateway_rules.Composition.{course-append}
+use Rattle.front_conn.proofs.gateway_rules.Runs.{all-append}
+use Rattle.front_conn.specs.front_session.Admitting.{hits_named}
+use Rattle.front_conn.specs.front_session.Sessions.{SessionState, client_of, progress_of}
+use Rattle.front_conn.specs.front_z.Units.{IsBegun, IsDueBegun, IsMetBegun}
+use Rattle.front_conn.specs.front_z.declared.units.Begun.{Begun}
+use Rattle.front_conn.specs.front_z.declared.units.Begun.TheVariants as begun
+use Rattle.front_conn.specs.package.steps.Packages.{PackageView}
 use Rattle.front_conn.specs.steps.Answering.{IsKeptBehind, served}
 use Rattle.front_conn.specs.steps.States.{ConnectionState, HasAnswered, Rests}
 use Rattle.front_conn.specs.steps.Steps.{TakesUnit, answering_of}
@@ -38,7 +38,7 @@ use Rattle.front_conn.proofs.StateLemmas.{kind-more, met-at, spelled-snoc, stand
 use Rattle.front_conn_works.specs.Works.{work_in, work_of, works_of}
 use Rattle.front_conn_works.specs.steps.Begun.{AreWorksBefore, AreWorksOf, HasBegun, begun_by}
 use Rattle.front_conn_works.proofs.BegunLemmas.{begun-of, filled-kind, of-going, of-over}
-use Rattle.gateway_rules.proofs.Runs.{over-followed, standing-stands}
+use Rattle.front_conn.proofs.gateway_rules.Runs.{over-followed, standing-stands}
 use Rattle.front_conn_works.proofs.CourseWorks.{stands-followed, works-append}
 use Rattle.front_conn_works.proofs.SetWorks.{asked-meant}
 

@@ -5,13 +5,13 @@ use Rattle.z_types.specs.declared.requests.Request.{Request}
 use Rattle.z_types.specs.declared.work.Work.{Work}
 use Rattle.z_types.specs.declared.world.World as world
 use Rattle.route_config.specs.declared.route.Route.{Route}
-use Rattle.gateway_rules.specs.Asking as asking
-use Rattle.gateway_rules.specs.Asking.{Asking, asked}
-use Rattle.gateway_rules.specs.Course as course
-use Rattle.gateway_rules.specs.Course.{Course}
-use Rattle.gateway_rules.specs.Marks.{Cause}
-use Rattle.gateway_rules.specs.Session.{answered}
-use Rattle.gateway_rules.specs.State.{ClientState}
+use Rattle.front_conn.specs.gateway_rules.Asking as asking
+use Rattle.front_conn.specs.gateway_rules.Asking.{Asking, asked}
+use Rattle.front_conn.specs.gateway_rules.Course as course
+use Rattle.front_conn.specs.gateway_rules.Course.{Course}
+use Rattle.front_conn.specs.gateway_rules.Marks.{Cause}
+use Rattle.front_conn.specs.gateway_rules.Session.{answered}
+use Rattle.front_conn.specs.gateway_rules.State.{ClientState}
 
 -- the work that is asked, if any: a reply at once has none
 abbrev pub work_in : Asking → List Work

@@ -14,21 +14,21 @@ use Rattle.z_types.specs.declared.work.Work.{Work}
 use Rattle.z_types.specs.declared.world.World as world
 use Rattle.route_config.specs.declared.route.Database.{Database}
 use Rattle.route_config.specs.declared.route.Route.{Route}
-use Rattle.gateway_rules.specs.Answers.{kind_of, letter}
-use Rattle.gateway_rules.specs.Marks.{Cause, IsAllowed, MayCome}
-use Rattle.gateway_rules.specs.Outcomes.{classes_asked, outcome_of}
-use Rattle.gateway_rules.specs.Settling.{found_hits, why_failed}
-use Rattle.gateway_rules.specs.Works.{mark_of}
+use Rattle.front_sru.specs.gateway_rules.Answers.{kind_of, letter}
+use Rattle.front_sru.specs.gateway_rules.Marks.{Cause, IsAllowed, MayCome}
+use Rattle.front_sru.specs.gateway_rules.Outcomes.{classes_asked, outcome_of}
+use Rattle.front_sru.specs.gateway_rules.Settling.{found_hits, why_failed}
+use Rattle.front_sru.specs.gateway_rules.Works.{mark_of}
 use Rattle.sru_reply.specs.Reply.{reply}
-use Rattle.sru_rules.specs.declared.retrieval.Retrieval.{Retrieval}
-use Rattle.sru_rules.specs.Answers.{Answers}
-use Rattle.sru_rules.specs.Asking.{fetch_work, fetched_count, search_work}
-use Rattle.sru_rules.specs.Course.{HasGet}
-use Rattle.sru_rules.specs.Laws.{FetchAnswers, FetchAsksNoMore, GetIsAnswered, GetStays, MarkIsKept, SearchAnswers}
-use Rattle.sru_rules.specs.Reading.{Reading}
-use Rattle.sru_rules.specs.Run.{Due, classes_of, due, get_answer, next_of, searches, taken_at}
-use Rattle.sru_rules.specs.Settling.{Next, after_hits, after_search, answered, fetch_answer, fetches, is_out_of_range, unless_failed}
-use Rattle.sru_rules.specs.steps.Works.{HasFound}
+use Rattle.front_sru.specs.sru_rules.declared.retrieval.Retrieval.{Retrieval}
+use Rattle.front_sru.specs.sru_rules.Answers.{Answers}
+use Rattle.front_sru.specs.sru_rules.Asking.{fetch_work, fetched_count, search_work}
+use Rattle.front_sru.specs.sru_rules.Course.{HasGet}
+use Rattle.front_sru.specs.sru_rules.Laws.{FetchAnswers, FetchAsksNoMore, GetIsAnswered, GetStays, MarkIsKept, SearchAnswers}
+use Rattle.front_sru.specs.sru_rules.Reading.{Reading}
+use Rattle.front_sru.specs.sru_rules.Run.{Due, classes_of, due, get_answer, next_of, searches, taken_at}
+use Rattle.front_sru.specs.sru_rules.Settling.{Next, after_hits, after_search, answered, fetch_answer, fetches, is_out_of_range, unless_failed}
+use Rattle.front_sru.specs.sru_rules.steps.Works.{HasFound}
 use Rattle.front_sru.specs.Gets.{IsEnded, IsNextDone, Served, next_behind, work_of}
 use Rattle.front_sru.specs.Kept.{fetching}
 use Rattle.front_sru.specs.declared.begun.Begun.{Begun}

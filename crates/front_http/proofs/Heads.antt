@@ -9,8 +9,8 @@ use Rattle.z_types.specs.declared.work.Work.{Work}
 use Rattle.z_types.specs.declared.world.World as world
 use Rattle.route_config.specs.declared.route.Database.{Database}
 use Rattle.route_config.specs.declared.route.Route.{Route}
-use Rattle.gateway_rules.specs.Answers.{kind_of, letter}
-use Rattle.gateway_rules.specs.Marks.{plain}
+use Rattle.front_sru.specs.gateway_rules.Answers.{kind_of, letter}
+use Rattle.front_sru.specs.gateway_rules.Marks.{plain}
 use Rattle.sru_reply.specs.Bare.{bare}
 use Rattle.sru_reply.specs.Reply.{reply}
 use Rattle.sru_reply.specs.declared.bare.Refusal.{Refusal}
@@ -21,12 +21,12 @@ use Rattle.sru_request.specs.declared.head.Get.{Get}
 use Rattle.sru_request.specs.declared.head.HeadGot.{HeadGot}
 use Rattle.sru_request.specs.declared.head.HeadGot.TheVariants.{Got, NeedMore}
 use Rattle.sru_request.specs.Request.{IsHeadAnswer}
-use Rattle.sru_rules.specs.Answers.{Answers}
-use Rattle.sru_rules.specs.Course.{GetLeadsTo, HasGet, HeadLeadsTo, database_of, ends}
-use Rattle.sru_rules.specs.Laws.{GetIsAnswered, HeadIsRefused}
-use Rattle.sru_rules.specs.Asking.{rpn_of, search_work}
-use Rattle.sru_rules.specs.Reading.{Reading, refused, taken}
-use Rattle.sru_rules.specs.Run.{Due, answer_to, at_once, due, due_by, searches}
+use Rattle.front_sru.specs.sru_rules.Answers.{Answers}
+use Rattle.front_sru.specs.sru_rules.Course.{GetLeadsTo, HasGet, HeadLeadsTo, database_of, ends}
+use Rattle.front_sru.specs.sru_rules.Laws.{GetIsAnswered, HeadIsRefused}
+use Rattle.front_sru.specs.sru_rules.Asking.{rpn_of, search_work}
+use Rattle.front_sru.specs.sru_rules.Reading.{Reading, refused, taken}
+use Rattle.front_sru.specs.sru_rules.Run.{Due, answer_to, at_once, due, due_by, searches}
 use Rattle.sru_request.specs.declared.query.SruQuery.{SruQuery}
 use Rattle.z_types.specs.declared.query.RpnQuery.{RpnQuery}
 use Rattle.z_types.specs.declared.sru.SruDiag.{SruDiag}
@@ -35,7 +35,7 @@ use Rattle.front_sru.specs.declared.begun.Begun.{Begun}
 use Rattle.front_sru.specs.declared.begun.Begun.TheVariants as begun
 use Rattle.front_sru.specs.declared.state.SruStage.{SruStage}
 use Rattle.front_http.specs.Gets.{IsAnswered, StandsInGet, WaitsFor}
-use Rattle.sru_rules.specs.declared.retrieval.Retrieval.{Retrieval}
+use Rattle.front_sru.specs.sru_rules.declared.retrieval.Retrieval.{Retrieval}
 use Rattle.front_http.specs.Heads.{IsHeadBegun, IsFaultBegun, IsRefusedBy}
 use Rattle.front_http.specs.Laws.{HeadsAnswer, HeadsStand}
 

@@ -5,13 +5,13 @@ use Rattle.z_types.specs.declared.marks.Mark.{Mark}
 use Rattle.z_types.specs.declared.world.World as world
 use Rattle.route_config.specs.declared.route.Database.{Database}
 use Rattle.route_config.specs.declared.route.Route.{Route}
-use Rattle.gateway_rules.specs.Marks.{Cause}
-use Rattle.sru_rules.specs.declared.retrieval.Retrieval.{Retrieval}
-use Rattle.sru_rules.specs.Answers.{Answers}
-use Rattle.sru_rules.specs.Course.{HasGet}
-use Rattle.sru_rules.specs.Reading.{Reading}
-use Rattle.sru_rules.specs.Run.{due, searches}
-use Rattle.sru_rules.specs.steps.Works.{HasFound}
+use Rattle.front_sru.specs.gateway_rules.Marks.{Cause}
+use Rattle.front_sru.specs.sru_rules.declared.retrieval.Retrieval.{Retrieval}
+use Rattle.front_sru.specs.sru_rules.Answers.{Answers}
+use Rattle.front_sru.specs.sru_rules.Course.{HasGet}
+use Rattle.front_sru.specs.sru_rules.Reading.{Reading}
+use Rattle.front_sru.specs.sru_rules.Run.{due, searches}
+use Rattle.front_sru.specs.sru_rules.steps.Works.{HasFound}
 use Rattle.front_sru.specs.Gets.{Served}
 use Rattle.front_sru.specs.declared.begun.Begun.{Begun}
 use Rattle.front_sru.specs.declared.begun.Begun.TheVariants as begun

@@ -6,9 +6,9 @@ use Rattle.z_types.specs.declared.outcome.Outcome.{Outcome}
 use Rattle.z_types.specs.declared.work.Work.{Work}
 use Rattle.z_types.specs.declared.world.World as world
 use Rattle.route_config.specs.declared.route.Route.{Route}
-use Rattle.gateway_rules.specs.Answers.{kind_of, letter}
-use Rattle.gateway_rules.specs.Marks.{Cause, IsAllowed}
-use Rattle.gateway_rules.specs.Outcomes.{classes_asked, outcome_of}
+use Rattle.front_sru.specs.gateway_rules.Answers.{kind_of, letter}
+use Rattle.front_sru.specs.gateway_rules.Marks.{Cause, IsAllowed}
+use Rattle.front_sru.specs.gateway_rules.Outcomes.{classes_asked, outcome_of}
 use Rattle.sru_request.specs.declared.faults.HeadFault.{HeadFault}
 use Rattle.sru_request.specs.declared.head.Get.{Get}
 use Rattle.front_sru.specs.Gets.{IsEnded, Served, work_of}

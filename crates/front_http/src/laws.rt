@@ -2,7 +2,7 @@
 
 ghost use Rattle.front_http.specs.Laws.{GetsGoOn, GetsStand, HeadsAnswer, HeadsStand};
 
-use sru_rules::{fetch_asks_no_more, get_is_answered, head_is_refused, works_answer};
+use front_sru::sru_rules::{fetch_asks_no_more, get_is_answered, head_is_refused, works_answer};
 use z_types::World;
 
 /// What a head was answered at once is the answer to its connection; one for which a work is begun is a

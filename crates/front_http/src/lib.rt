@@ -10,3 +10,7 @@ mod seek;
 pub use head::begin_head;
 pub use laws::{gets_go_on, heads_answer};
 pub use seek::{awaits_more, seek_head};
+
+// Handed on: crates above name these through this one.
+pub use front_sru::sru_rules;
+pub use front_sru;

@@ -18,3 +18,7 @@ mod settle;
 pub use admitted::Admitted;
 pub use cut::cut_of;
 pub use session::FrontSession;
+
+// Handed on: crates above name these through this one.
+pub use gateway_rules;
+pub use z_write;

@@ -5,7 +5,7 @@ use Rattle.z_types.specs.declared.marks.Mark.{Mark}
 use Rattle.z_types.specs.declared.marks.Mark.TheVariants.{Plain}
 use Rattle.z_types.specs.declared.sru.SruDiag.{SruDiag}
 use Rattle.z_types.specs.declared.work.Work.{Work}
-use Rattle.gateway_rules.specs.Works.{CanBegin, IsAskable}
+use Rattle.sru_rules.specs.gateway_rules.Works.{CanBegin, IsAskable}
 use Rattle.route_config.specs.declared.route.Database.{Database}
 use Rattle.route_config.specs.declared.route.Route.{Route}
 use Rattle.sru_reply.specs.Bare.{bare}

@@ -14,8 +14,8 @@ use Rattle.z_types.specs.declared.sru.SruAnswer.{SruAnswer}
 use Rattle.z_types.specs.declared.work.Work.{Work}
 use Rattle.route_config.specs.Sound.{IsSound}
 use Rattle.route_config.specs.declared.route.Route.{Route}
-use Rattle.gateway_rules.specs.Settling.{why_failed, found_hits}
-use Rattle.gateway_rules.specs.Works.{CanBegin, FitsWork, IsAskable, mark_of}
+use Rattle.sru_rules.specs.gateway_rules.Settling.{why_failed, found_hits}
+use Rattle.sru_rules.specs.gateway_rules.Works.{CanBegin, FitsWork, IsAskable, mark_of}
 use Rattle.sru_reply.specs.Reply.{reply}
 use Rattle.sru_rules.specs.declared.retrieval.Retrieval.{Retrieval}
 use Rattle.sru_rules.specs.Asking.{search_work, fetch_work, fetched_count}

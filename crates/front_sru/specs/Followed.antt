@@ -1,5 +1,5 @@
 -- For contracts alone: what follows a work of a GET (this project's own)
-use Rattle.gateway_rules.specs.Works.{CanBegin, IsAskable}
+use Rattle.sru_rules.specs.gateway_rules.Works.{CanBegin, IsAskable}
 use Rattle.sru_rules.specs.Settling.{Next, answered, fetches}
 use Rattle.front_sru.specs.declared.end.Followed.{Followed}
 use Rattle.front_sru.specs.declared.end.Followed.TheVariants.{Answered, Fetches}

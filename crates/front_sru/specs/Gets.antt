@@ -12,7 +12,7 @@ use Rattle.z_types.specs.declared.sru.SruDiag.{SruDiag}
 use Rattle.z_types.specs.declared.work.Work.{Work}
 use Rattle.route_config.specs.declared.route.Database.{Database}
 use Rattle.route_config.specs.declared.route.Route.{Route}
-use Rattle.gateway_rules.specs.Works.{CanBegin, IsAskable, mark_of}
+use Rattle.sru_rules.specs.gateway_rules.Works.{CanBegin, IsAskable, mark_of}
 use Rattle.sru_reply.specs.Bare.{bare}
 use Rattle.sru_reply.specs.Reply.{reply}
 use Rattle.sru_reply.specs.declared.bare.Refusal.TheVariants.{NotFound}

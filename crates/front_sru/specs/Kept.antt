@@ -4,7 +4,7 @@ use Rattle.z_types.specs.declared.outcome.Fetched.TheVariants as fetched
 use Rattle.z_types.specs.declared.outcome.Outcome.{Outcome}
 use Rattle.z_types.specs.declared.sru.SruItem.{SruItem}
 use Rattle.z_types.specs.declared.sru.SruItem.TheVariants.{Data, Fault}
-use Rattle.gateway_rules.specs.Settling.{why_failed, found_hits, fetched_of}
+use Rattle.sru_rules.specs.gateway_rules.Settling.{why_failed, found_hits, fetched_of}
 use Rattle.sru_rules.specs.Diagnostics.{not_in_schema}
 use Rattle.sru_rules.specs.steps.Works.{IsRetrieval}
 use Rattle.front_sru.specs.declared.outcomes.Came.{Came}

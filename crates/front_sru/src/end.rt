@@ -1,7 +1,7 @@
 //! A work of a GET, ended.
 
 ghost use Rattle.std.specs.Prelude.{◌≡◌, Some, IsSome, IfOk, IfSome};
-ghost use Rattle.gateway_rules.specs.Works.{FitsWork};
+ghost use Rattle.sru_rules.specs.gateway_rules.Works.{FitsWork};
 ghost use Rattle.sru_rules.specs.Asking as asking;
 ghost use Rattle.sru_rules.specs.Settling as settling;
 ghost use Rattle.sru_rules.specs.steps.Works.{IsRetrieval};
@@ -14,7 +14,7 @@ use crate::diagnostics::out_of_range;
 use crate::outcomes::{Came, came_of};
 use crate::works::{fetch_work, fetched_count, is_out_of_range};
 use crate::{Begun, SruStage, SruState};
-use gateway_rules::mark_of;
+use sru_rules::gateway_rules::mark_of;
 use multi_merge::total;
 use route_config::Route;
 use sru_rules::Retrieval;

@@ -18,3 +18,6 @@ pub use begin::begin_get;
 pub use begun::Begun;
 pub use end::end_get;
 pub use state::{SruStage, SruState};
+
+// Handed on: crates above name these through this one.
+pub use sru_rules;

@@ -3,7 +3,7 @@
 ghost use Rattle.std.specs.Prelude.{◌≡◌, IfOk};
 ghost use Rattle.front_sru.specs.Kept.{IsCameOf, nothing_came};
 
-use gateway_rules::marked_diag;
+use sru_rules::gateway_rules::marked_diag;
 use std::alloc::Global;
 use z_types::{Diag, Fetched, List, Memory, Outcome};
 

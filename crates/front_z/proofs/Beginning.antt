@@ -12,10 +12,10 @@ use Rattle.z_types.specs.declared.work.Work.{Work}
 use Rattle.route_config.specs.declared.route.Route.{Route}
 use Rattle.unit_forms.specs.Replies.{spell_reply}
 use Rattle.limit_rules.specs.Limits.{are_units_spent}
-use Rattle.gateway_rules.specs.Asking.{Asking, at_once, works, asked_with}
-use Rattle.gateway_rules.specs.Course.{Meeting, bad, beyond, met_in_place}
-use Rattle.gateway_rules.specs.Replies.{bad_unit_reply, limit_reply, close_reply}
-use Rattle.gateway_rules.specs.Statuses.{finished}
+use Rattle.front_session.specs.gateway_rules.Asking.{Asking, at_once, works, asked_with}
+use Rattle.front_session.specs.gateway_rules.Course.{Meeting, bad, beyond, met_in_place}
+use Rattle.front_session.specs.gateway_rules.Replies.{bad_unit_reply, limit_reply, close_reply}
+use Rattle.front_session.specs.gateway_rules.Statuses.{finished}
 use Rattle.front_session.specs.Sessions.{SessionState, client_of}
 use Rattle.front_session.specs.Admitting.{hits_named, IsDueAdmitted, IsMetAdmitted, IsAdmitted}
 use Rattle.front_session.specs.declared.admitted.Admitted.TheVariants as admitted

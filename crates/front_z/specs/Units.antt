@@ -13,11 +13,11 @@ use Rattle.z_types.specs.declared.outcome.Outcome.{Outcome}
 use Rattle.route_config.specs.declared.route.Route.{Route}
 use Rattle.unit_forms.specs.Replies.{spell_reply}
 use Rattle.unit_forms.specs.Reading.Units.{IsReading}
-use Rattle.gateway_rules.specs.Asking.{Asking, at_once, works, asked_with}
-use Rattle.gateway_rules.specs.Course.{Meeting, bad, beyond, closing, due, met}
-use Rattle.gateway_rules.specs.Replies.{bad_unit_reply, limit_reply, close_reply}
-use Rattle.gateway_rules.specs.Statuses.{finished}
-use Rattle.gateway_rules.specs.Works.{CanBegin, IsAskable}
+use Rattle.front_session.specs.gateway_rules.Asking.{Asking, at_once, works, asked_with}
+use Rattle.front_session.specs.gateway_rules.Course.{Meeting, bad, beyond, closing, due, met}
+use Rattle.front_session.specs.gateway_rules.Replies.{bad_unit_reply, limit_reply, close_reply}
+use Rattle.front_session.specs.gateway_rules.Statuses.{finished}
+use Rattle.front_session.specs.gateway_rules.Works.{CanBegin, IsAskable}
 use Rattle.front_session.specs.Sessions.{SessionState, Waiting, client_of, progress_of}
 use Rattle.front_session.specs.Admitting.{hits_named, counted, IsSettled}
 use Rattle.front_z.specs.declared.units.Begun.{Begun}

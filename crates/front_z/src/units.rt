@@ -5,17 +5,17 @@ ghost use Rattle.z_types.specs.Numbers.{HasNumbersInRange};
 ghost use Rattle.z_types.specs.declared.marks.Mark.TheVariants.{Plain};
 ghost use Rattle.z_types.specs.declared.marks.End.TheVariants.{Malformed, Limited};
 ghost use Rattle.unit_forms.specs.Logins.{AsksWithLogin};
-ghost use Rattle.gateway_rules.specs.Replies.{bad_unit_reply, limit_reply};
-ghost use Rattle.gateway_rules.specs.Works.{FitsWork};
+ghost use Rattle.front_session.specs.gateway_rules.Replies.{bad_unit_reply, limit_reply};
+ghost use Rattle.front_session.specs.gateway_rules.Works.{FitsWork};
 ghost use Rattle.front_z.specs.Units.{IsBegun, IsEnded, IsRequestBegun, IsWritten, IsPut, end_behind};
 
 use front_session::{Admitted, FrontSession};
-use gateway_rules::{bad_unit_reply, limit_reply};
+use front_session::gateway_rules::{bad_unit_reply, limit_reply};
 use route_config::Route;
 use std::alloc::Global;
 use z_read::read_unit;
 use z_types::{End, Mark, Memory, Outcome, Reply, Request, Text, Work};
-use z_write::put_reply;
+use front_session::z_write::put_reply;
 
 /// What became of a unit.
 #[derive(Drop)]

@@ -7,7 +7,7 @@ use gateway_top::{Status, command};
 use gw_outside::{Files, Sink};
 use std::alloc::Global;
 use test_target::TestWorld;
-use test_wire::TestWire;
+use tcp_edge::test_wire::TestWire;
 use z_types::{Text, World};
 
 /// Does one command but `serve`, over a new wire to the built-in test targets. So what is printed of a replay

@@ -12,7 +12,7 @@ use std::rt::Env;
 use std::test::Fail;
 use tcp_edge::{SystemFiles, WriterSink};
 use test_target::TestWorld;
-use test_wire::TestWire;
+use tcp_edge::test_wire::TestWire;
 use z_types::{List, Memory, Text};
 
 /// The words of a line.

@@ -1,6 +1,6 @@
 //! The laws of connections, over targets in memory.
 
-use front_conn::{
+use replay::front_conn::{
     ends_answered, stands_at_start, stands_when_ended, stands_when_fed, stands_when_written,
     stays_of_route,
 };

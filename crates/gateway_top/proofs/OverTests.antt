@@ -18,9 +18,9 @@ use Rattle.route_text.specs.Values.{values_in}
 use Rattle.route_text.specs.declared.fault.RouteFault.{RouteFault}
 use Rattle.route_text.specs.declared.fault.RouteFault.TheVariants.{Toml}
 use Rattle.route_text.specs.declared.values.Values.{Values}
-use Rattle.gateway_rules.specs.Fair.{IsFair}
+use Rattle.replay_shares.specs.gateway_rules.Fair.{IsFair}
 use Rattle.script.specs.declared.event.Event.{Event}
-use Rattle.replay.specs.Wires.{AreTold, AreWireSums, HaveWireCauses, IsFullCaused}
+use Rattle.replay_shares.specs.replay.Wires.{AreTold, AreWireSums, HaveWireCauses, IsFullCaused}
 use Rattle.replay_top.specs.Outside.{WireCalls}
 use Rattle.gateway_config.specs.Configs.{IsConfigurationOf}
 use Rattle.gateway_config.specs.Outside.{FileReads, SinkWrites}

@@ -11,10 +11,10 @@ use Rattle.route_config.specs.Smallest.{smallest_route}
 use Rattle.script.specs.Events.{most_clients}
 use Rattle.sample_maker.specs.Load.{letter_of, load_events}
 use Rattle.sharing_rules.specs.Needed.{dials_needed, needed}
-use Rattle.replay.specs.Page.{requests}
-use Rattle.replay.specs.declared.reports.ClassReport.{ClassReport}
-use Rattle.replay.specs.declared.reports.ClientReport.{ClientReport}
-use Rattle.replay.specs.declared.reports.Report.{Report}
+use Rattle.replay_shares.specs.replay.Page.{requests}
+use Rattle.replay_shares.specs.replay.declared.reports.ClassReport.{ClassReport}
+use Rattle.replay_shares.specs.replay.declared.reports.ClientReport.{ClientReport}
+use Rattle.replay_shares.specs.replay.declared.reports.Report.{Report}
 use Rattle.load_shares.specs.Costs.{is_sent, load_dials, load_searches, load_uses}
 use Rattle.load_shares.specs.Laws.{AreAnswered, LoadsAreAnswered, LoadsAreAnsweredPlainly, LoadsAreOrderly, LoadsNeedSo, WasAnswered, WasAnsweredPlainly}
 use Rattle.load_shares.specs.Runs.{answers_for, load_runs}

@@ -6,13 +6,13 @@ use Rattle.z_types.specs.declared.marks.Mark.{Mark}
 use Rattle.z_types.specs.declared.marks.Mark.TheVariants.{Plain}
 use Rattle.z_types.specs.declared.world.World as world
 use Rattle.gw_outside.specs.Happened.{IsQuietWire}
-use Rattle.gateway_rules.specs.Fair.{IsFair}
+use Rattle.replay_shares.specs.gateway_rules.Fair.{IsFair}
 use Rattle.route_config.specs.Smallest.{smallest_route}
 use Rattle.sample_maker.specs.Load.{letter_of, load_events}
-use Rattle.replay.specs.declared.reports.ClassReport.{ClassReport}
-use Rattle.replay.specs.declared.reports.ClientReport.{ClientReport}
-use Rattle.replay.specs.declared.reports.Report.{Report}
-use Rattle.replay.specs.Page.{requests}
+use Rattle.replay_shares.specs.replay.declared.reports.ClassReport.{ClassReport}
+use Rattle.replay_shares.specs.replay.declared.reports.ClientReport.{ClientReport}
+use Rattle.replay_shares.specs.replay.declared.reports.Report.{Report}
+use Rattle.replay_shares.specs.replay.Page.{requests}
 use Rattle.load_shares.specs.Costs.{load_dials, load_searches}
 use Rattle.load_shares.specs.Runs.{answers_for}
 use Rattle.gateway_config.specs.Lines.{Received, ReceivedNothing, FailedWithin, line_of}

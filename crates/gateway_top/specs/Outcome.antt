@@ -6,8 +6,8 @@ use Rattle.route_config.specs.Lookup.{target_names}
 use Rattle.script.specs.declared.event.Event.{Event}
 use Rattle.script.specs.declared.faults.ScriptFault.TheVariants.{Line, TooMany}
 use Rattle.script.specs.Script.{script_of}
-use Rattle.replay.specs.declared.reports.Report.{Report}
-use Rattle.replay.specs.Page.{page}
+use Rattle.replay_shares.specs.replay.declared.reports.Report.{Report}
+use Rattle.replay_shares.specs.replay.Page.{page}
 use Rattle.gateway_config.specs.ConfigRead.{IsUnread}
 use Rattle.gateway_config.specs.Configs.{IsTaken, IsRefusedConfig}
 use Rattle.gateway_config.specs.Lines.{Received, ReceivedNothing, FailedWithin, Says, usage_line}

@@ -9,15 +9,15 @@ use Rattle.gw_outside.specs.Counts.{Counts, no_counts}
 use Rattle.gw_outside.specs.Happened.{IsQuietWire}
 use Rattle.route_config.specs.declared.route.Class.{Class}
 use Rattle.route_config.specs.declared.route.Route.{Route}
-use Rattle.gateway_rules.specs.Fair.{MeansAs}
+use Rattle.replay_shares.specs.gateway_rules.Fair.{MeansAs}
 use Rattle.script.specs.declared.event.Event.{Event}
 use Rattle.script.specs.Events.{named}
-use Rattle.package_quiet.specs.steps.Bearing.{DialsGoOn}
-use Rattle.replay.specs.Page.{page}
-use Rattle.replay.specs.Report.{IsAnswered}
-use Rattle.replay.specs.Undisturbed.{BefallsNothing, IsUntroubled}
-use Rattle.replay.specs.Wires.{AreWireSums, HaveWireCauses, IsFullCaused}
-use Rattle.replay.specs.declared.reports.Report.{Report}
+use Rattle.replay_shares.specs.package_quiet.steps.Bearing.{DialsGoOn}
+use Rattle.replay_shares.specs.replay.Page.{page}
+use Rattle.replay_shares.specs.replay.Report.{IsAnswered}
+use Rattle.replay_shares.specs.replay.Undisturbed.{BefallsNothing, IsUntroubled}
+use Rattle.replay_shares.specs.replay.Wires.{AreWireSums, HaveWireCauses, IsFullCaused}
+use Rattle.replay_shares.specs.replay.declared.reports.Report.{Report}
 use Rattle.replay_laws.specs.Borne.{AreBorneMarks, HasBorneNumber}
 use Rattle.replay_laws.specs.Quiet.{IsQuiet}
 use Rattle.replay_shares.specs.Shares.{SharesIfOrderly}

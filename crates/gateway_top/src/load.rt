@@ -5,7 +5,7 @@ ghost use Rattle.std.specs.Fmt.{decimal};
 ghost use Rattle.script.specs.Events.{most_clients};
 ghost use Rattle.route_config.specs.Smallest.{smallest_route};
 ghost use Rattle.sample_maker.specs.Load.{load_events};
-ghost use Rattle.replay.specs.Page.{requests};
+ghost use Rattle.replay_shares.specs.replay.Page.{requests};
 ghost use Rattle.gateway_top.specs.Load.{HasLoadSums, LoadDone, is_plain, links_made, load_line, octets_written, plain_requests, searches_sent};
 ghost use Rattle.gateway_config.specs.Outside.{sink_writes};
 ghost use Rattle.replay_top.specs.Outside.{wire_calls};
@@ -16,7 +16,7 @@ use gw_outside::{Events, Sink, Wire, write_all};
 use load_shares::{
     loads_are_answered, loads_are_answered_plainly, loads_are_orderly, loads_need_so,
 };
-use replay::{ClassReport, ClientReport, Report};
+use replay_shares::replay::{ClassReport, ClientReport, Report};
 use replay_top::run;
 use route_config::Route;
 use sample_maker::make;

@@ -9,7 +9,7 @@ ghost use Rattle.replay_top.specs.Outside.{wire_calls};
 use crate::say::script_line;
 use gateway_config::{Status, say, unread};
 use gw_outside::{Events, FileGot, Files, Sink, Wire, write_all};
-use replay::print;
+use replay_shares::replay::print;
 use replay_top::run;
 use route_config::{Route, target_names};
 use script::{Event, ScriptFault, read_script};

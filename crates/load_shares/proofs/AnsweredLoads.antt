@@ -8,22 +8,22 @@ use Rattle.z_types.specs.declared.marks.Mark.{Mark}
 use Rattle.z_types.specs.declared.marks.Mark.TheVariants.{Plain}
 use Rattle.z_types.specs.declared.world.World as world
 use Rattle.route_config.specs.Smallest.{smallest_route}
-use Rattle.gateway_rules.specs.Answers as units
-use Rattle.gateway_rules.specs.Answers.{IsConnection, IsCourseOf, Kind}
-use Rattle.gateway_rules.specs.Course as at
-use Rattle.gateway_rules.specs.Course.{Course, course, end_of, ends}
-use Rattle.gateway_rules.specs.Marks.{Cause}
-use Rattle.gateway_rules.specs.OneAnswer.{AreMarksPlain}
-use Rattle.gateway_rules.specs.Session.{IsServed, answered, run}
-use Rattle.gateway_rules.specs.State.{ClientState, at_the_start, new_client}
-use Rattle.gateway_rules.proofs.OneEnding.{connection-one}
+use Rattle.replay_shares.specs.gateway_rules.Answers as units
+use Rattle.replay_shares.specs.gateway_rules.Answers.{IsConnection, IsCourseOf, Kind}
+use Rattle.replay_shares.specs.gateway_rules.Course as at
+use Rattle.replay_shares.specs.gateway_rules.Course.{Course, course, end_of, ends}
+use Rattle.replay_shares.specs.gateway_rules.Marks.{Cause}
+use Rattle.replay_shares.specs.gateway_rules.OneAnswer.{AreMarksPlain}
+use Rattle.replay_shares.specs.gateway_rules.Session.{IsServed, answered, run}
+use Rattle.replay_shares.specs.gateway_rules.State.{ClientState, at_the_start, new_client}
+use Rattle.replay_shares.proofs.gateway_rules.OneEnding.{connection-one}
 use Rattle.script.specs.Events.{fed, most_clients}
 use Rattle.sample_maker.specs.Load.{letter_of, load_events, octets_for}
-use Rattle.sru_rules.specs.Answers.{Answers, AnswersAs}
-use Rattle.sru_rules.specs.Laws.{HasOneAnswer}
-use Rattle.replay.specs.Report.{IsAnswered, IsReportOf}
-use Rattle.replay.specs.declared.reports.ClientReport.{ClientReport}
-use Rattle.replay.specs.declared.reports.Report.{Report}
+use Rattle.replay_shares.specs.sru_rules.Answers.{Answers, AnswersAs}
+use Rattle.replay_shares.specs.sru_rules.Laws.{HasOneAnswer}
+use Rattle.replay_shares.specs.replay.Report.{IsAnswered, IsReportOf}
+use Rattle.replay_shares.specs.replay.declared.reports.ClientReport.{ClientReport}
+use Rattle.replay_shares.specs.replay.declared.reports.Report.{Report}
 use Rattle.load_shares.specs.Laws.{LoadsAreAnswered, LoadsAreAnsweredPlainly, RequestsAreReceived, WasAnswered, WasAnsweredPlainly}
 use Rattle.load_shares.specs.Runs.{answers_for, four_plain, units_for}
 use Rattle.load_shares.proofs.EventLemmas.{fed-load, named-load}

@@ -8,7 +8,7 @@ use Rattle.script.specs.declared.event.Event.{Event}
 use Rattle.script.specs.declared.event.Event.TheVariants.{Feed, End, Run}
 use Rattle.script.specs.Events.{fed, is_named, is_of, most_clients, named, named_upto, octets_of}
 use Rattle.sample_maker.specs.Load.{client_events, letter_of, load_events, octets_for}
-use Rattle.replay.specs.Trace.{closing}
+use Rattle.replay_shares.specs.replay.Trace.{closing}
 use Rattle.replay_shares.specs.Orderly.{AreClientRuns, IsClientRun, ClientRun, are_run, closed, is_calm}
 use Rattle.replay_shares.specs.Works.{Ask}
 use Rattle.load_shares.specs.Runs.{load_runs, run_of, runs_of, works_for}

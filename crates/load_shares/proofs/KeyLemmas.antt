@@ -9,7 +9,7 @@ use Rattle.z_types.specs.declared.query.RpnQuery.{RpnQuery}
 use Rattle.z_types.specs.equality.Key as exact
 use Rattle.route_config.specs.Smallest.{smallest_route}
 use Rattle.route_config.specs.declared.route.RouteLeg.{RouteLeg}
-use Rattle.gateway_rules.specs.Outcomes.{legs_asked}
+use Rattle.replay_shares.specs.gateway_rules.Outcomes.{legs_asked}
 use Rattle.pool_sets.specs.Table.{same_key}
 use Rattle.sharing_rules.specs.Orderly.{keys_used}
 use Rattle.sharing_rules.specs.Uses.{DatedWork, Use, key_if, key_of, legs_used, query_of, use_at, uses_by, uses_of}

@@ -14,7 +14,7 @@ use Rattle.pool_sets.specs.Table.{same_key}
 use Rattle.sample_maker.specs.Load.{letter_of}
 use Rattle.sharing_rules.specs.Needed.{count_after, dials_needed, is_in, is_late, is_set_in, last_at, needed, needs_dial, needs_search}
 use Rattle.sharing_rules.specs.Uses.{Use, uses_of}
-use Rattle.package_shares.specs.steps.Requests.{behind}
+use Rattle.replay_shares.specs.package_shares.steps.Requests.{behind}
 use Rattle.replay_shares.specs.Orderly.{dated}
 use Rattle.replay_shares.proofs.CountLemmas.{all-both, count-both, uses-both}
 use Rattle.load_shares.specs.Costs.{is_sent, key_for, load_dials, load_uses, refuses}

@@ -17,7 +17,7 @@ use Rattle.z_laws.specs.Laws.{WrittenRequestsAreRead, WrittenRequestsAreUnits}
 use Rattle.z_laws.specs.Readable.{IsReadable}
 use Rattle.z_laws.specs.Shallow.{IsShallow}
 use Rattle.route_config.specs.Smallest.{smallest_route}
-use Rattle.gateway_rules.specs.Answers.{IsReceived, Kind, kind_of, unit}
+use Rattle.replay_shares.specs.gateway_rules.Answers.{IsReceived, Kind, kind_of, unit}
 use Rattle.sample_maker.specs.Load.{octets_for}
 use Rattle.sample_maker.specs.Requests.{close_request, init_request, present_request, search_request}
 use Rattle.replay_shares.specs.Works.{Ask, AskAs}

@@ -16,13 +16,13 @@ use Rattle.z_types.specs.declared.world.World as world
 use Rattle.route_config.specs.Smallest.{smallest_route}
 use Rattle.route_config.specs.declared.route.RouteLeg.{RouteLeg}
 use Rattle.z_sets.specs.Sets.{StoredSet, set_named}
-use Rattle.gateway_rules.specs.Asking.{at_once, fetch_work, hits_meant, unless_refused}
-use Rattle.gateway_rules.specs.Checks.{checked, present_checks}
-use Rattle.gateway_rules.specs.Given.{present_reply}
-use Rattle.gateway_rules.specs.Outcomes.{found, legs_asked}
-use Rattle.gateway_rules.specs.Settling.{sets_after, why_failed}
-use Rattle.gateway_rules.specs.Targets.{all_or_first, hidden}
-use Rattle.front_conn_works.specs.Works.{work_in, work_of}
+use Rattle.replay_shares.specs.gateway_rules.Asking.{at_once, fetch_work, hits_meant, unless_refused}
+use Rattle.replay_shares.specs.gateway_rules.Checks.{checked, present_checks}
+use Rattle.replay_shares.specs.gateway_rules.Given.{present_reply}
+use Rattle.replay_shares.specs.gateway_rules.Outcomes.{found, legs_asked}
+use Rattle.replay_shares.specs.gateway_rules.Settling.{sets_after, why_failed}
+use Rattle.replay_shares.specs.gateway_rules.Targets.{all_or_first, hidden}
+use Rattle.replay_shares.specs.front_conn_works.Works.{work_in, work_of}
 use Rattle.sharing_rules.specs.Uses.{Use, key_if, key_of, legs_used, query_of, use_at, uses_by, uses_of}
 use Rattle.replay_shares.specs.Orderly.{dated}
 use Rattle.replay_shares.proofs.CountLemmas.{all-both}

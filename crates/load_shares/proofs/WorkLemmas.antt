@@ -14,15 +14,15 @@ use Rattle.z_types.specs.declared.work.Work.TheVariants as work
 use Rattle.z_types.specs.declared.world.World as world
 use Rattle.route_config.specs.Smallest.{smallest_route}
 use Rattle.z_sets.specs.Sets.{StoredSet, set_named}
-use Rattle.gateway_rules.specs.Asking.{Asking, at_once, element_of, fetch_work, hits_meant, unless_refused, works}
-use Rattle.gateway_rules.specs.Checks.{checked, present_checks}
-use Rattle.gateway_rules.specs.Given.{present_reply}
-use Rattle.gateway_rules.specs.Marks.{plain}
-use Rattle.gateway_rules.specs.Outcomes.{outcome_of}
-use Rattle.gateway_rules.specs.Session.{answered}
-use Rattle.gateway_rules.specs.Settling.{client_at_once, sets_after, why_failed}
-use Rattle.gateway_rules.specs.State.{ClientState, new_client}
-use Rattle.front_conn_works.specs.Works.{work_in, work_of}
+use Rattle.replay_shares.specs.gateway_rules.Asking.{Asking, at_once, element_of, fetch_work, hits_meant, unless_refused, works}
+use Rattle.replay_shares.specs.gateway_rules.Checks.{checked, present_checks}
+use Rattle.replay_shares.specs.gateway_rules.Given.{present_reply}
+use Rattle.replay_shares.specs.gateway_rules.Marks.{plain}
+use Rattle.replay_shares.specs.gateway_rules.Outcomes.{outcome_of}
+use Rattle.replay_shares.specs.gateway_rules.Session.{answered}
+use Rattle.replay_shares.specs.gateway_rules.Settling.{client_at_once, sets_after, why_failed}
+use Rattle.replay_shares.specs.gateway_rules.State.{ClientState, new_client}
+use Rattle.replay_shares.specs.front_conn_works.Works.{work_in, work_of}
 use Rattle.sample_maker.specs.Load.{letter_of}
 use Rattle.sample_maker.specs.Requests.{init_request, search_request, xml}
 use Rattle.sharing_rules.specs.Uses.{DatedWork, query_of}

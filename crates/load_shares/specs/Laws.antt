@@ -6,15 +6,15 @@ use Rattle.z_types.specs.declared.marks.End.TheVariants.{Closed}
 use Rattle.z_types.specs.declared.marks.Mark.TheVariants.{Plain}
 use Rattle.z_types.specs.declared.world.World as world
 use Rattle.route_config.specs.Smallest.{smallest_route}
-use Rattle.gateway_rules.specs.Answers.{IsReceived}
-use Rattle.gateway_rules.specs.Fair.{IsFair}
+use Rattle.replay_shares.specs.gateway_rules.Answers.{IsReceived}
+use Rattle.replay_shares.specs.gateway_rules.Fair.{IsFair}
 use Rattle.script.specs.Events.{most_clients}
 use Rattle.sample_maker.specs.Load.{letter_of, load_events}
 use Rattle.sharing_rules.specs.Needed.{dials_needed, needed}
-use Rattle.replay.specs.Report.{IsReportOf}
-use Rattle.replay.specs.Uncaused.{AreAllPlain}
-use Rattle.replay.specs.declared.reports.ClientReport.{ClientReport}
-use Rattle.replay.specs.declared.reports.Report.{Report}
+use Rattle.replay_shares.specs.replay.Report.{IsReportOf}
+use Rattle.replay_shares.specs.replay.Uncaused.{AreAllPlain}
+use Rattle.replay_shares.specs.replay.declared.reports.ClientReport.{ClientReport}
+use Rattle.replay_shares.specs.replay.declared.reports.Report.{Report}
 use Rattle.replay_shares.specs.Orderly.{IsOrderly}
 use Rattle.load_shares.specs.Costs.{load_dials, load_searches, load_uses}
 use Rattle.load_shares.specs.Runs.{answers_for, load_runs, units_for}

@@ -8,10 +8,10 @@ use Rattle.z_types.specs.declared.world.World as world
 use Rattle.unit_forms.specs.Replies.{spell_reply}
 use Rattle.unit_forms.specs.Requests.{spell_request}
 use Rattle.route_config.specs.Smallest.{smallest_route}
-use Rattle.gateway_rules.specs.Course.{Received, course}
-use Rattle.gateway_rules.specs.Marks.{Cause, plain}
-use Rattle.gateway_rules.specs.Session.{run}
-use Rattle.gateway_rules.specs.State.{at_the_start, new_client}
+use Rattle.replay_shares.specs.gateway_rules.Course.{Received, course}
+use Rattle.replay_shares.specs.gateway_rules.Marks.{Cause, plain}
+use Rattle.replay_shares.specs.gateway_rules.Session.{run}
+use Rattle.replay_shares.specs.gateway_rules.State.{at_the_start, new_client}
 use Rattle.sample_maker.specs.Load.{letter_of}
 use Rattle.sample_maker.specs.Requests.{requests_for}
 use Rattle.replay_shares.specs.Orderly.{ClientRun}

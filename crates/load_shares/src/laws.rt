@@ -2,7 +2,7 @@
 
 ghost use Rattle.load_shares.specs.Laws.{LoadsAreAnswered, LoadsAreOrderly, LoadsAreAnsweredPlainly, LoadsNeedSo, RequestsAreReceived};
 
-use sru_rules::one_answer;
+use replay_shares::sru_rules::one_answer;
 use z_ber::written_extent;
 use z_laws::{written_requests_are_read, written_requests_are_units};
 use z_types::World;

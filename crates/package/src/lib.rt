@@ -28,3 +28,7 @@ pub use laws::{
 pub use outcomes::plain_outcome;
 pub use package::Package;
 pub use turning::Round;
+
+// Handed on: crates above name these through this one.
+pub use leg;
+pub use package_rules;

@@ -12,10 +12,10 @@ use Rattle.gw_outside.specs.declared.backends.Heard.TheVariants as look
 use Rattle.gw_outside.specs.declared.backends.Opening.{Opening}
 use Rattle.gw_outside.specs.declared.backends.Opening.TheVariants as opening
 use Rattle.gw_outside.proofs.QuietLemmas.{less_stays, same_stays}
-use Rattle.leg.specs.Accounts.{counted, more}
-use Rattle.leg.specs.Deeds.{CountsMove, Deed, HappensThen, took, opened, began, heard, put_back, gave_up, redialled, no_memory, nothing, rises_of, waits}
-use Rattle.leg.specs.Rules.{always, lack_of}
-use Rattle.leg.specs.declared.accounts.Account.{Account}
+use Rattle.package.specs.leg.Accounts.{counted, more}
+use Rattle.package.specs.leg.Deeds.{CountsMove, Deed, HappensThen, took, opened, began, heard, put_back, gave_up, redialled, no_memory, nothing, rises_of, waits}
+use Rattle.package.specs.leg.Rules.{always, lack_of}
+use Rattle.package.specs.leg.declared.accounts.Account.{Account}
 use Rattle.package_quiet.specs.steps.Bearing.{DialsGoOn}
 use Rattle.package_quiet.specs.steps.Quiet.{CountsStay, HasNoCause}
 

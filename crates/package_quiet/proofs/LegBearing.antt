@@ -31,20 +31,20 @@ use Rattle.pool_sets.specs.declared.doors.Seat.{Seat}
 use Rattle.pool_sets.specs.declared.doors.Taken.{Taken}
 use Rattle.pool_sets.specs.declared.doors.Taken.TheVariants as taken
 use Rattle.pool_sets.specs.declared.pooled.Parts.{Parts}
-use Rattle.leg.specs.Accounts.{more}
-use Rattle.leg.specs.Deeds.{BackendView, CountsMove, Deed, took, opened, began, heard, put_back, gave_up, redialled, no_memory, nothing, looks_after, looks_then, rises_of}
-use Rattle.leg.specs.Links.{LinksMove}
-use Rattle.leg.specs.Phases.{hold, is_given, looks_of, replied, with_session}
-use Rattle.leg.specs.Rules.{after_fault, after_first, after_opened, after_present, after_scan, after_search, after_take, first_ask, gone_again, left_by, next, next_ask, out_of_range, recorded, unless_silent, with_items, with_set}
-use Rattle.leg.specs.Tasks.{want_of}
-use Rattle.leg.specs.Terms.{Terms, opened_at}
-use Rattle.leg.specs.Turns.{IsAsked, IsAskedIf, IsDue, IsLook, PoolMoves}
-use Rattle.leg.specs.declared.answers.LegAnswer.TheVariants as answer
-use Rattle.leg.specs.declared.phases.Held.{Held}
-use Rattle.leg.specs.declared.phases.Phase.{Phase}
-use Rattle.leg.specs.declared.phases.Phase.TheVariants.{Begin, Dialling, Dialled, Ready, Searching, Presenting, Fetching, Scanning, Returning, Losing, Redialling, Spoiled, Done, Ended}
-use Rattle.leg.specs.declared.tasks.Task.{Task}
-use Rattle.leg.specs.declared.tasks.Task.TheVariants.{Hits, Records, Scan}
+use Rattle.package.specs.leg.Accounts.{more}
+use Rattle.package.specs.leg.Deeds.{BackendView, CountsMove, Deed, took, opened, began, heard, put_back, gave_up, redialled, no_memory, nothing, looks_after, looks_then, rises_of}
+use Rattle.package.specs.leg.Links.{LinksMove}
+use Rattle.package.specs.leg.Phases.{hold, is_given, looks_of, replied, with_session}
+use Rattle.package.specs.leg.Rules.{after_fault, after_first, after_opened, after_present, after_scan, after_search, after_take, first_ask, gone_again, left_by, next, next_ask, out_of_range, recorded, unless_silent, with_items, with_set}
+use Rattle.package.specs.leg.Tasks.{want_of}
+use Rattle.package.specs.leg.Terms.{Terms, opened_at}
+use Rattle.package.specs.leg.Turns.{IsAsked, IsAskedIf, IsDue, IsLook, PoolMoves}
+use Rattle.package.specs.leg.declared.answers.LegAnswer.TheVariants as answer
+use Rattle.package.specs.leg.declared.phases.Held.{Held}
+use Rattle.package.specs.leg.declared.phases.Phase.{Phase}
+use Rattle.package.specs.leg.declared.phases.Phase.TheVariants.{Begin, Dialling, Dialled, Ready, Searching, Presenting, Fetching, Scanning, Returning, Losing, Redialling, Spoiled, Done, Ended}
+use Rattle.package.specs.leg.declared.tasks.Task.{Task}
+use Rattle.package.specs.leg.declared.tasks.Task.TheVariants.{Hits, Records, Scan}
 use Rattle.package_quiet.specs.steps.Bearing.{NoneIsCut, AreBearable, AreCutOnceMade, AreNoWorse, DialsGoOn, FaresAt, HoldsFound, IsBorneAsked, IsBorneAt, IsBorneIn, MayBeGone, MayMiss, is_cut_at, presents_at}
 use Rattle.package_quiet.specs.steps.Quiet.{AreTold}
 use Rattle.package_quiet.specs.steps.Whole.{AreIdle, IsScan, IsSearchUnder}

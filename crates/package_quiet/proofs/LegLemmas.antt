@@ -27,19 +27,19 @@ use Rattle.pool_sets.specs.declared.doors.Seat.{Seat}
 use Rattle.pool_sets.specs.declared.doors.Taken.{Taken}
 use Rattle.pool_sets.specs.declared.doors.Taken.TheVariants as taken
 use Rattle.pool_sets.specs.declared.pooled.Parts.{Parts}
-use Rattle.leg.specs.Deeds.{BackendView, Deed, took, opened, began, heard, put_back, gave_up, redialled, no_memory, nothing, CountsMove}
-use Rattle.leg.specs.Links.{LinksMove}
-use Rattle.leg.specs.Phases.{hold, replied}
-use Rattle.leg.specs.Rules.{after_first, after_next, after_opened, after_present, after_scan, after_search, after_take, first_ask, left_by, next, next_ask, out_of_range, recorded, spoiled, with_items, with_set}
-use Rattle.leg.specs.Tasks.{want_of}
-use Rattle.leg.specs.Terms.{Terms, opened_at}
-use Rattle.leg.specs.Turns.{IsAsked, IsAskedIf, IsDue, IsLook, PoolMoves}
-use Rattle.leg.specs.declared.answers.LegAnswer.TheVariants as answer
-use Rattle.leg.specs.declared.phases.Held.{Held}
-use Rattle.leg.specs.declared.phases.Phase.{Phase}
-use Rattle.leg.specs.declared.phases.Phase.TheVariants.{Begin, Dialling, Dialled, Ready, Searching, Presenting, Fetching, Scanning, Returning, Losing, Redialling, Spoiled, Done, Ended}
-use Rattle.leg.specs.declared.tasks.Task.{Task}
-use Rattle.leg.specs.declared.tasks.Task.TheVariants.{Hits, Records, Scan}
+use Rattle.package.specs.leg.Deeds.{BackendView, Deed, took, opened, began, heard, put_back, gave_up, redialled, no_memory, nothing, CountsMove}
+use Rattle.package.specs.leg.Links.{LinksMove}
+use Rattle.package.specs.leg.Phases.{hold, replied}
+use Rattle.package.specs.leg.Rules.{after_first, after_next, after_opened, after_present, after_scan, after_search, after_take, first_ask, left_by, next, next_ask, out_of_range, recorded, spoiled, with_items, with_set}
+use Rattle.package.specs.leg.Tasks.{want_of}
+use Rattle.package.specs.leg.Terms.{Terms, opened_at}
+use Rattle.package.specs.leg.Turns.{IsAsked, IsAskedIf, IsDue, IsLook, PoolMoves}
+use Rattle.package.specs.leg.declared.answers.LegAnswer.TheVariants as answer
+use Rattle.package.specs.leg.declared.phases.Held.{Held}
+use Rattle.package.specs.leg.declared.phases.Phase.{Phase}
+use Rattle.package.specs.leg.declared.phases.Phase.TheVariants.{Begin, Dialling, Dialled, Ready, Searching, Presenting, Fetching, Scanning, Returning, Losing, Redialling, Spoiled, Done, Ended}
+use Rattle.package.specs.leg.declared.tasks.Task.{Task}
+use Rattle.package.specs.leg.declared.tasks.Task.TheVariants.{Hits, Records, Scan}
 use Rattle.package_quiet.specs.steps.Quiet.{AreTold}
 use Rattle.package_quiet.specs.steps.Whole.{HasMade, IsScan, IsSearchUnder, IsWhole, IsWholeAsked, IsWholeAt, IsWholeIn, IsWholePool}
 use Rattle.package_quiet.proofs.CountLemmas.{IsWell, linked-then}

@@ -5,15 +5,15 @@ use Rattle.z_types.specs.declared.work.Work.{Work}
 use Rattle.z_types.specs.declared.world.World as world
 use Rattle.gw_outside.specs.Happened.{Happened}
 use Rattle.route_config.specs.declared.route.Route.{Route}
-use Rattle.leg.specs.Deeds.{BackendView}
-use Rattle.leg.specs.LegView.{LegView}
-use Rattle.leg.specs.Phases.{is_done}
-use Rattle.leg.specs.Terms.{terms_of}
-use Rattle.leg.specs.Turns.{DoorView}
-use Rattle.leg.specs.declared.answers.Turned.{Turned}
-use Rattle.leg.specs.declared.answers.Turned.TheVariants as turned
-use Rattle.package_rules.specs.Asked.{Asked, first_asked}
-use Rattle.package_rules.specs.Planned.{then_asked_by}
+use Rattle.package.specs.leg.Deeds.{BackendView}
+use Rattle.package.specs.leg.LegView.{LegView}
+use Rattle.package.specs.leg.Phases.{is_done}
+use Rattle.package.specs.leg.Terms.{terms_of}
+use Rattle.package.specs.leg.Turns.{DoorView}
+use Rattle.package.specs.leg.declared.answers.Turned.{Turned}
+use Rattle.package.specs.leg.declared.answers.Turned.TheVariants as turned
+use Rattle.package.specs.package_rules.Asked.{Asked, first_asked}
+use Rattle.package.specs.package_rules.Planned.{then_asked_by}
 use Rattle.package.specs.declared.turning.Round.{Round}
 use Rattle.package.specs.steps.Packages.{PackageView, answers_of, begun, new_package}
 use Rattle.package.specs.steps.Turns.{GoesOn, HasTurned, HaveTurned, IsPackageTurn, Plans, TakesTurn, all_done, no_round}

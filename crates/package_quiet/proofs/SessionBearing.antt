@@ -22,7 +22,7 @@ use Rattle.gw_outside.specs.declared.backends.Heard.TheVariants as heard
 use Rattle.gw_outside.specs.declared.happenings.Happening.{Happening}
 use Rattle.gw_outside.specs.declared.wires.Looked.{Looked}
 use Rattle.gw_outside.specs.declared.wires.Looked.TheVariants as looked
-use Rattle.leg.specs.Turns.{IsAsked, IsLook}
+use Rattle.package.specs.leg.Turns.{IsAsked, IsLook}
 use Rattle.route_config.specs.declared.route.PoolNumbers.{PoolNumbers}
 use Rattle.package_quiet.specs.steps.Bearing.{AreBearable, AreNoWorse, ComesInTime, FaresAs, FaresAt, HoldsFound, IsBearable, RepliesInTime}
 use Rattle.package_quiet.specs.steps.Whole.{will_stand}

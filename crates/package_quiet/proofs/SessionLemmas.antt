@@ -20,7 +20,7 @@ use Rattle.gw_outside.specs.declared.happenings.Happening.{Happening}
 use Rattle.gw_outside.specs.declared.wires.Looked.{Looked}
 use Rattle.gw_outside.specs.declared.wires.Looked.TheVariants as looked
 use Rattle.gw_outside.proofs.QuietLemmas.{none_cut, nothing_at}
-use Rattle.leg.specs.Turns.{IsAsked, IsLook}
+use Rattle.package.specs.leg.Turns.{IsAsked, IsLook}
 use Rattle.package_quiet.specs.steps.Whole.{FindsItsSet, IsWhole, IsWholeAs, IsWholeAt, RepliesAtOnce, will_stand}
 
 -- ---- nothing happens

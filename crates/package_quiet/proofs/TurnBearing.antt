@@ -5,17 +5,17 @@ use Rattle.z_types.specs.declared.world.World as world
 use Rattle.gw_outside.specs.Happened.{AreLess, AreSame, Happened}
 use Rattle.gw_outside.specs.declared.backends.Opening.TheVariants as opening
 use Rattle.pool_sets.specs.Plain.{Pool}
-use Rattle.leg.specs.Accounts.{more}
-use Rattle.leg.specs.Deeds.{BackendView, Deed, HappensThen, took, opened, began, heard, put_back, gave_up, redialled, no_memory, nothing, looks_after, rises_of}
-use Rattle.leg.specs.Phases.{is_given, looks_of}
-use Rattle.leg.specs.Rules.{Ends, answer_of, lack_of, left_by, next}
-use Rattle.leg.specs.Tasks.{want_of}
-use Rattle.leg.specs.Terms.{Terms}
-use Rattle.leg.specs.Turns.{DoorView, IsTurn, PoolMoves}
-use Rattle.leg.specs.declared.accounts.Account.{Account}
-use Rattle.leg.specs.declared.answers.Turned.{Turned}
-use Rattle.leg.specs.declared.phases.Phase.{Phase}
-use Rattle.leg.specs.declared.tasks.Task.{Task}
+use Rattle.package.specs.leg.Accounts.{more}
+use Rattle.package.specs.leg.Deeds.{BackendView, Deed, HappensThen, took, opened, began, heard, put_back, gave_up, redialled, no_memory, nothing, looks_after, rises_of}
+use Rattle.package.specs.leg.Phases.{is_given, looks_of}
+use Rattle.package.specs.leg.Rules.{Ends, answer_of, lack_of, left_by, next}
+use Rattle.package.specs.leg.Tasks.{want_of}
+use Rattle.package.specs.leg.Terms.{Terms}
+use Rattle.package.specs.leg.Turns.{DoorView, IsTurn, PoolMoves}
+use Rattle.package.specs.leg.declared.accounts.Account.{Account}
+use Rattle.package.specs.leg.declared.answers.Turned.{Turned}
+use Rattle.package.specs.leg.declared.phases.Phase.{Phase}
+use Rattle.package.specs.leg.declared.tasks.Task.{Task}
 use Rattle.package_quiet.specs.steps.Bearing.{AreCutOnceMade, BearsAt, BearsOn, DialsGoOn, IsBorneBy, IsBorneIn}
 use Rattle.package_quiet.specs.steps.Quiet.{AreTold}
 use Rattle.package_quiet.proofs.CountLemmas.{dials-on}

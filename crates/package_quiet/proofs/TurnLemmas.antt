@@ -4,18 +4,18 @@ use Rattle.z_types.specs.declared.sitting.Sitting as sitting
 use Rattle.z_types.specs.declared.world.World as world
 use Rattle.pool_sets.specs.Plain.{Pool}
 use Rattle.pool_sets.specs.declared.doors.Taken.TheVariants as taken
-use Rattle.leg.specs.Deeds.{BackendView, Deed, took, opened, began, heard, put_back, gave_up, redialled, no_memory, nothing, looks_after}
-use Rattle.leg.specs.Phases.{is_done, is_given, looks_of}
-use Rattle.leg.specs.Rules.{Ends, Lack, always, answer_of, lack_of, left_by, never, perhaps}
-use Rattle.leg.specs.Terms.{Terms}
-use Rattle.leg.specs.Turns.{DoorView, IsTurn, PoolMoves}
-use Rattle.leg.specs.declared.accounts.Account.{Account}
-use Rattle.leg.specs.declared.answers.Turned.{Turned}
-use Rattle.leg.specs.declared.answers.Turned.TheVariants as turned
-use Rattle.leg.specs.declared.phases.Phase.{Phase}
-use Rattle.leg.specs.declared.phases.Phase.TheVariants.{Begin, Dialling, Dialled, Ready, Searching, Presenting, Fetching, Scanning, Returning, Losing, Redialling, Spoiled, Done, Ended}
-use Rattle.leg.specs.declared.tasks.Task.{Task}
-use Rattle.leg.specs.Tasks.{want_of}
+use Rattle.package.specs.leg.Deeds.{BackendView, Deed, took, opened, began, heard, put_back, gave_up, redialled, no_memory, nothing, looks_after}
+use Rattle.package.specs.leg.Phases.{is_done, is_given, looks_of}
+use Rattle.package.specs.leg.Rules.{Ends, Lack, always, answer_of, lack_of, left_by, never, perhaps}
+use Rattle.package.specs.leg.Terms.{Terms}
+use Rattle.package.specs.leg.Turns.{DoorView, IsTurn, PoolMoves}
+use Rattle.package.specs.leg.declared.accounts.Account.{Account}
+use Rattle.package.specs.leg.declared.answers.Turned.{Turned}
+use Rattle.package.specs.leg.declared.answers.Turned.TheVariants as turned
+use Rattle.package.specs.leg.declared.phases.Phase.{Phase}
+use Rattle.package.specs.leg.declared.phases.Phase.TheVariants.{Begin, Dialling, Dialled, Ready, Searching, Presenting, Fetching, Scanning, Returning, Losing, Redialling, Spoiled, Done, Ended}
+use Rattle.package.specs.leg.declared.tasks.Task.{Task}
+use Rattle.package.specs.leg.Tasks.{want_of}
 use Rattle.package_quiet.specs.steps.Quiet.{AreTold, CountsStay, IsCalm, IsWellAt, WentWell}
 use Rattle.package_quiet.specs.steps.Whole.{IsWholeIn}
 use Rattle.package_quiet.proofs.CountLemmas.{counts-stay, no-cause, stays-quiet}

@@ -11,3 +11,7 @@ pub use laws::{
     bearing_stays, begun_bears, begun_is_well, packages_bear, packages_dial_on, packages_go_well,
     turns_bear, turns_go_well,
 };
+
+// Handed on: crates above name these through this one.
+pub use package::package_rules;
+pub use package;

@@ -9,10 +9,10 @@ use Rattle.z_types.specs.equality.Key as keys
 use Rattle.route_config.specs.Sound.{ArePoolNumbers}
 use Rattle.route_config.specs.declared.route.Route.{Route}
 use Rattle.pool_sets.specs.Table.{same_key}
-use Rattle.leg.specs.Kept.{one_if}
-use Rattle.leg.specs.LegView.{LegView}
-use Rattle.leg.specs.Tasks.{want_of}
-use Rattle.package.specs.steps.Packages.{asked_of}
+use Rattle.package_quiet.specs.leg.Kept.{one_if}
+use Rattle.package_quiet.specs.leg.LegView.{LegView}
+use Rattle.package_quiet.specs.leg.Tasks.{want_of}
+use Rattle.package_quiet.specs.package.steps.Packages.{asked_of}
 use Rattle.sharing_rules.specs.Needed.{is_in, is_set_in, last_at}
 use Rattle.sharing_rules.specs.Uses.{Use}
 use Rattle.sharing_rules.specs.steps.Shared.{search_due}

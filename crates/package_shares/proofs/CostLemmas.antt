@@ -7,11 +7,11 @@ use Rattle.std.proofs.lemmas.Bool.{eqb-true}
 use Rattle.std.proofs.lemmas.List.Sums.{sum_by-cons}
 use Rattle.z_types.specs.declared.world.World as world
 use Rattle.route_config.specs.declared.route.Route.{Route}
-use Rattle.leg.specs.Kept.{one_if}
-use Rattle.leg.specs.LegView.{LegView}
-use Rattle.leg.specs.Tasks.{want_of}
-use Rattle.leg.specs.declared.accounts.Account.{Account}
-use Rattle.package.specs.steps.Packages.{accounts_of}
+use Rattle.package_quiet.specs.leg.Kept.{one_if}
+use Rattle.package_quiet.specs.leg.LegView.{LegView}
+use Rattle.package_quiet.specs.leg.Tasks.{want_of}
+use Rattle.package_quiet.specs.leg.declared.accounts.Account.{Account}
+use Rattle.package_quiet.specs.package.steps.Packages.{accounts_of}
 use Rattle.sharing_rules.specs.Needed.{count_after, needs_dial, needs_search}
 use Rattle.sharing_rules.specs.Uses.{Use}
 use Rattle.sharing_rules.specs.steps.Shared.{dial_due, search_due}

@@ -8,22 +8,22 @@ use Rattle.z_types.specs.declared.sitting.Sitting as sitting
 use Rattle.z_types.specs.declared.world.World as world
 use Rattle.route_config.specs.Sound.{ArePoolNumbers}
 use Rattle.route_config.specs.declared.route.Route.{Route}
-use Rattle.leg.specs.LegView.{LegView}
-use Rattle.leg.specs.Kept.{StandsAt}
-use Rattle.leg.specs.Phases.{answered, is_done}
-use Rattle.leg.specs.Right.{AnswerFits, IsCaused, IsRight}
-use Rattle.leg.specs.Terms.{terms_of}
-use Rattle.leg.specs.Turns.{IsLegOf}
-use Rattle.leg.specs.declared.accounts.Account.{Account}
-use Rattle.leg.specs.declared.answers.LegAnswer.{LegAnswer}
-use Rattle.leg.specs.declared.answers.LegAnswer.TheVariants as answer
-use Rattle.leg.specs.declared.phases.Phase.{Phase}
-use Rattle.leg.specs.declared.phases.Phase.TheVariants.{Begin, Dialling, Dialled, Ready, Searching, Presenting, Fetching, Scanning, Returning, Losing, Redialling, Spoiled, Done, Ended}
-use Rattle.leg.specs.declared.tasks.Task.{Task}
-use Rattle.package_rules.specs.declared.answered.Answered.{Answered}
-use Rattle.package_rules.specs.Said.{cause_of, cause_or, mark_of}
-use Rattle.package.specs.steps.Packages.{AreDone, HasFitting, answers_of}
-use Rattle.package.specs.steps.Turns.{all_done}
+use Rattle.package_quiet.specs.leg.LegView.{LegView}
+use Rattle.package_quiet.specs.leg.Kept.{StandsAt}
+use Rattle.package_quiet.specs.leg.Phases.{answered, is_done}
+use Rattle.package_quiet.specs.leg.Right.{AnswerFits, IsCaused, IsRight}
+use Rattle.package_quiet.specs.leg.Terms.{terms_of}
+use Rattle.package_quiet.specs.leg.Turns.{IsLegOf}
+use Rattle.package_quiet.specs.leg.declared.accounts.Account.{Account}
+use Rattle.package_quiet.specs.leg.declared.answers.LegAnswer.{LegAnswer}
+use Rattle.package_quiet.specs.leg.declared.answers.LegAnswer.TheVariants as answer
+use Rattle.package_quiet.specs.leg.declared.phases.Phase.{Phase}
+use Rattle.package_quiet.specs.leg.declared.phases.Phase.TheVariants.{Begin, Dialling, Dialled, Ready, Searching, Presenting, Fetching, Scanning, Returning, Losing, Redialling, Spoiled, Done, Ended}
+use Rattle.package_quiet.specs.leg.declared.tasks.Task.{Task}
+use Rattle.package_quiet.specs.package_rules.declared.answered.Answered.{Answered}
+use Rattle.package_quiet.specs.package_rules.Said.{cause_of, cause_or, mark_of}
+use Rattle.package_quiet.specs.package.steps.Packages.{AreDone, HasFitting, answers_of}
+use Rattle.package_quiet.specs.package.steps.Turns.{all_done}
 use Rattle.package_quiet.specs.steps.Quiet.{HasNoCause}
 use Rattle.package_shares.specs.steps.Together.{AreUndisturbed}
 use Rattle.package_shares.proofs.CostLemmas.{CountsItsClass}

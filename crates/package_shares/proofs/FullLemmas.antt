@@ -6,16 +6,16 @@ use Rattle.route_config.specs.declared.route.Route.{Route}
 use Rattle.pool_sets.specs.Plain.{Pool}
 use Rattle.pool_sets.specs.declared.doors.Taken.{Taken}
 use Rattle.pool_sets.specs.declared.doors.Taken.TheVariants as taken
-use Rattle.leg.specs.Accounts.{more}
-use Rattle.leg.specs.Deeds.{BackendView, Deed, took, opened, began, heard, put_back, gave_up, redialled, no_memory, nothing, rises_of}
-use Rattle.leg.specs.Tasks.{want_of}
-use Rattle.leg.specs.Terms.{class_of, terms_of}
-use Rattle.leg.specs.Turns.{DoorView, IsDue, IsTurn, PoolMoves}
-use Rattle.leg.specs.declared.accounts.Account.{Account}
-use Rattle.leg.specs.declared.answers.Turned.{Turned}
-use Rattle.leg.specs.declared.phases.Phase.{Phase}
-use Rattle.leg.specs.declared.phases.Phase.TheVariants.{Begin, Dialling, Dialled, Ready, Searching, Presenting, Fetching, Scanning, Returning, Losing, Redialling, Spoiled, Done, Ended}
-use Rattle.leg.specs.declared.tasks.Task.{Task}
+use Rattle.package_quiet.specs.leg.Accounts.{more}
+use Rattle.package_quiet.specs.leg.Deeds.{BackendView, Deed, took, opened, began, heard, put_back, gave_up, redialled, no_memory, nothing, rises_of}
+use Rattle.package_quiet.specs.leg.Tasks.{want_of}
+use Rattle.package_quiet.specs.leg.Terms.{class_of, terms_of}
+use Rattle.package_quiet.specs.leg.Turns.{DoorView, IsDue, IsTurn, PoolMoves}
+use Rattle.package_quiet.specs.leg.declared.accounts.Account.{Account}
+use Rattle.package_quiet.specs.leg.declared.answers.Turned.{Turned}
+use Rattle.package_quiet.specs.leg.declared.phases.Phase.{Phase}
+use Rattle.package_quiet.specs.leg.declared.phases.Phase.TheVariants.{Begin, Dialling, Dialled, Ready, Searching, Presenting, Fetching, Scanning, Returning, Losing, Redialling, Spoiled, Done, Ended}
+use Rattle.package_quiet.specs.leg.declared.tasks.Task.{Task}
 use Rattle.sharing_rules.specs.Uses.{Use}
 use Rattle.leg_shares.specs.steps.Pools.{IsPoolOf, MayUse}
 use Rattle.leg_shares.specs.steps.Sharing.{Shares, StandsBy}

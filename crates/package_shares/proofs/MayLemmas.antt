@@ -10,11 +10,11 @@ use Rattle.gateway_rules.specs.Fair.{IsFair}
 use Rattle.route_config.specs.Sound.{ArePoolNumbers}
 use Rattle.route_config.specs.declared.route.Route.{Route}
 use Rattle.pool_sets.specs.Table.{same_key}
-use Rattle.leg.specs.LegView.{LegView}
-use Rattle.leg.specs.Tasks.{want_of}
-use Rattle.leg.specs.Terms.{class_of}
-use Rattle.package_rules.specs.Asked.{Asked, first_asked}
-use Rattle.package.specs.steps.Packages.{asked_of}
+use Rattle.package_quiet.specs.leg.LegView.{LegView}
+use Rattle.package_quiet.specs.leg.Tasks.{want_of}
+use Rattle.package_quiet.specs.leg.Terms.{class_of}
+use Rattle.package_quiet.specs.package_rules.Asked.{Asked, first_asked}
+use Rattle.package_quiet.specs.package.steps.Packages.{asked_of}
 use Rattle.sharing_rules.specs.Orderly.{keys_used}
 use Rattle.sharing_rules.specs.Uses.{Use}
 use Rattle.sharing_rules.specs.steps.Shared.{AreInOrder}

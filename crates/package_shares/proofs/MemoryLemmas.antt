@@ -2,13 +2,13 @@
 use Rattle.std.proofs.Common.{◌≡◌, ◌≢◌, ◌∙◌, Bool, true, false, inl, inr, refl, sym, ap}
 use Rattle.pool_sets.specs.declared.doors.Taken.TheVariants as taken
 use Rattle.gw_outside.specs.declared.backends.Heard.TheVariants as look
-use Rattle.leg.specs.Deeds.{Deed, took, opened, began, heard, put_back, gave_up, redialled, no_memory, nothing}
-use Rattle.leg.specs.Phases.{is_done}
-use Rattle.leg.specs.Rules.{Ends, Lack, always, answer_of, lack_of, left_by, never, perhaps, unless_lost}
-use Rattle.leg.specs.declared.answers.Turned.{Turned}
-use Rattle.leg.specs.declared.answers.Turned.TheVariants as turned
-use Rattle.leg.specs.declared.phases.Phase.{Phase}
-use Rattle.leg.specs.declared.phases.Phase.TheVariants.{Begin, Dialling, Dialled, Ready, Searching, Presenting, Fetching, Scanning, Returning, Losing, Redialling, Spoiled, Done, Ended}
+use Rattle.package_quiet.specs.leg.Deeds.{Deed, took, opened, began, heard, put_back, gave_up, redialled, no_memory, nothing}
+use Rattle.package_quiet.specs.leg.Phases.{is_done}
+use Rattle.package_quiet.specs.leg.Rules.{Ends, Lack, always, answer_of, lack_of, left_by, never, perhaps, unless_lost}
+use Rattle.package_quiet.specs.leg.declared.answers.Turned.{Turned}
+use Rattle.package_quiet.specs.leg.declared.answers.Turned.TheVariants as turned
+use Rattle.package_quiet.specs.leg.declared.phases.Phase.{Phase}
+use Rattle.package_quiet.specs.leg.declared.phases.Phase.TheVariants.{Begin, Dialling, Dialled, Ready, Searching, Presenting, Fetching, Scanning, Returning, Losing, Redialling, Spoiled, Done, Ended}
 use Rattle.package_quiet.proofs.TurnLemmas.{HadMemory, left-open}
 
 -- the rules of a leg never say that memory lacked

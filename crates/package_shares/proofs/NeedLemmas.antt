@@ -19,20 +19,20 @@ use Rattle.route_config.specs.declared.route.Route.{Route}
 use Rattle.gateway_rules.specs.Outcomes.{places_from}
 use Rattle.gateway_rules.specs.Targets.{behind_first, hidden}
 use Rattle.pool_sets.specs.Table.{same_key}
-use Rattle.leg.specs.LegView.{LegView}
-use Rattle.leg.specs.Right.{IsRight}
-use Rattle.leg.specs.Tasks.{want_of}
-use Rattle.leg.specs.Terms.{class_of, terms_of}
-use Rattle.leg.specs.declared.answers.LegAnswer.{LegAnswer}
-use Rattle.leg.specs.declared.answers.LegAnswer.TheVariants as answer
-use Rattle.leg.specs.declared.tasks.Task.TheVariants.{Hits}
-use Rattle.package_rules.specs.Asked.{Asked, all_records_asked, element_shown, first_asked, hits_asked, key_at, leg_of, places_shown, ranks_of, records_asked, spans_of}
-use Rattle.package_rules.specs.Planned.{by_hits, legs_named, then_asked_by, unless_marked}
-use Rattle.package_rules.specs.Said.{all_hits, cause_of, hides, hits_said}
-use Rattle.package_rules.specs.declared.spans.Span.{Span}
-use Rattle.package_rules.specs.steps.Spans.{RunTo, rank_from}
-use Rattle.package_rules.proofs.RunLemmas.{run_of_places}
-use Rattle.package.specs.steps.Packages.{answers_of, asked_of}
+use Rattle.package_quiet.specs.leg.LegView.{LegView}
+use Rattle.package_quiet.specs.leg.Right.{IsRight}
+use Rattle.package_quiet.specs.leg.Tasks.{want_of}
+use Rattle.package_quiet.specs.leg.Terms.{class_of, terms_of}
+use Rattle.package_quiet.specs.leg.declared.answers.LegAnswer.{LegAnswer}
+use Rattle.package_quiet.specs.leg.declared.answers.LegAnswer.TheVariants as answer
+use Rattle.package_quiet.specs.leg.declared.tasks.Task.TheVariants.{Hits}
+use Rattle.package_quiet.specs.package_rules.Asked.{Asked, all_records_asked, element_shown, first_asked, hits_asked, key_at, leg_of, places_shown, ranks_of, records_asked, spans_of}
+use Rattle.package_quiet.specs.package_rules.Planned.{by_hits, legs_named, then_asked_by, unless_marked}
+use Rattle.package_quiet.specs.package_rules.Said.{all_hits, cause_of, hides, hits_said}
+use Rattle.package_quiet.specs.package_rules.declared.spans.Span.{Span}
+use Rattle.package_quiet.specs.package_rules.steps.Spans.{RunTo, rank_from}
+use Rattle.package_quiet.proofs.package_rules.RunLemmas.{run_of_places}
+use Rattle.package_quiet.specs.package.steps.Packages.{answers_of, asked_of}
 use Rattle.sharing_rules.specs.Needed.{is_in, is_refused, is_set_in, last_at}
 use Rattle.sharing_rules.specs.Uses.{Use}
 use Rattle.leg_shares.specs.steps.Pools.{IsOneTarget}

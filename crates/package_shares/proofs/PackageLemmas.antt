@@ -6,16 +6,16 @@ use Rattle.z_types.specs.declared.work.Work.{Work}
 use Rattle.z_types.specs.declared.world.World as world
 use Rattle.route_config.specs.declared.route.Route.{Route}
 use Rattle.pool_sets.specs.Plain.{Pool}
-use Rattle.leg.specs.Deeds.{BackendView}
-use Rattle.leg.specs.LegView.{LegView}
-use Rattle.leg.specs.Terms.{class_of}
-use Rattle.leg.specs.Turns.{DoorView}
-use Rattle.leg.specs.declared.answers.Turned.{Turned}
-use Rattle.leg.specs.declared.answers.Turned.TheVariants as turned
-use Rattle.package_rules.specs.Asked.{Asked, first_asked}
-use Rattle.package.specs.declared.turning.Round.{Round}
-use Rattle.package.specs.steps.Packages.{PackageView, begun, new_package}
-use Rattle.package.specs.steps.Turns.{GoesOn, IsPackageTurn, Plans, TakesTurn, all_done, no_round}
+use Rattle.package_quiet.specs.leg.Deeds.{BackendView}
+use Rattle.package_quiet.specs.leg.LegView.{LegView}
+use Rattle.package_quiet.specs.leg.Terms.{class_of}
+use Rattle.package_quiet.specs.leg.Turns.{DoorView}
+use Rattle.package_quiet.specs.leg.declared.answers.Turned.{Turned}
+use Rattle.package_quiet.specs.leg.declared.answers.Turned.TheVariants as turned
+use Rattle.package_quiet.specs.package_rules.Asked.{Asked, first_asked}
+use Rattle.package_quiet.specs.package.declared.turning.Round.{Round}
+use Rattle.package_quiet.specs.package.steps.Packages.{PackageView, begun, new_package}
+use Rattle.package_quiet.specs.package.steps.Turns.{GoesOn, IsPackageTurn, Plans, TakesTurn, all_done, no_round}
 use Rattle.sharing_rules.specs.Uses.{Use}
 use Rattle.package_quiet.specs.steps.Quiet.{AreWell, HasNoCause}
 use Rattle.package_quiet.proofs.PackageLemmas.{HadMemories}

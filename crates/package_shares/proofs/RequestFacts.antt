@@ -16,11 +16,11 @@ use Rattle.route_config.specs.declared.route.Route.{Route}
 use Rattle.pool_sets.specs.Table.{same_key}
 use Rattle.test_target.specs.contracts.worlds.TestWorldWorld.TheImpl as test_world
 use Rattle.test_target.specs.declared.worlds.TestWorld.{TestWorld}
-use Rattle.leg.specs.Accounts.{no_account}
-use Rattle.leg.specs.Terms.{class_of}
-use Rattle.leg.specs.declared.accounts.Account.{Account}
-use Rattle.package_rules.specs.Asked.{first_asked}
-use Rattle.package_rules.specs.Planned.{legs_named}
+use Rattle.package_quiet.specs.leg.Accounts.{no_account}
+use Rattle.package_quiet.specs.leg.Terms.{class_of}
+use Rattle.package_quiet.specs.leg.declared.accounts.Account.{Account}
+use Rattle.package_quiet.specs.package_rules.Asked.{first_asked}
+use Rattle.package_quiet.specs.package_rules.Planned.{legs_named}
 use Rattle.sharing_rules.specs.Needed.{count_after, needs_dial, needs_search}
 use Rattle.sharing_rules.specs.Orderly.{keys_used}
 use Rattle.sharing_rules.specs.Uses.{Use}

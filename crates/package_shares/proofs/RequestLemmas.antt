@@ -11,13 +11,13 @@ use Rattle.gateway_rules.specs.Fair.{IsFair}
 use Rattle.route_config.specs.Sound.{ArePoolNumbers}
 use Rattle.route_config.specs.declared.route.Route.{Route}
 use Rattle.pool_sets.specs.Plain.{Pool}
-use Rattle.leg.specs.LegView.{LegView}
-use Rattle.leg.specs.declared.accounts.Account.{Account}
-use Rattle.package_rules.specs.Asked.{Asked, first_asked}
-use Rattle.package_rules.specs.Planned.{then_asked_by}
-use Rattle.package_rules.specs.Said.{cause_of}
-use Rattle.package.specs.steps.Drives.{PackageAt}
-use Rattle.package.specs.steps.Packages.{AreDone, IsOver, IsPackageOf, IsPlanned, PackageView, accounts_of, all_accounts, answers_of, asked_of, begun, new_package}
+use Rattle.package_quiet.specs.leg.LegView.{LegView}
+use Rattle.package_quiet.specs.leg.declared.accounts.Account.{Account}
+use Rattle.package_quiet.specs.package_rules.Asked.{Asked, first_asked}
+use Rattle.package_quiet.specs.package_rules.Planned.{then_asked_by}
+use Rattle.package_quiet.specs.package_rules.Said.{cause_of}
+use Rattle.package_quiet.specs.package.steps.Drives.{PackageAt}
+use Rattle.package_quiet.specs.package.steps.Packages.{AreDone, IsOver, IsPackageOf, IsPlanned, PackageView, accounts_of, all_accounts, answers_of, asked_of, begun, new_package}
 use Rattle.sharing_rules.specs.Needed.{count_after, needs_dial, needs_search}
 use Rattle.sharing_rules.specs.Uses.{Use}
 use Rattle.leg_shares.specs.steps.Pools.{HaveSameLast}

@@ -7,18 +7,18 @@ use Rattle.z_types.specs.declared.sitting.Sitting as sitting
 use Rattle.z_types.specs.declared.world.World as world
 use Rattle.route_config.specs.declared.route.Route.{Route}
 use Rattle.pool_sets.specs.Plain.{Pool}
-use Rattle.leg.specs.Deeds.{BackendView}
-use Rattle.leg.specs.LegView.{LegView}
-use Rattle.leg.specs.Phases.{is_done}
-use Rattle.leg.specs.Rules.{next}
-use Rattle.leg.specs.Tasks.{want_of}
-use Rattle.leg.specs.Terms.{class_of, terms_of}
-use Rattle.leg.specs.Turns.{DoorView}
-use Rattle.leg.specs.declared.answers.Turned.{Turned}
-use Rattle.leg.specs.declared.answers.Turned.TheVariants as turned
-use Rattle.leg.specs.declared.tasks.Task.{Task}
-use Rattle.package.specs.declared.turning.Round.{Round}
-use Rattle.package.specs.steps.Turns.{HadTurn, HasTurned, HaveTurned}
+use Rattle.package_quiet.specs.leg.Deeds.{BackendView}
+use Rattle.package_quiet.specs.leg.LegView.{LegView}
+use Rattle.package_quiet.specs.leg.Phases.{is_done}
+use Rattle.package_quiet.specs.leg.Rules.{next}
+use Rattle.package_quiet.specs.leg.Tasks.{want_of}
+use Rattle.package_quiet.specs.leg.Terms.{class_of, terms_of}
+use Rattle.package_quiet.specs.leg.Turns.{DoorView}
+use Rattle.package_quiet.specs.leg.declared.answers.Turned.{Turned}
+use Rattle.package_quiet.specs.leg.declared.answers.Turned.TheVariants as turned
+use Rattle.package_quiet.specs.leg.declared.tasks.Task.{Task}
+use Rattle.package_quiet.specs.package.declared.turning.Round.{Round}
+use Rattle.package_quiet.specs.package.steps.Turns.{HadTurn, HasTurned, HaveTurned}
 use Rattle.sharing_rules.specs.Uses.{Use}
 use Rattle.sharing_rules.specs.steps.Shared.{of_class}
 use Rattle.package_quiet.specs.steps.Quiet.{HasNoCause}

@@ -8,14 +8,14 @@ use Rattle.z_types.specs.declared.sitting.Sitting as sitting
 use Rattle.z_types.specs.declared.world.World as world
 use Rattle.route_config.specs.declared.route.Route.{Route}
 use Rattle.pool_sets.specs.Plain.{Pool}
-use Rattle.leg.specs.LegView.{LegView}
-use Rattle.leg.specs.Phases.{is_done}
-use Rattle.leg.specs.Terms.{members_of}
-use Rattle.leg.specs.declared.accounts.Account.{Account}
-use Rattle.leg.specs.declared.phases.Phase.{Phase}
-use Rattle.leg.specs.declared.phases.Phase.TheVariants.{Begin, Dialling, Dialled, Ready, Searching, Presenting, Fetching, Scanning, Returning, Losing, Redialling, Spoiled, Done, Ended}
-use Rattle.leg.specs.declared.tasks.Task.{Task}
-use Rattle.package.specs.steps.Turns.{all_done}
+use Rattle.package_quiet.specs.leg.LegView.{LegView}
+use Rattle.package_quiet.specs.leg.Phases.{is_done}
+use Rattle.package_quiet.specs.leg.Terms.{members_of}
+use Rattle.package_quiet.specs.leg.declared.accounts.Account.{Account}
+use Rattle.package_quiet.specs.leg.declared.phases.Phase.{Phase}
+use Rattle.package_quiet.specs.leg.declared.phases.Phase.TheVariants.{Begin, Dialling, Dialled, Ready, Searching, Presenting, Fetching, Scanning, Returning, Losing, Redialling, Spoiled, Done, Ended}
+use Rattle.package_quiet.specs.leg.declared.tasks.Task.{Task}
+use Rattle.package_quiet.specs.package.steps.Turns.{all_done}
 use Rattle.sharing_rules.specs.Needed.{is_in, is_set_in, last_at}
 use Rattle.sharing_rules.specs.Uses.{Use}
 use Rattle.sharing_rules.specs.steps.Shared.{of_class}

@@ -17,12 +17,12 @@ use Rattle.z_types.specs.declared.work.Work.TheVariants as work
 use Rattle.route_config.specs.declared.route.Route.{Route}
 use Rattle.route_config.specs.declared.route.RouteLeg.{RouteLeg}
 use Rattle.gateway_rules.specs.Outcomes.{places_from}
-use Rattle.leg.specs.Tasks.{want_of}
-use Rattle.leg.specs.Terms.{class_of}
-use Rattle.package_rules.specs.Asked.{Asked, all_records_asked, first_asked, hits_asked, key_at, leg_of, ranks_of, records_asked, span_of, spans_of}
-use Rattle.package_rules.specs.Planned.{AreThere, legs_named}
-use Rattle.package_rules.specs.declared.spans.Span.{Span}
-use Rattle.package_rules.proofs.LegsAsked.{IsLegOf, first_of}
+use Rattle.package_quiet.specs.leg.Tasks.{want_of}
+use Rattle.package_quiet.specs.leg.Terms.{class_of}
+use Rattle.package_quiet.specs.package_rules.Asked.{Asked, all_records_asked, first_asked, hits_asked, key_at, leg_of, ranks_of, records_asked, span_of, spans_of}
+use Rattle.package_quiet.specs.package_rules.Planned.{AreThere, legs_named}
+use Rattle.package_quiet.specs.package_rules.declared.spans.Span.{Span}
+use Rattle.package_quiet.proofs.package_rules.LegsAsked.{IsLegOf, first_of}
 use Rattle.sharing_rules.specs.Uses.{Use, key_if, use_at}
 use Rattle.sharing_rules.specs.steps.Shared.{use_now}
 use Rattle.package_shares.specs.steps.Requests.{uses_at}

@@ -11,3 +11,6 @@ pub use laws::{
     begun_may_share, begun_shares, done_legs_leave_uses, packages_may_share, packages_share,
     quiet_packages_share, requests_share, rounds_share,
 };
+
+// Handed on: crates above name these through this one.
+pub use package_quiet::package;

@@ -29,16 +29,16 @@ use Rattle.z_sets.specs.declared.fault.ExpandFault.{ExpandFault}
 use Rattle.z_sets.specs.Expansion.{expanded}
 use Rattle.route_config.specs.declared.route.Route.{Route}
 use Rattle.virt_db.specs.Legs.{legs_of}
-use Rattle.gateway_rules.specs.Asking.{Asking, asked_with, at_once, element_of, fetch_work, leg_work, query_work, scan_work, search_work, unless_refused, works}
-use Rattle.gateway_rules.specs.Checks.{checked, present_checks, scan_checks, search_checks}
-use Rattle.gateway_rules.specs.Given.{present_reply}
-use Rattle.gateway_rules.specs.Outcomes.{places_from}
-use Rattle.gateway_rules.specs.State.{ClientState}
-use Rattle.gateway_rules.specs.Works.{CanBegin}
-use Rattle.package_rules.specs.Asked.{Asked, all_records_asked, element_shown, first_asked, hits_asked, places_shown, ranks_of, records_asked, span_of, spans_of, then_asked}
-use Rattle.package_rules.specs.Planned.{by_hits, legs_named, then_asked_by, unless_marked}
-use Rattle.package_rules.specs.Said.{all_hits, cause_of}
-use Rattle.package_rules.specs.declared.answered.Answered.{Answered}
+use Rattle.front_conn_costs.specs.gateway_rules.Asking.{Asking, asked_with, at_once, element_of, fetch_work, leg_work, query_work, scan_work, search_work, unless_refused, works}
+use Rattle.front_conn_costs.specs.gateway_rules.Checks.{checked, present_checks, scan_checks, search_checks}
+use Rattle.front_conn_costs.specs.gateway_rules.Given.{present_reply}
+use Rattle.front_conn_costs.specs.gateway_rules.Outcomes.{places_from}
+use Rattle.front_conn_costs.specs.gateway_rules.State.{ClientState}
+use Rattle.front_conn_costs.specs.gateway_rules.Works.{CanBegin}
+use Rattle.package_quiet.specs.package_rules.Asked.{Asked, all_records_asked, element_shown, first_asked, hits_asked, places_shown, ranks_of, records_asked, span_of, spans_of, then_asked}
+use Rattle.package_quiet.specs.package_rules.Planned.{by_hits, legs_named, then_asked_by, unless_marked}
+use Rattle.package_quiet.specs.package_rules.Said.{all_hits, cause_of}
+use Rattle.package_quiet.specs.package_rules.declared.answered.Answered.{Answered}
 use Rattle.replay.specs.Places.{leg_count, most_at_once}
 use Rattle.replay.proofs.LegCounts.{legs_of-few}
 

@@ -12,10 +12,10 @@ use Rattle.route_config.specs.declared.route.Route.{Route}
 use Rattle.script.specs.declared.event.Event.{Event}
 use Rattle.script.specs.declared.event.Event.TheVariants.{Feed, End, Step, Run, Tick, Gone, Cut, Slow}
 use Rattle.script.specs.Events.{IsClient, IsEvent, client_of, fed, has_ended, is_of, may_follow, most_clients}
-use Rattle.front_conn.specs.steps.Answering.{Outside}
-use Rattle.leg.specs.Deeds.{BackendView}
-use Rattle.leg.specs.Turns.{DoorView}
-use Rattle.front_conn.specs.steps.States.{IsConnOf}
+use Rattle.front_conn_costs.specs.front_conn.steps.Answering.{Outside}
+use Rattle.package_quiet.specs.leg.Deeds.{BackendView}
+use Rattle.package_quiet.specs.leg.Turns.{DoorView}
+use Rattle.front_conn_costs.specs.front_conn.steps.States.{IsConnOf}
 use Rattle.replay.specs.Trace.{IsBefallen, IsPlayed, PlaysAt, PlaysOf, Playing}
 use Rattle.replay.specs.Clients.{AreNone, ClientState, client_at, client_or_new, new_client}
 use Rattle.replay.specs.steps.Clients.{AreClientsOf, IsClientFed, IsClientOf}

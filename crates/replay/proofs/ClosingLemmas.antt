@@ -8,8 +8,8 @@ use Rattle.std.specs.List.{flat_map}
 use Rattle.z_types.specs.declared.sitting.Sitting as sitting
 use Rattle.z_types.specs.declared.world.World as world
 use Rattle.route_config.specs.declared.route.Route.{Route}
-use Rattle.front_conn.specs.steps.Answering.{Outside}
-use Rattle.front_conn.specs.steps.States.{IsConnOf}
+use Rattle.front_conn_costs.specs.front_conn.steps.Answering.{Outside}
+use Rattle.front_conn_costs.specs.front_conn.steps.States.{IsConnOf}
 use Rattle.script.specs.declared.event.Event.{Event}
 use Rattle.script.specs.declared.event.Event.TheVariants.{End, Run}
 use Rattle.script.specs.Events.{fed, has_ended, is_named, most_clients, named, named_upto}

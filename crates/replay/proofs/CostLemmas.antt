@@ -2,7 +2,7 @@
 use Rattle.std.proofs.Common.{◌≡◌, ◌∙◌, ℕ, zero, suc, Bool, true, false, List, [], ◌∷◌, Option, None, Some, if◌then◌else◌, length, map, nat_lt, set, get_or, ◌++◌, take, drop, sym, arith, refl, ap}
 use Rattle.std.proofs.Math.Seq.{map-set_same, take-length}
 use Rattle.std.proofs.lemmas.List.{append-nil, drop_all, length-map}
-use Rattle.front_conn.specs.declared.totals.Total.{Total}
+use Rattle.front_conn_costs.specs.front_conn.declared.totals.Total.{Total}
 use Rattle.route_config.specs.declared.route.Class.{Class}
 use Rattle.replay.specs.declared.reports.ClassReport.{ClassReport}
 use Rattle.replay.specs.Classes.{costless, costs_after, costs_of, costs_with, nameless, with_total}

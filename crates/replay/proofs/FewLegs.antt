@@ -24,36 +24,36 @@ use Rattle.sru_request.specs.Name.{name_of}
 use Rattle.sru_request.specs.declared.faults.HeadFault.{HeadFault}
 use Rattle.sru_request.specs.declared.head.Get.{Get}
 use Rattle.sru_request.specs.declared.query.SruQuery.{SruQuery}
-use Rattle.sru_rules.specs.Asking.{rpn_of}
-use Rattle.sru_rules.specs.Course.{database_of}
-use Rattle.sru_rules.specs.Reading.{Reading, refused, taken}
-use Rattle.sru_rules.specs.Run.{Due, at_once as answers_now, due as due_of, due_by, searches}
-use Rattle.sru_rules.specs.Settling.{Next, answered, fetches}
-use Rattle.gateway_rules.specs.Asking.{Asking, asked_with, at_once, works}
-use Rattle.gateway_rules.specs.Course.{Meeting, bad, beyond, closing, due, met}
-use Rattle.gateway_rules.specs.Works.{mark_of}
-use Rattle.package.specs.steps.Ends.{outcome_in}
-use Rattle.package.specs.steps.Packages.{IsPackageOf, PackageView}
-use Rattle.leg.specs.declared.answers.Turned.{Turned}
-use Rattle.leg.specs.declared.answers.Turned.TheVariants as turned
-use Rattle.package_rules.specs.Planned.{legs_named}
-use Rattle.front_session.specs.Sessions.{SessionState, Waiting, client_of, progress_of}
-use Rattle.front_session.specs.Admitting.{HasGivenHits, IsFoundSet, hits_named}
-use Rattle.front_z.specs.Units as z
-use Rattle.front_z.specs.declared.units.Begun.{Begun}
-use Rattle.front_z.specs.declared.units.Begun.TheVariants as begun
-use Rattle.front_http.specs.Heads.{IsHeadBegun}
-use Rattle.front_sru.specs.Gets as sru
-use Rattle.front_sru.specs.Kept.{fetching}
-use Rattle.front_sru.specs.declared.begun.Begun as sru_begun
-use Rattle.front_sru.specs.declared.begun.Begun.TheVariants as get
-use Rattle.front_sru.specs.declared.state.SruStage.{SruStage}
-use Rattle.front_sru.specs.declared.state.SruStage.TheVariants.{Idle, Searching, Fetching}
-use Rattle.front_conn.specs.declared.stepped.Stepped.{Stepped}
-use Rattle.front_conn.specs.declared.stepped.Stepped.TheVariants as stepped
-use Rattle.front_conn.specs.steps.Answering.{AnsweringState, EndsAt, IsAnsweredBy, IsEndAfter, IsGetEnded, IsHeadTaken, IsKeptBehind, IsKeptBehindGet, IsUnitBegun, Outside, WorksOn, get_served, served}
-use Rattle.front_conn.specs.steps.States.{ConnectionState, IsConnOf, IsOneWork, IsWaitedAt, IsWaitedFor}
-use Rattle.front_conn.specs.steps.Steps.{EndsAtRest, EndsByRest, GoesAhead, IsStepped, StepsFrom, TakesHead, TakesUnit, answering_of}
+use Rattle.front_conn_costs.specs.sru_rules.Asking.{rpn_of}
+use Rattle.front_conn_costs.specs.sru_rules.Course.{database_of}
+use Rattle.front_conn_costs.specs.sru_rules.Reading.{Reading, refused, taken}
+use Rattle.front_conn_costs.specs.sru_rules.Run.{Due, at_once as answers_now, due as due_of, due_by, searches}
+use Rattle.front_conn_costs.specs.sru_rules.Settling.{Next, answered, fetches}
+use Rattle.front_conn_costs.specs.gateway_rules.Asking.{Asking, asked_with, at_once, works}
+use Rattle.front_conn_costs.specs.gateway_rules.Course.{Meeting, bad, beyond, closing, due, met}
+use Rattle.front_conn_costs.specs.gateway_rules.Works.{mark_of}
+use Rattle.package_quiet.specs.package.steps.Ends.{outcome_in}
+use Rattle.package_quiet.specs.package.steps.Packages.{IsPackageOf, PackageView}
+use Rattle.package_quiet.specs.leg.declared.answers.Turned.{Turned}
+use Rattle.package_quiet.specs.leg.declared.answers.Turned.TheVariants as turned
+use Rattle.package_quiet.specs.package_rules.Planned.{legs_named}
+use Rattle.front_conn_costs.specs.front_session.Sessions.{SessionState, Waiting, client_of, progress_of}
+use Rattle.front_conn_costs.specs.front_session.Admitting.{HasGivenHits, IsFoundSet, hits_named}
+use Rattle.front_conn_costs.specs.front_z.Units as z
+use Rattle.front_conn_costs.specs.front_z.declared.units.Begun.{Begun}
+use Rattle.front_conn_costs.specs.front_z.declared.units.Begun.TheVariants as begun
+use Rattle.front_conn_costs.specs.front_http.Heads.{IsHeadBegun}
+use Rattle.front_conn_costs.specs.front_sru.Gets as sru
+use Rattle.front_conn_costs.specs.front_sru.Kept.{fetching}
+use Rattle.front_conn_costs.specs.front_sru.declared.begun.Begun as sru_begun
+use Rattle.front_conn_costs.specs.front_sru.declared.begun.Begun.TheVariants as get
+use Rattle.front_conn_costs.specs.front_sru.declared.state.SruStage.{SruStage}
+use Rattle.front_conn_costs.specs.front_sru.declared.state.SruStage.TheVariants.{Idle, Searching, Fetching}
+use Rattle.front_conn_costs.specs.front_conn.declared.stepped.Stepped.{Stepped}
+use Rattle.front_conn_costs.specs.front_conn.declared.stepped.Stepped.TheVariants as stepped
+use Rattle.front_conn_costs.specs.front_conn.steps.Answering.{AnsweringState, EndsAt, IsAnsweredBy, IsEndAfter, IsGetEnded, IsHeadTaken, IsKeptBehind, IsKeptBehindGet, IsUnitBegun, Outside, WorksOn, get_served, served}
+use Rattle.front_conn_costs.specs.front_conn.steps.States.{ConnectionState, IsConnOf, IsOneWork, IsWaitedAt, IsWaitedFor}
+use Rattle.front_conn_costs.specs.front_conn.steps.Steps.{EndsAtRest, EndsByRest, GoesAhead, IsStepped, StepsFrom, TakesHead, TakesUnit, answering_of}
 use Rattle.replay.specs.Places.{leg_count, most_at_once}
 use Rattle.replay.proofs.AskedLemmas.{AsksFew, IsFewKnown, IsOfFew, asked-few, named-few, stored-few}
 use Rattle.replay.proofs.LegCounts.{database-few}

@@ -7,35 +7,35 @@ use Rattle.z_types.specs.declared.marks.Mark.{Mark}
 use Rattle.z_types.specs.declared.marks.Mark.TheVariants as mark
 use Rattle.z_types.specs.declared.requests.Request.{Request}
 use Rattle.route_config.specs.declared.route.Route.{Route}
-use Rattle.gateway_rules.specs.Asking.{Asking, at_once, works}
-use Rattle.gateway_rules.specs.Course.{Meeting, bad, beyond, closing, due, met}
-use Rattle.front_session.specs.Sessions.{progress_of}
-use Rattle.front_z.specs.Units.{IsBegun, IsDueBegun, IsMetBegun, Served}
-use Rattle.front_z.specs.declared.units.Begun.{Begun}
-use Rattle.front_z.specs.declared.units.Begun.TheVariants as begun
-use Rattle.leg.specs.declared.answers.Turned.{Turned}
-use Rattle.leg.specs.declared.answers.Turned.TheVariants as turned
+use Rattle.front_conn_costs.specs.gateway_rules.Asking.{Asking, at_once, works}
+use Rattle.front_conn_costs.specs.gateway_rules.Course.{Meeting, bad, beyond, closing, due, met}
+use Rattle.front_conn_costs.specs.front_session.Sessions.{progress_of}
+use Rattle.front_conn_costs.specs.front_z.Units.{IsBegun, IsDueBegun, IsMetBegun, Served}
+use Rattle.front_conn_costs.specs.front_z.declared.units.Begun.{Begun}
+use Rattle.front_conn_costs.specs.front_z.declared.units.Begun.TheVariants as begun
+use Rattle.package_quiet.specs.leg.declared.answers.Turned.{Turned}
+use Rattle.package_quiet.specs.leg.declared.answers.Turned.TheVariants as turned
 use Rattle.z_types.specs.declared.memory.Memory.{Memory as NoMemory}
-use Rattle.package.specs.steps.Ends.{cause_in}
-use Rattle.package.specs.steps.Packages.{PackageView}
+use Rattle.package_quiet.specs.package.steps.Ends.{cause_in}
+use Rattle.package_quiet.specs.package.steps.Packages.{PackageView}
 use Rattle.route_config.specs.declared.route.Database.{Database}
 use Rattle.sru_request.specs.declared.faults.HeadFault.{HeadFault}
 use Rattle.sru_request.specs.declared.faults.HeadFault.TheVariants as head
 use Rattle.sru_request.specs.declared.head.Get.{Get}
-use Rattle.sru_rules.specs.Course.{database_of}
-use Rattle.sru_rules.specs.Run as sru_run
-use Rattle.front_sru.specs.Gets as sru
-use Rattle.front_sru.specs.declared.begun.Begun as sru_begun
-use Rattle.front_sru.specs.declared.begun.Begun.TheVariants as get
-use Rattle.front_sru.specs.declared.state.SruStage.{SruStage}
-use Rattle.front_sru.specs.declared.state.SruStage.TheVariants as stage
-use Rattle.front_http.specs.Heads.{IsFaultBegun, IsHeadBegun}
-use Rattle.front_conn.specs.declared.stepped.Stepped.{Stepped}
-use Rattle.front_conn.specs.declared.stepped.Stepped.TheVariants.{Idle, NotYet, Went, Memory}
-use Rattle.front_conn.specs.steps.Answering.{AnsweringState, EndsAt, IsGetEndedIf, IsKeptBehind, IsKeptBehindGet, IsKeptBehindHead, WorksOn}
-use Rattle.front_conn.specs.steps.Feeding.{fed_piece}
-use Rattle.front_conn.specs.steps.States.{ConnectionState}
-use Rattle.front_conn.specs.steps.Steps.{EndsByRest, GoesAhead, TakesHead, TakesUnit, answering_of}
+use Rattle.front_conn_costs.specs.sru_rules.Course.{database_of}
+use Rattle.front_conn_costs.specs.sru_rules.Run as sru_run
+use Rattle.front_conn_costs.specs.front_sru.Gets as sru
+use Rattle.front_conn_costs.specs.front_sru.declared.begun.Begun as sru_begun
+use Rattle.front_conn_costs.specs.front_sru.declared.begun.Begun.TheVariants as get
+use Rattle.front_conn_costs.specs.front_sru.declared.state.SruStage.{SruStage}
+use Rattle.front_conn_costs.specs.front_sru.declared.state.SruStage.TheVariants as stage
+use Rattle.front_conn_costs.specs.front_http.Heads.{IsFaultBegun, IsHeadBegun}
+use Rattle.front_conn_costs.specs.front_conn.declared.stepped.Stepped.{Stepped}
+use Rattle.front_conn_costs.specs.front_conn.declared.stepped.Stepped.TheVariants.{Idle, NotYet, Went, Memory}
+use Rattle.front_conn_costs.specs.front_conn.steps.Answering.{AnsweringState, EndsAt, IsGetEndedIf, IsKeptBehind, IsKeptBehindGet, IsKeptBehindHead, WorksOn}
+use Rattle.front_conn_costs.specs.front_conn.steps.Feeding.{fed_piece}
+use Rattle.front_conn_costs.specs.front_conn.steps.States.{ConnectionState}
+use Rattle.front_conn_costs.specs.front_conn.steps.Steps.{EndsByRest, GoesAhead, TakesHead, TakesUnit, answering_of}
 use Rattle.replay.specs.Clients.{ClientState, client_at}
 use Rattle.replay.specs.Trace.{AreReported, IsReportedBehind}
 use Rattle.replay.specs.declared.reports.ClientReport.{ClientReport}

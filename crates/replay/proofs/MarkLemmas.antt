@@ -9,26 +9,26 @@ use Rattle.z_types.specs.declared.sitting.Sitting as sitting
 use Rattle.z_types.specs.declared.world.World as world
 use Rattle.route_config.specs.declared.route.PoolNumbers.{PoolNumbers}
 use Rattle.route_config.specs.declared.route.Route.{Route}
-use Rattle.leg.specs.Kept.{StandsAt}
-use Rattle.leg.specs.LegView.{LegView}
-use Rattle.leg.specs.Phases.{answered}
-use Rattle.leg.specs.Right.{IsCaused}
-use Rattle.leg.specs.Terms.{Terms, terms_of}
-use Rattle.leg.specs.Turns.{IsLegOf}
-use Rattle.leg.specs.declared.accounts.Account.{Account}
-use Rattle.leg.specs.declared.answers.LegAnswer.{LegAnswer}
-use Rattle.leg.specs.declared.answers.LegAnswer.TheVariants as answer
-use Rattle.leg.specs.declared.phases.Phase.{Phase}
-use Rattle.leg.specs.declared.phases.Phase.TheVariants.{Begin, Dialling, Dialled, Ready, Searching, Presenting, Fetching, Scanning, Returning, Losing, Redialling, Spoiled, Done, Ended}
-use Rattle.leg.specs.declared.tasks.Task.{Task}
-use Rattle.package_rules.specs.Said.{cause_of}
-use Rattle.package_rules.specs.declared.answered.Answered.{Answered}
-use Rattle.package.specs.steps.Ends.{cause_in}
-use Rattle.package.specs.steps.Packages.{IsPackageOf, PackageView, answer_of, answers_of}
-use Rattle.front_conn.specs.declared.stepped.Stepped.{Stepped}
-use Rattle.front_conn.specs.steps.Answering.{Outside}
-use Rattle.front_conn.specs.steps.States.{ConnectionState}
-use Rattle.front_conn.specs.steps.Steps.{StepsFrom, answering_of}
+use Rattle.package_quiet.specs.leg.Kept.{StandsAt}
+use Rattle.package_quiet.specs.leg.LegView.{LegView}
+use Rattle.package_quiet.specs.leg.Phases.{answered}
+use Rattle.package_quiet.specs.leg.Right.{IsCaused}
+use Rattle.package_quiet.specs.leg.Terms.{Terms, terms_of}
+use Rattle.package_quiet.specs.leg.Turns.{IsLegOf}
+use Rattle.package_quiet.specs.leg.declared.accounts.Account.{Account}
+use Rattle.package_quiet.specs.leg.declared.answers.LegAnswer.{LegAnswer}
+use Rattle.package_quiet.specs.leg.declared.answers.LegAnswer.TheVariants as answer
+use Rattle.package_quiet.specs.leg.declared.phases.Phase.{Phase}
+use Rattle.package_quiet.specs.leg.declared.phases.Phase.TheVariants.{Begin, Dialling, Dialled, Ready, Searching, Presenting, Fetching, Scanning, Returning, Losing, Redialling, Spoiled, Done, Ended}
+use Rattle.package_quiet.specs.leg.declared.tasks.Task.{Task}
+use Rattle.package_quiet.specs.package_rules.Said.{cause_of}
+use Rattle.package_quiet.specs.package_rules.declared.answered.Answered.{Answered}
+use Rattle.package_quiet.specs.package.steps.Ends.{cause_in}
+use Rattle.package_quiet.specs.package.steps.Packages.{IsPackageOf, PackageView, answer_of, answers_of}
+use Rattle.front_conn_costs.specs.front_conn.declared.stepped.Stepped.{Stepped}
+use Rattle.front_conn_costs.specs.front_conn.steps.Answering.{Outside}
+use Rattle.front_conn_costs.specs.front_conn.steps.States.{ConnectionState}
+use Rattle.front_conn_costs.specs.front_conn.steps.Steps.{StepsFrom, answering_of}
 use Rattle.script.specs.declared.event.Event.{Event}
 use Rattle.replay.specs.Marks.{AreMarksOf, IsMarkOf}
 use Rattle.replay.specs.Trace.{IsRunOf}

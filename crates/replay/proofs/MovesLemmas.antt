@@ -19,18 +19,18 @@ use Rattle.route_config.specs.declared.route.Route.{Route}
 use Rattle.front_conn_costs.specs.steps.Growth.{last64}
 use Rattle.pool_sets.specs.Counts.{DoorCounts}
 use Rattle.pool_sets.specs.Plain.{Pool}
-use Rattle.leg.specs.Deeds.{BackendView}
-use Rattle.leg.specs.LegView.{LegView}
-use Rattle.leg.specs.Terms.{class_of, terms_of}
-use Rattle.leg.specs.Turns.{DoorView}
-use Rattle.leg.specs.declared.answers.Turned.{Turned}
-use Rattle.leg.specs.declared.answers.Turned.TheVariants as turned
-use Rattle.package_rules.specs.Asked.{Asked}
-use Rattle.package.specs.steps.Packages.{PackageView, begun}
-use Rattle.package.specs.steps.Turns.{HadTurn, IsPackageTurn}
-use Rattle.front_conn.specs.steps.Answering.{Outside}
-use Rattle.front_conn.specs.steps.Feeding.{fed_piece}
-use Rattle.front_conn.specs.steps.States.{ConnectionState}
+use Rattle.package_quiet.specs.leg.Deeds.{BackendView}
+use Rattle.package_quiet.specs.leg.LegView.{LegView}
+use Rattle.package_quiet.specs.leg.Terms.{class_of, terms_of}
+use Rattle.package_quiet.specs.leg.Turns.{DoorView}
+use Rattle.package_quiet.specs.leg.declared.answers.Turned.{Turned}
+use Rattle.package_quiet.specs.leg.declared.answers.Turned.TheVariants as turned
+use Rattle.package_quiet.specs.package_rules.Asked.{Asked}
+use Rattle.package_quiet.specs.package.steps.Packages.{PackageView, begun}
+use Rattle.package_quiet.specs.package.steps.Turns.{HadTurn, IsPackageTurn}
+use Rattle.front_conn_costs.specs.front_conn.steps.Answering.{Outside}
+use Rattle.front_conn_costs.specs.front_conn.steps.Feeding.{fed_piece}
+use Rattle.front_conn_costs.specs.front_conn.steps.States.{ConnectionState}
 use Rattle.script.specs.declared.event.Event.{Event}
 use Rattle.script.specs.declared.event.Event.TheVariants.{Feed, End, Step, Run, Tick, Gone, Cut, Slow}
 use Rattle.replay.specs.Trace.{BefallsIf, Happens, IsBefallen, IsRunOf, test_number}

@@ -15,27 +15,27 @@ use Rattle.pool_sets.specs.Plain.{Pool, take_of}
 use Rattle.pool_sets.specs.declared.doors.Seat.{Seat}
 use Rattle.pool_sets.specs.declared.doors.Taken.{Taken}
 use Rattle.pool_sets.specs.declared.doors.Taken.TheVariants as taken
-use Rattle.leg.specs.Deeds.{BackendView, Deed, door_counts, took, opened, began, heard, put_back, gave_up, redialled, no_memory, nothing}
-use Rattle.leg.specs.LegView.{LegView}
-use Rattle.leg.specs.Phases.{answered, is_done, seat_of}
-use Rattle.leg.specs.Tasks.{want_of}
-use Rattle.leg.specs.Terms.{Terms, terms_of}
-use Rattle.leg.specs.Turns.{DoorView, IsDue, IsTurn, PoolMoves}
-use Rattle.leg.specs.declared.accounts.Account.{Account}
-use Rattle.leg.specs.declared.answers.Turned.{Turned}
-use Rattle.leg.specs.declared.phases.Phase.{Phase}
-use Rattle.leg.specs.declared.phases.Phase.TheVariants.{Begin, Dialling, Dialled, Ready, Searching, Presenting, Fetching, Scanning, Returning, Losing, Redialling, Spoiled, Done, Ended}
-use Rattle.leg.specs.declared.tasks.Task.{Task}
-use Rattle.package.specs.declared.turning.Round.{Round}
-use Rattle.package.specs.steps.Packages.{AreDone, AsksSo, HasFitting, IsPackageOf, IsPlanned, PackageView, answers_of, asked_of}
-use Rattle.package.specs.steps.Turns.{HadTurn, HasTurned, HaveTurned, IsPackageTurn, TakesTurn, no_round}
-use Rattle.package_rules.specs.Asked.{Asked, first_asked}
-use Rattle.package_rules.specs.Planned.{legs_named, then_asked_by}
+use Rattle.package_quiet.specs.leg.Deeds.{BackendView, Deed, door_counts, took, opened, began, heard, put_back, gave_up, redialled, no_memory, nothing}
+use Rattle.package_quiet.specs.leg.LegView.{LegView}
+use Rattle.package_quiet.specs.leg.Phases.{answered, is_done, seat_of}
+use Rattle.package_quiet.specs.leg.Tasks.{want_of}
+use Rattle.package_quiet.specs.leg.Terms.{Terms, terms_of}
+use Rattle.package_quiet.specs.leg.Turns.{DoorView, IsDue, IsTurn, PoolMoves}
+use Rattle.package_quiet.specs.leg.declared.accounts.Account.{Account}
+use Rattle.package_quiet.specs.leg.declared.answers.Turned.{Turned}
+use Rattle.package_quiet.specs.leg.declared.phases.Phase.{Phase}
+use Rattle.package_quiet.specs.leg.declared.phases.Phase.TheVariants.{Begin, Dialling, Dialled, Ready, Searching, Presenting, Fetching, Scanning, Returning, Losing, Redialling, Spoiled, Done, Ended}
+use Rattle.package_quiet.specs.leg.declared.tasks.Task.{Task}
+use Rattle.package_quiet.specs.package.declared.turning.Round.{Round}
+use Rattle.package_quiet.specs.package.steps.Packages.{AreDone, AsksSo, HasFitting, IsPackageOf, IsPlanned, PackageView, answers_of, asked_of}
+use Rattle.package_quiet.specs.package.steps.Turns.{HadTurn, HasTurned, HaveTurned, IsPackageTurn, TakesTurn, no_round}
+use Rattle.package_quiet.specs.package_rules.Asked.{Asked, first_asked}
+use Rattle.package_quiet.specs.package_rules.Planned.{legs_named, then_asked_by}
 use Rattle.std.proofs.lemmas.List.{length-map}
-use Rattle.front_conn.specs.declared.stepped.Stepped.{Stepped}
-use Rattle.front_conn.specs.steps.Answering.{Outside, legs_in}
-use Rattle.front_conn.specs.steps.States.{ConnectionState, IsConnOf}
-use Rattle.front_conn.specs.steps.Steps.{IsStepped, StepsFrom}
+use Rattle.front_conn_costs.specs.front_conn.declared.stepped.Stepped.{Stepped}
+use Rattle.front_conn_costs.specs.front_conn.steps.Answering.{Outside, legs_in}
+use Rattle.front_conn_costs.specs.front_conn.steps.States.{ConnectionState, IsConnOf}
+use Rattle.front_conn_costs.specs.front_conn.steps.Steps.{IsStepped, StepsFrom}
 use Rattle.z_types.specs.declared.marks.End.{End}
 use Rattle.front_conn_seats.specs.steps.Seats.{AreHeldOn}
 use Rattle.std.specs.Prelude.{IfSome}

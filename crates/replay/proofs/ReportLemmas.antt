@@ -5,11 +5,11 @@ use Rattle.std.proofs.lemmas.List.{map-append}
 use Rattle.z_types.specs.declared.sitting.Sitting as sitting
 use Rattle.z_types.specs.declared.world.World as world
 use Rattle.route_config.specs.declared.route.Route.{Route}
-use Rattle.sru_rules.specs.Answers.{Answers}
-use Rattle.gateway_rules.specs.Fair.{IsFair}
+use Rattle.front_conn_costs.specs.sru_rules.Answers.{Answers}
+use Rattle.front_conn_costs.specs.gateway_rules.Fair.{IsFair}
 use Rattle.script.specs.declared.event.Event.{Event}
 use Rattle.script.specs.Events.{fed, named, named_upto}
-use Rattle.front_conn.specs.steps.Feeding.{EndsAnswered}
+use Rattle.front_conn_costs.specs.front_conn.steps.Feeding.{EndsAnswered}
 use Rattle.replay.specs.declared.reports.ClassReport.{ClassReport}
 use Rattle.replay.specs.declared.reports.ClientReport.{ClientReport}
 use Rattle.replay.specs.declared.reports.Report.{Report}

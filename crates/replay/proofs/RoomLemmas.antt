@@ -17,8 +17,8 @@ use Rattle.pool_sets.specs.declared.doors.Taken.TheVariants as taken
 use Rattle.pool_sets.specs.declared.pooled.Parts.{Parts}
 use Rattle.pool_sets.specs.declared.sessions.Stand.{Stand}
 use Rattle.pool_sets.specs.declared.sessions.Stand.TheVariants.{Idle, Out}
-use Rattle.leg.specs.LegView.{LegView}
-use Rattle.leg.specs.Phases.{seat_of}
+use Rattle.package_quiet.specs.leg.LegView.{LegView}
+use Rattle.package_quiet.specs.leg.Phases.{seat_of}
 use Rattle.front_conn_seats.specs.steps.Seats.{AreOut, held_at, held_in, no_seat}
 
 -- ---- a pool that is full

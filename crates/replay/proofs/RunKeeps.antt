@@ -6,13 +6,13 @@ use Rattle.std.proofs.lemmas.Bool.{cases_eq, cases_lt}
 use Rattle.z_types.specs.declared.sitting.Sitting as sitting
 use Rattle.z_types.specs.declared.world.World as world
 use Rattle.route_config.specs.declared.route.Route.{Route}
-use Rattle.front_session.specs.Sessions.{new_session}
-use Rattle.front_conn.specs.declared.stepped.Stepped.{Stepped}
-use Rattle.front_conn.specs.declared.stepped.Stepped.TheVariants.{Memory}
-use Rattle.front_conn.specs.steps.Answering.{Outside}
-use Rattle.front_conn.specs.steps.Feeding.{with_end, with_piece, without_out}
-use Rattle.front_conn.specs.steps.States.{ConnectionState, nothing_yet}
-use Rattle.front_conn.specs.steps.Steps.{IsStepped}
+use Rattle.front_conn_costs.specs.front_session.Sessions.{new_session}
+use Rattle.front_conn_costs.specs.front_conn.declared.stepped.Stepped.{Stepped}
+use Rattle.front_conn_costs.specs.front_conn.declared.stepped.Stepped.TheVariants.{Memory}
+use Rattle.front_conn_costs.specs.front_conn.steps.Answering.{Outside}
+use Rattle.front_conn_costs.specs.front_conn.steps.Feeding.{with_end, with_piece, without_out}
+use Rattle.front_conn_costs.specs.front_conn.steps.States.{ConnectionState, nothing_yet}
+use Rattle.front_conn_costs.specs.front_conn.steps.Steps.{IsStepped}
 use Rattle.script.specs.declared.event.Event.{Event}
 use Rattle.script.specs.declared.event.Event.TheVariants.{Feed, End, Step, Run, Tick, Gone, Cut, Slow}
 use Rattle.script.specs.Events.{client_of, named, seconds_of}

@@ -17,20 +17,20 @@ use Rattle.gw_outside.specs.declared.backends.Opening.TheVariants as opening
 use Rattle.pool_sets.specs.Plain.{address_at}
 use Rattle.pool_sets.specs.Table.{after_forget}
 use Rattle.pool_sets.specs.declared.doors.Taken.TheVariants as taken
-use Rattle.leg.specs.declared.answers.LegAnswer.TheVariants as answer
-use Rattle.leg.specs.declared.answers.Turned.{Turned}
-use Rattle.leg.specs.declared.answers.Turned.TheVariants as turned
-use Rattle.leg.specs.declared.phases.Held.{Held}
-use Rattle.leg.specs.declared.phases.Phase.{Phase}
-use Rattle.leg.specs.declared.phases.Phase.TheVariants.{Begin, Dialling, Dialled, Ready, Searching, Presenting, Fetching, Scanning, Returning, Losing, Redialling, Spoiled, Done, Ended}
-use Rattle.leg.specs.declared.tasks.Task.{Task}
-use Rattle.leg.specs.declared.tasks.Task.TheVariants.{Hits, Records, Scan}
-use Rattle.leg.specs.Deeds.{Deed, took, opened, began, heard, put_back, gave_up, redialled, no_memory, nothing}
-use Rattle.leg.specs.Phases.{hold, replied, with_session, with_sets}
-use Rattle.leg.specs.Rules.{Ends, Lack, after_fault, after_first, always, gone_again, left_by, never, next, next_ask, perhaps, recorded, unless_silent, with_items, with_set}
-use Rattle.leg.specs.Tasks.{want_of}
-use Rattle.leg.specs.Terms.{Terms}
-use Rattle.leg.specs.Turns.{IsAskedIf, IsDue}
+use Rattle.package_quiet.specs.leg.declared.answers.LegAnswer.TheVariants as answer
+use Rattle.package_quiet.specs.leg.declared.answers.Turned.{Turned}
+use Rattle.package_quiet.specs.leg.declared.answers.Turned.TheVariants as turned
+use Rattle.package_quiet.specs.leg.declared.phases.Held.{Held}
+use Rattle.package_quiet.specs.leg.declared.phases.Phase.{Phase}
+use Rattle.package_quiet.specs.leg.declared.phases.Phase.TheVariants.{Begin, Dialling, Dialled, Ready, Searching, Presenting, Fetching, Scanning, Returning, Losing, Redialling, Spoiled, Done, Ended}
+use Rattle.package_quiet.specs.leg.declared.tasks.Task.{Task}
+use Rattle.package_quiet.specs.leg.declared.tasks.Task.TheVariants.{Hits, Records, Scan}
+use Rattle.package_quiet.specs.leg.Deeds.{Deed, took, opened, began, heard, put_back, gave_up, redialled, no_memory, nothing}
+use Rattle.package_quiet.specs.leg.Phases.{hold, replied, with_session, with_sets}
+use Rattle.package_quiet.specs.leg.Rules.{Ends, Lack, after_fault, after_first, always, gone_again, left_by, never, next, next_ask, perhaps, recorded, unless_silent, with_items, with_set}
+use Rattle.package_quiet.specs.leg.Tasks.{want_of}
+use Rattle.package_quiet.specs.leg.Terms.{Terms}
+use Rattle.package_quiet.specs.leg.Turns.{IsAskedIf, IsDue}
 
 -- a place of a list has one of its addresses
 address-in : (at : List Address) (place : ℕ) → place < length at → Contains at (address_at at place)

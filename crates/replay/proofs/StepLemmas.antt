@@ -5,16 +5,16 @@ use Rattle.z_types.specs.declared.memory.Memory.{Memory as NoMemory}
 use Rattle.z_types.specs.declared.sitting.Sitting as sitting
 use Rattle.z_types.specs.declared.world.World as world
 use Rattle.route_config.specs.declared.route.Route.{Route}
-use Rattle.front_session.specs.Sessions.{new_session}
-use Rattle.front_conn.specs.declared.stepped.Stepped.{Stepped}
-use Rattle.front_conn.specs.declared.stepped.Stepped.TheVariants.{Idle, NotYet, Went, Memory}
-use Rattle.front_conn.specs.steps.Answering.{AnsweringState, IsEndAfter, Outside, WorksOn}
-use Rattle.front_conn.specs.steps.Feeding.{fed_piece, without_out}
-use Rattle.front_conn.specs.steps.States.{ConnectionState, IsConnOf, IsStateOf, nothing_yet}
-use Rattle.front_conn.specs.steps.Steps.{StepsFrom, UnlessMemory}
-use Rattle.leg.specs.declared.answers.Turned.{Turned}
-use Rattle.leg.specs.declared.answers.Turned.TheVariants as turned
-use Rattle.package.specs.steps.Packages.{PackageView}
+use Rattle.front_conn_costs.specs.front_session.Sessions.{new_session}
+use Rattle.front_conn_costs.specs.front_conn.declared.stepped.Stepped.{Stepped}
+use Rattle.front_conn_costs.specs.front_conn.declared.stepped.Stepped.TheVariants.{Idle, NotYet, Went, Memory}
+use Rattle.front_conn_costs.specs.front_conn.steps.Answering.{AnsweringState, IsEndAfter, Outside, WorksOn}
+use Rattle.front_conn_costs.specs.front_conn.steps.Feeding.{fed_piece, without_out}
+use Rattle.front_conn_costs.specs.front_conn.steps.States.{ConnectionState, IsConnOf, IsStateOf, nothing_yet}
+use Rattle.front_conn_costs.specs.front_conn.steps.Steps.{StepsFrom, UnlessMemory}
+use Rattle.package_quiet.specs.leg.declared.answers.Turned.{Turned}
+use Rattle.package_quiet.specs.leg.declared.answers.Turned.TheVariants as turned
+use Rattle.package_quiet.specs.package.steps.Packages.{PackageView}
 use Rattle.script.specs.declared.event.Event.{Event}
 use Rattle.script.specs.declared.event.Event.TheVariants.{Feed, End as Ends, Step, Run, Tick, Gone, Cut, Slow}
 use Rattle.replay.specs.Trace.{AreSteps, HasRun, IsClientStep, PlaysFor, Point, with_no_more, with_octets}

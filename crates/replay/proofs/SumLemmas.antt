@@ -8,9 +8,9 @@ use Rattle.z_types.specs.declared.sitting.Sitting as sitting
 use Rattle.z_types.specs.declared.world.World as world
 use Rattle.route_config.specs.Sound.{IsSound}
 use Rattle.route_config.specs.declared.route.Route.{Route}
-use Rattle.front_conn.specs.steps.Answering.{Outside}
-use Rattle.front_conn.specs.steps.Feeding.{with_end}
-use Rattle.front_conn.specs.steps.States.{ConnectionState, IsConnOf}
+use Rattle.front_conn_costs.specs.front_conn.steps.Answering.{Outside}
+use Rattle.front_conn_costs.specs.front_conn.steps.Feeding.{with_end}
+use Rattle.front_conn_costs.specs.front_conn.steps.States.{ConnectionState, IsConnOf}
 use Rattle.front_conn_costs.specs.steps.Conns.{PaysFor, counted_on, dues_on, met_on, outside_counts, outside_meets}
 use Rattle.front_conn_costs.specs.steps.Growth.{RisesAsMuch, RisesEnough}
 use Rattle.front_conn_costs.specs.steps.Laws.{IsCosted}
@@ -19,7 +19,7 @@ use Rattle.front_conn_costs.specs.steps.Numbers.{Caused, Number, in_counts, met_
 use Rattle.front_conn_costs.proofs.GrowthLemmas.{as-both, as-place, enough-both, enough-place}
 use Rattle.gw_outside.specs.Counts.{Counts}
 use Rattle.pool_sets.specs.Counts.{DoorCounts}
-use Rattle.leg.specs.Deeds.{BackendView}
+use Rattle.package_quiet.specs.leg.Deeds.{BackendView}
 use Rattle.script.specs.declared.event.Event.{Event}
 use Rattle.script.specs.declared.event.Event.TheVariants.{Feed, End, Step, Run, Tick, Gone, Cut, Slow}
 use Rattle.script.specs.Events.{IsEvent, client_of}

@@ -8,11 +8,11 @@ use Rattle.z_types.specs.Bounds.{within64}
 use Rattle.route_config.specs.declared.route.Class.{Class}
 use Rattle.route_config.specs.declared.route.PoolNumbers.{PoolNumbers}
 use Rattle.route_config.specs.declared.route.Route.{Route}
-use Rattle.front_conn.specs.declared.totals.Total.{Total}
-use Rattle.package.specs.steps.Packages.{PackageView}
-use Rattle.front_conn.specs.steps.Answering.{Outside, legs_in}
+use Rattle.front_conn_costs.specs.front_conn.declared.totals.Total.{Total}
+use Rattle.package_quiet.specs.package.steps.Packages.{PackageView}
+use Rattle.front_conn_costs.specs.front_conn.steps.Answering.{Outside, legs_in}
 use Rattle.front_conn_costs.specs.steps.Ledgers.{dues_in}
-use Rattle.front_conn.specs.steps.Totals.{totals_for}
+use Rattle.front_conn_costs.specs.front_conn.steps.Totals.{totals_for}
 use Rattle.front_conn_costs.specs.steps.Conns.{AreTotalsOf, in_total, marks_of, met_on, outside_counts, outside_meets}
 use Rattle.front_conn_costs.specs.steps.Growth.{RisesAsMuch, RisesEnough}
 use Rattle.front_conn_costs.specs.steps.Laws.{MarksAreMet, SumsAtRest}

@@ -11,19 +11,19 @@ use Rattle.std.proofs.lemmas.Option.{unwrap_or-slice_get}
 use Rattle.z_types.specs.declared.marks.End.{End as Ending}
 use Rattle.z_types.specs.declared.sitting.Sitting as sitting
 use Rattle.z_types.specs.declared.world.World as world
-use Rattle.gateway_rules.proofs.Runs.{all-append}
+use Rattle.front_conn_costs.proofs.gateway_rules.Runs.{all-append}
 use Rattle.route_config.specs.Sound.{IsSound}
 use Rattle.route_config.specs.declared.route.Route.{Route}
 use Rattle.pool_sets.specs.Counts.{DoorCounts}
 use Rattle.pool_sets.specs.Plain.{Ascends, Pool, is_seat, out_of}
 use Rattle.pool_sets.specs.Sessions.{Session}
 use Rattle.pool_sets.specs.declared.doors.Seat.{Seat}
-use Rattle.leg.specs.LegView.{LegView}
-use Rattle.leg.specs.Turns.{DoorView}
-use Rattle.package.specs.steps.Packages.{IsPackageOf, PackageView}
-use Rattle.front_conn.specs.steps.Answering.{Outside, legs_in}
-use Rattle.front_conn.specs.steps.Feeding.{fed_piece}
-use Rattle.front_conn.specs.steps.States.{ConnectionState, IsConnOf}
+use Rattle.package_quiet.specs.leg.LegView.{LegView}
+use Rattle.package_quiet.specs.leg.Turns.{DoorView}
+use Rattle.package_quiet.specs.package.steps.Packages.{IsPackageOf, PackageView}
+use Rattle.front_conn_costs.specs.front_conn.steps.Answering.{Outside, legs_in}
+use Rattle.front_conn_costs.specs.front_conn.steps.Feeding.{fed_piece}
+use Rattle.front_conn_costs.specs.front_conn.steps.States.{ConnectionState, IsConnOf}
 use Rattle.front_conn_costs.specs.steps.Conns.{RestsIfEnded}
 use Rattle.front_conn_costs.specs.steps.Laws.{StepsCost}
 use Rattle.front_conn_seats.specs.steps.Laws.{StepsKeepSeats, TurnsKeepSeats}

@@ -11,14 +11,14 @@ use Rattle.gw_outside.specs.declared.backends.Heard.{Heard}
 use Rattle.gw_outside.specs.declared.backends.Heard.TheVariants as look
 use Rattle.gw_outside.specs.declared.backends.Opening.{Opening}
 use Rattle.gw_outside.specs.declared.backends.Opening.TheVariants as opening
-use Rattle.leg.specs.Deeds.{Deed, BackendView, CountsMove, HappensThen, took, opened, began, heard, put_back, gave_up, redialled, no_memory, nothing}
-use Rattle.leg.specs.Rules.{answer_of, lack_of, left_by, next}
-use Rattle.leg.specs.Terms.{Terms}
-use Rattle.leg.specs.Turns.{DoorView, IsTurn}
-use Rattle.leg.specs.declared.accounts.Account.{Account}
-use Rattle.leg.specs.declared.answers.Turned.{Turned}
-use Rattle.leg.specs.declared.phases.Phase.{Phase}
-use Rattle.leg.specs.declared.tasks.Task.{Task}
+use Rattle.package_quiet.specs.leg.Deeds.{Deed, BackendView, CountsMove, HappensThen, took, opened, began, heard, put_back, gave_up, redialled, no_memory, nothing}
+use Rattle.package_quiet.specs.leg.Rules.{answer_of, lack_of, left_by, next}
+use Rattle.package_quiet.specs.leg.Terms.{Terms}
+use Rattle.package_quiet.specs.leg.Turns.{DoorView, IsTurn}
+use Rattle.package_quiet.specs.leg.declared.accounts.Account.{Account}
+use Rattle.package_quiet.specs.leg.declared.answers.Turned.{Turned}
+use Rattle.package_quiet.specs.leg.declared.phases.Phase.{Phase}
+use Rattle.package_quiet.specs.leg.declared.tasks.Task.{Task}
 use Rattle.replay.proofs.SitsLemmas.{LooksAt, SitsAt, ends-sits, goes-sits, left-by-sits}
 
 -- ---- the reference

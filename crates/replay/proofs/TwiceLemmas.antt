@@ -3,8 +3,8 @@ use Rattle.std.proofs.Common.{◌≡◌, ◌<◌, ℕ, zero, suc, List, [], ◌�
 use Rattle.std.specs.List.{AllByRecursion}
 use Rattle.std.specs.Prelude.{slice_index_or}
 use Rattle.z_types.specs.declared.world.World as world
-use Rattle.sru_rules.specs.Answers.{Answers}
-use Rattle.sru_rules.specs.Laws.{HasOneAnswer}
+use Rattle.front_conn_costs.specs.sru_rules.Answers.{Answers}
+use Rattle.front_conn_costs.specs.sru_rules.Laws.{HasOneAnswer}
 use Rattle.script.specs.Events.{fed}
 use Rattle.replay.specs.Report.{IsAnswered}
 use Rattle.replay.specs.Twice.{IsReadTwice}

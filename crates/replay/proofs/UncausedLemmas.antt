@@ -4,7 +4,7 @@ use Rattle.std.proofs.Math.Nat.{le-mul_of_pos_right}
 use Rattle.std.proofs.lemmas.List.Sums.{sum_by-cons}
 use Rattle.z_types.specs.declared.marks.Mark.{Mark}
 use Rattle.z_types.specs.declared.marks.Mark.TheVariants as mark
-use Rattle.gateway_rules.specs.OneAnswer.{AreMarksPlain}
+use Rattle.front_conn_costs.specs.gateway_rules.OneAnswer.{AreMarksPlain}
 use Rattle.route_config.specs.Sound.{ArePoolNumbers}
 use Rattle.route_config.specs.declared.route.PoolNumbers.{PoolNumbers}
 use Rattle.front_conn_costs.specs.steps.Conns.{marks_of, outside_meets}

@@ -9,7 +9,7 @@ use Rattle.z_types.specs.declared.marks.Mark.{Mark}
 use Rattle.z_types.specs.declared.marks.Mark.TheVariants as mark
 use Rattle.z_types.specs.declared.sitting.Sitting as sitting
 use Rattle.z_types.specs.declared.world.World as world
-use Rattle.gateway_rules.proofs.Runs.{all-append}
+use Rattle.front_conn_costs.proofs.gateway_rules.Runs.{all-append}
 use Rattle.gw_outside.specs.Counts.{Counts, no_counts}
 use Rattle.pool_sets.specs.Counts.{DoorCounts}
 use Rattle.pool_sets.specs.Plain.{Pool}
@@ -18,14 +18,14 @@ use Rattle.route_config.specs.declared.route.PoolNumbers.{PoolNumbers}
 use Rattle.route_config.specs.declared.route.Route.{Route}
 use Rattle.z_client.specs.Counts.{counts_over}
 use Rattle.z_client.specs.declared.own.Own.{Own}
-use Rattle.leg.specs.Deeds.{BackendView}
-use Rattle.leg.specs.LegView.{LegView}
-use Rattle.leg.specs.Turns.{DoorView}
-use Rattle.leg.specs.declared.answers.Turned.{Turned}
-use Rattle.leg.specs.declared.answers.Turned.TheVariants as turned
-use Rattle.package.specs.steps.Packages.{PackageView}
-use Rattle.package.specs.steps.Turns.{IsPackageTurn}
-use Rattle.front_conn.specs.steps.Answering.{Outside}
+use Rattle.package_quiet.specs.leg.Deeds.{BackendView}
+use Rattle.package_quiet.specs.leg.LegView.{LegView}
+use Rattle.package_quiet.specs.leg.Turns.{DoorView}
+use Rattle.package_quiet.specs.leg.declared.answers.Turned.{Turned}
+use Rattle.package_quiet.specs.leg.declared.answers.Turned.TheVariants as turned
+use Rattle.package_quiet.specs.package.steps.Packages.{PackageView}
+use Rattle.package_quiet.specs.package.steps.Turns.{IsPackageTurn}
+use Rattle.front_conn_costs.specs.front_conn.steps.Answering.{Outside}
 use Rattle.front_conn_costs.specs.steps.Conns.{marks_of}
 use Rattle.front_conn_costs.specs.steps.Growth.{RisesAsMuch, last64}
 use Rattle.front_conn_costs.specs.steps.Numbers.{Caused, dials, faults, full, gone, gones, link, silent, weight}

@@ -6,7 +6,7 @@ use Rattle.route_config.specs.declared.route.PoolNumbers.{PoolNumbers}
 use Rattle.route_config.specs.declared.route.Route.{Route}
 use Rattle.z_client.specs.Counts.{counts_over}
 use Rattle.z_client.specs.declared.own.Own.{Own}
-use Rattle.front_conn.specs.steps.Answering.{Outside}
+use Rattle.front_conn_costs.specs.front_conn.steps.Answering.{Outside}
 use Rattle.front_conn_costs.specs.steps.Growth.{RisesAsMuch, RisesEnough, last64}
 use Rattle.front_conn_costs.specs.steps.Numbers.{dials, faults, full, gone, gones, link, searches, silent}
 use Rattle.replay.specs.Counts.{AreDialled, AreSums, HaveCauses, in_classes, met_for}

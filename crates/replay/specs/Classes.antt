@@ -2,7 +2,7 @@
 use Rattle.std.specs.Prelude.{◌+◌, List, [], ◌∷◌, length, nat_lt, if◌then◌else◌, get_or, set, Option, None, Some}
 use Rattle.z_types.specs.Bounds.{within64}
 use Rattle.route_config.specs.declared.route.Class.{Class}
-use Rattle.front_conn.specs.declared.totals.Total.{Total}
+use Rattle.front_conn_costs.specs.front_conn.declared.totals.Total.{Total}
 use Rattle.replay.specs.declared.reports.ClassReport.{ClassReport}
 use Rattle.replay.specs.Clients.{ClientState}
 

@@ -1,9 +1,9 @@
 -- The clients of a replay (this project's own): each has a connection, and what was written to it
 use Rattle.std.specs.Prelude.{◌≡◌, ℕ, Bool, true, false, List, [], Option, None, Some, slice_get, unwrap_or}
-use Rattle.front_session.specs.Sessions.{new_session}
-use Rattle.front_conn.specs.declared.stepped.Stepped.{Stepped}
-use Rattle.front_conn.specs.declared.stepped.Stepped.TheVariants.{Idle}
-use Rattle.front_conn.specs.steps.States.{ConnectionState, nothing_yet}
+use Rattle.front_conn_costs.specs.front_session.Sessions.{new_session}
+use Rattle.front_conn_costs.specs.front_conn.declared.stepped.Stepped.{Stepped}
+use Rattle.front_conn_costs.specs.front_conn.declared.stepped.Stepped.TheVariants.{Idle}
+use Rattle.front_conn_costs.specs.front_conn.steps.States.{ConnectionState, nothing_yet}
 
 -- a step that did nothing
 abbrev pub is_idle : Stepped → Bool

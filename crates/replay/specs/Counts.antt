@@ -2,7 +2,7 @@
 use Rattle.std.specs.Prelude.{ℕ, ◌+◌, ◌*◌, ◌≤◌, Bool, List}
 use Rattle.std.specs.List.{sum_by}
 use Rattle.route_config.specs.declared.route.PoolNumbers.{PoolNumbers}
-use Rattle.front_conn.specs.steps.Answering.{Outside}
+use Rattle.front_conn_costs.specs.front_conn.steps.Answering.{Outside}
 use Rattle.front_conn_costs.specs.steps.Conns.{marks_of, outside_counts, outside_meets}
 use Rattle.front_conn_costs.specs.steps.Growth.{RisesAsMuch, RisesEnough}
 use Rattle.front_conn_costs.specs.steps.Numbers.{Caused, IsTold, Number, dials, faults, gones, searches, weight}

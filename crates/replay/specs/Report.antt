@@ -3,8 +3,8 @@ use Rattle.std.specs.Prelude.{◌≡◌, List, map}
 use Rattle.std.specs.List.{AllByRecursion}
 use Rattle.z_types.specs.declared.world.World as world
 use Rattle.route_config.specs.declared.route.Route.{Route}
-use Rattle.sru_rules.specs.Answers.{Answers}
-use Rattle.gateway_rules.specs.Fair.{IsFair}
+use Rattle.front_conn_costs.specs.sru_rules.Answers.{Answers}
+use Rattle.front_conn_costs.specs.gateway_rules.Fair.{IsFair}
 use Rattle.script.specs.declared.event.Event.{Event}
 use Rattle.script.specs.Events.{fed, named}
 use Rattle.replay.specs.declared.reports.ClientReport.{ClientReport}

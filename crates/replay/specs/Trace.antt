@@ -11,14 +11,14 @@ use Rattle.z_types.specs.declared.world.World as world
 use Rattle.gw_outside.specs.Happened.{AreCut, IsMade}
 use Rattle.route_config.specs.declared.route.Route.{Route}
 use Rattle.gw_outside.specs.declared.watched.Watched as watched
-use Rattle.leg.specs.Deeds.{BackendView}
+use Rattle.package_quiet.specs.leg.Deeds.{BackendView}
 use Rattle.pool_sets.specs.declared.doors.Door as door
-use Rattle.front_conn.specs.declared.stepped.Stepped.{Stepped}
-use Rattle.front_conn.specs.declared.stepped.Stepped.TheVariants.{Memory}
-use Rattle.front_conn.specs.steps.Answering.{Outside}
-use Rattle.front_conn.specs.steps.Feeding.{with_end, with_piece, without_out}
-use Rattle.front_conn.specs.steps.States.{ConnectionState, IsConnOf}
-use Rattle.front_conn.specs.steps.Steps.{IsStepped, KeepsState}
+use Rattle.front_conn_costs.specs.front_conn.declared.stepped.Stepped.{Stepped}
+use Rattle.front_conn_costs.specs.front_conn.declared.stepped.Stepped.TheVariants.{Memory}
+use Rattle.front_conn_costs.specs.front_conn.steps.Answering.{Outside}
+use Rattle.front_conn_costs.specs.front_conn.steps.Feeding.{with_end, with_piece, without_out}
+use Rattle.front_conn_costs.specs.front_conn.steps.States.{ConnectionState, IsConnOf}
+use Rattle.front_conn_costs.specs.front_conn.steps.Steps.{IsStepped, KeepsState}
 use Rattle.script.specs.declared.event.Event.{Event}
 use Rattle.script.specs.declared.event.Event.TheVariants.{Feed, End, Step, Run, Gone, Cut, Slow}
 use Rattle.script.specs.Events.{client_of, most_clients, named, seconds_of}

@@ -2,8 +2,8 @@
 use Rattle.std.specs.Prelude.{◌≡◌, List, Contains}
 use Rattle.z_types.specs.declared.world.World as world
 use Rattle.route_config.specs.declared.route.Route.{Route}
-use Rattle.gateway_rules.specs.Fair.{IsFair}
-use Rattle.gateway_rules.specs.OneAnswer.{AreMarksPlain}
+use Rattle.front_conn_costs.specs.gateway_rules.Fair.{IsFair}
+use Rattle.front_conn_costs.specs.gateway_rules.OneAnswer.{AreMarksPlain}
 use Rattle.script.specs.declared.event.Event.{Event}
 use Rattle.script.specs.Events.{fed}
 use Rattle.replay.specs.Report.{IsReportOf}

@@ -1,10 +1,10 @@
 -- Where no cause of a mark was counted (this project's own)
 use Rattle.std.specs.Prelude.{◌≡◌, ◌<◌, List}
 use Rattle.std.specs.List.{AllByRecursion}
-use Rattle.gateway_rules.specs.OneAnswer.{AreMarksPlain}
+use Rattle.front_conn_costs.specs.gateway_rules.OneAnswer.{AreMarksPlain}
 use Rattle.route_config.specs.Sound.{ArePoolNumbers}
 use Rattle.route_config.specs.declared.route.PoolNumbers.{PoolNumbers}
-use Rattle.front_conn.specs.steps.Answering.{Outside}
+use Rattle.front_conn_costs.specs.front_conn.steps.Answering.{Outside}
 use Rattle.front_conn_costs.specs.steps.Conns.{outside_meets}
 use Rattle.front_conn_costs.specs.steps.Growth.{last64}
 use Rattle.front_conn_costs.specs.steps.Numbers.{Caused}

@@ -4,7 +4,7 @@ ghost use Rattle.std.specs.Prelude.{◌≡◌, IfOk, map};
 ghost use Rattle.replay.specs.Classes.{costless, costs_after, costs_with, with_total};
 
 use crate::ClassReport;
-use front_conn::Total;
+use front_conn_costs::front_conn::Total;
 use route_config::{Class, Route};
 use std::alloc::Global;
 use z_types::{List, Memory, copy};

@@ -1,13 +1,13 @@
 //! One client of a replay: its connection, and what was written to it.
 
 ghost use Rattle.std.specs.Prelude.{◌≡◌, IfOk, IsSome, OnOk, false};
-ghost use Rattle.front_conn.specs.steps.States.{IsConnOf};
+ghost use Rattle.front_conn_costs.specs.front_conn.steps.States.{IsConnOf};
 ghost use Rattle.replay.specs.Trace.{HasRun, IsClientStep, IsReportedAs, outside_of, with_no_more, with_octets};
 ghost use Rattle.replay.specs.Clients.{is_idle, new_client};
 ghost use Rattle.replay.specs.steps.Clients.{left};
 
 use crate::ClientReport;
-use front_conn::{Conn, Stepped, Total, stays_of_route};
+use front_conn_costs::front_conn::{Conn, Stepped, Total, stays_of_route};
 use gw_outside::Backend;
 use pool_sets::Door;
 use route_config::Route;

@@ -1,7 +1,7 @@
 //! Behind the last event each client is closed.
 
 ghost use Rattle.std.specs.Prelude.{IfSome, List, OnOk};
-ghost use Rattle.front_conn.specs.steps.States.{IsConnOf};
+ghost use Rattle.front_conn_costs.specs.front_conn.steps.States.{IsConnOf};
 ghost use Rattle.script.specs.declared.event.Event.{Event as AnEvent};
 ghost use Rattle.replay.specs.Trace.{outside_of};
 ghost use Rattle.replay.specs.steps.Clients.{AreClientsOf};
@@ -9,7 +9,7 @@ ghost use Rattle.replay.specs.steps.Closing.{AreAllClosed, ClosesAt, IsClosedNow
 
 use crate::client::Client;
 use crate::laws::{connection_laws, cost_laws};
-use front_conn::stays_of_route;
+use front_conn_costs::front_conn::stays_of_route;
 use gw_outside::Backend;
 use pool_sets::Door;
 use route_config::Route;

@@ -4,7 +4,7 @@ ghost use Rattle.replay.specs.Twice.{IsReadTwice};
 ghost use Rattle.replay.specs.Uncaused.{UncausedIsPlain};
 ghost use Rattle.replay.specs.steps.Laws.{CostLaws, Laws, RunLaws};
 
-use front_conn::{
+use front_conn_costs::front_conn::{
     ends_answered, stands_at_start, stands_when_ended, stands_when_fed, stands_when_written,
     stays_of_route,
 };
@@ -13,7 +13,7 @@ use front_conn_costs::{
 };
 use front_conn_seats::{steps_keep_seats, turns_keep_seats};
 use package_quiet::packages_go_well;
-use sru_rules::one_answer;
+use front_conn_costs::sru_rules::one_answer;
 use z_types::{Sitting, World};
 
 /// The laws of connections, together. It does nothing; what it ensures are the laws.

@@ -1,7 +1,7 @@
 //! The events of a script, one behind another.
 
 ghost use Rattle.std.specs.Prelude.{◌≡◌, ℕ, [], IfOk, OnOk};
-ghost use Rattle.front_conn.specs.steps.States.{IsConnOf};
+ghost use Rattle.front_conn_costs.specs.front_conn.steps.States.{IsConnOf};
 ghost use Rattle.script.specs.Events.{AreEvents, seconds_of};
 ghost use Rattle.replay.specs.Trace.{ArePlayed, IsBefallen, IsPlayed, PlaysAt, PlaysFor, backend_of, moment_behind, outside_of, test_number};
 ghost use Rattle.replay.specs.Clients.{client_or_new};

@@ -5,10 +5,10 @@ use Rattle.std.proofs.lemmas.Bool.{and_parts, cases_eq, cases_lt, eqb-true}
 use Rattle.z_types.specs.declared.sitting.Sitting as sitting
 use Rattle.z_types.specs.declared.world.World as world
 use Rattle.route_config.specs.declared.route.Route.{Route}
-use Rattle.front_conn.specs.steps.Answering.{Outside}
-use Rattle.front_conn.specs.steps.Feeding.{with_end, with_piece}
-use Rattle.front_conn.specs.steps.States.{ConnectionState}
-use Rattle.front_conn_costs.specs.steps.Conns.{RestsIfEnded}
+use Rattle.replay.specs.front_conn.steps.Answering.{Outside}
+use Rattle.replay.specs.front_conn.steps.Feeding.{with_end, with_piece}
+use Rattle.replay.specs.front_conn.steps.States.{ConnectionState}
+use Rattle.replay.specs.front_conn_costs.steps.Conns.{RestsIfEnded}
 use Rattle.script.specs.declared.event.Event.{Event}
 use Rattle.script.specs.declared.event.Event.TheVariants.{Feed, End, Step, Run, Tick, Gone, Cut, Slow}
 use Rattle.script.specs.Events.{seconds_of}

@@ -11,22 +11,22 @@ use Rattle.gw_outside.specs.Happened.{Happened, IsMade}
 use Rattle.gw_outside.specs.declared.happenings.Happening.{Happening}
 use Rattle.route_config.specs.declared.route.PoolNumbers.{PoolNumbers}
 use Rattle.route_config.specs.declared.route.Route.{Route}
-use Rattle.leg.specs.Deeds.{BackendView}
-use Rattle.leg.specs.LegView.{LegView}
-use Rattle.leg.specs.Turns.{DoorView}
-use Rattle.package_rules.specs.Asked.{Asked}
-use Rattle.package.specs.steps.Packages.{PackageView, begun}
-use Rattle.front_conn.specs.declared.stepped.Stepped.{Stepped}
-use Rattle.front_conn.specs.declared.stepped.Stepped.TheVariants.{Memory}
-use Rattle.front_conn.specs.steps.Answering.{Outside}
-use Rattle.front_conn.specs.steps.Feeding.{fed_piece}
-use Rattle.front_conn.specs.steps.States.{ConnectionState}
-use Rattle.front_conn.specs.steps.Steps.{StepsFrom, answering_of}
+use Rattle.replay.specs.leg.Deeds.{BackendView}
+use Rattle.replay.specs.leg.LegView.{LegView}
+use Rattle.replay.specs.leg.Turns.{DoorView}
+use Rattle.replay.specs.package_rules.Asked.{Asked}
+use Rattle.replay.specs.package.steps.Packages.{PackageView, begun}
+use Rattle.replay.specs.front_conn.declared.stepped.Stepped.{Stepped}
+use Rattle.replay.specs.front_conn.declared.stepped.Stepped.TheVariants.{Memory}
+use Rattle.replay.specs.front_conn.steps.Answering.{Outside}
+use Rattle.replay.specs.front_conn.steps.Feeding.{fed_piece}
+use Rattle.replay.specs.front_conn.steps.States.{ConnectionState}
+use Rattle.replay.specs.front_conn.steps.Steps.{StepsFrom, answering_of}
 use Rattle.script.specs.declared.event.Event.{Event}
 use Rattle.script.specs.declared.event.Event.TheVariants.{Feed, End, Step, Run, Tick, Gone, Cut, Slow}
 use Rattle.script.specs.Events.{client_of, named, seconds_of}
-use Rattle.package_quiet.specs.steps.Bearing.{AreBearable, AreCutOnceMade, AreNoWorse, DialsGoOn, HasBorne, IsBearable, IsBorneBy, LegBears, NoneIsCut}
-use Rattle.package_quiet.specs.steps.Laws.{BearingStays, PackagesBear, PackagesDialOn}
+use Rattle.replay.specs.package_quiet.steps.Bearing.{AreBearable, AreCutOnceMade, AreNoWorse, DialsGoOn, HasBorne, IsBearable, IsBorneBy, LegBears, NoneIsCut}
+use Rattle.replay.specs.package_quiet.steps.Laws.{BearingStays, PackagesBear, PackagesDialOn}
 use Rattle.replay.specs.Clients.{AreNone, ClientState, client_at, client_or_new}
 use Rattle.replay.specs.Trace.{ArePlayed, AreSteps, BefallsIf, HasRun, IsBefallen, IsClientStep, IsRunOf, PlaysFor, PlaysOf, Playing, Point, closing, closings, moment_behind, test_number}
 use Rattle.replay.specs.Undisturbed.{IsPlainOrFull}

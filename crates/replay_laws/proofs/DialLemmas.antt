@@ -5,17 +5,17 @@ use Rattle.z_types.specs.declared.sitting.Sitting as sitting
 use Rattle.z_types.specs.declared.world.World as world
 use Rattle.gw_outside.specs.Counts.{Counts}
 use Rattle.route_config.specs.declared.route.Route.{Route}
-use Rattle.leg.specs.Deeds.{BackendView}
-use Rattle.package.specs.steps.Packages.{PackageView}
-use Rattle.front_conn.specs.declared.stepped.Stepped.{Stepped}
-use Rattle.front_conn.specs.steps.Answering.{Outside}
-use Rattle.front_conn.specs.steps.States.{ConnectionState}
-use Rattle.front_conn.specs.steps.Steps.{StepsFrom}
+use Rattle.replay.specs.leg.Deeds.{BackendView}
+use Rattle.replay.specs.package.steps.Packages.{PackageView}
+use Rattle.replay.specs.front_conn.declared.stepped.Stepped.{Stepped}
+use Rattle.replay.specs.front_conn.steps.Answering.{Outside}
+use Rattle.replay.specs.front_conn.steps.States.{ConnectionState}
+use Rattle.replay.specs.front_conn.steps.Steps.{StepsFrom}
 use Rattle.script.specs.declared.event.Event.{Event}
 use Rattle.script.specs.declared.event.Event.TheVariants.{Feed, End, Step, Run, Tick, Gone, Cut, Slow}
 use Rattle.script.specs.Events.{client_of, seconds_of}
-use Rattle.package_quiet.specs.steps.Bearing.{DialsGoOn}
-use Rattle.package_quiet.specs.steps.Laws.{PackagesDialOn}
+use Rattle.replay.specs.package_quiet.steps.Bearing.{DialsGoOn}
+use Rattle.replay.specs.package_quiet.steps.Laws.{PackagesDialOn}
 use Rattle.replay.specs.Clients.{ClientState, client_at, client_or_new}
 use Rattle.replay.specs.Trace.{ArePlayed, AreSteps, BefallsIf, HasRun, IsBefallen, IsClientStep, PlaysFor, PlaysOf, Playing, Point, test_number}
 

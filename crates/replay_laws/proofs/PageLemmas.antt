@@ -8,12 +8,12 @@ use Rattle.z_types.specs.declared.marks.Mark.{Mark}
 use Rattle.z_types.specs.declared.marks.Mark.TheVariants as mark
 use Rattle.z_types.specs.declared.world.World as world
 use Rattle.gw_outside.specs.Counts.{Counts}
-use Rattle.gateway_rules.specs.OneAnswer.{AreMarksPlain}
+use Rattle.replay.specs.gateway_rules.OneAnswer.{AreMarksPlain}
 use Rattle.route_config.specs.declared.route.PoolNumbers.{PoolNumbers}
 use Rattle.route_config.specs.declared.route.Route.{Route}
-use Rattle.front_conn_costs.specs.steps.Conns.{marks_of}
-use Rattle.front_conn_costs.specs.steps.Growth.{last64}
-use Rattle.front_conn_costs.specs.steps.Numbers.{Caused, dials, faults, full, gone, gones, is_of, link, silent, weight}
+use Rattle.replay.specs.front_conn_costs.steps.Conns.{marks_of}
+use Rattle.replay.specs.front_conn_costs.steps.Growth.{last64}
+use Rattle.replay.specs.front_conn_costs.steps.Numbers.{Caused, dials, faults, full, gone, gones, is_of, link, silent, weight}
 use Rattle.replay.specs.Counts.{in_classes, met_for}
 use Rattle.replay.specs.Uncaused.{AreAllPlain}
 use Rattle.replay.specs.Wires.{IsCountedBy, RoseAtLeast, RoseBy}

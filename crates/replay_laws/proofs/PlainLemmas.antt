@@ -4,11 +4,11 @@ use Rattle.std.specs.List.{AllByRecursion}
 use Rattle.std.proofs.lemmas.List.Sums.{sum_by-cons}
 use Rattle.z_types.specs.declared.marks.Mark.{Mark}
 use Rattle.z_types.specs.declared.marks.Mark.TheVariants as mark
-use Rattle.gateway_rules.specs.OneAnswer.{AreMarksPlain}
+use Rattle.replay.specs.gateway_rules.OneAnswer.{AreMarksPlain}
 use Rattle.route_config.specs.declared.route.PoolNumbers.{PoolNumbers}
-use Rattle.front_conn.specs.steps.Answering.{Outside}
-use Rattle.front_conn_costs.specs.steps.Conns.{marks_of}
-use Rattle.front_conn_costs.specs.steps.Numbers.{full, weight}
+use Rattle.replay.specs.front_conn.steps.Answering.{Outside}
+use Rattle.replay.specs.front_conn_costs.steps.Conns.{marks_of}
+use Rattle.replay.specs.front_conn_costs.steps.Numbers.{full, weight}
 use Rattle.replay.specs.Counts.{HaveCauses, met_for}
 use Rattle.replay.specs.Uncaused.{AreAllPlain}
 use Rattle.replay.specs.Undisturbed.{IsPlainOrFull}

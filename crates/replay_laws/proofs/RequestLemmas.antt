@@ -9,23 +9,23 @@ use Rattle.z_types.specs.declared.sitting.Sitting as sitting
 use Rattle.z_types.specs.declared.world.World as world
 use Rattle.route_config.specs.declared.route.PoolNumbers.{PoolNumbers}
 use Rattle.route_config.specs.declared.route.Route.{Route}
-use Rattle.leg.specs.Kept.{StandsAt}
-use Rattle.leg.specs.LegView.{LegView}
-use Rattle.leg.specs.Phases.{answered}
-use Rattle.leg.specs.Right.{IsCaused}
-use Rattle.leg.specs.Terms.{Terms, terms_of}
-use Rattle.leg.specs.Turns.{IsLegOf}
-use Rattle.leg.specs.declared.accounts.Account.{Account}
-use Rattle.leg.specs.declared.answers.LegAnswer.{LegAnswer}
-use Rattle.leg.specs.declared.answers.LegAnswer.TheVariants as answer
-use Rattle.leg.specs.declared.phases.Phase.{Phase}
-use Rattle.leg.specs.declared.phases.Phase.TheVariants.{Begin, Dialling, Dialled, Ready, Searching, Presenting, Fetching, Scanning, Returning, Losing, Redialling, Spoiled, Done, Ended}
-use Rattle.leg.specs.declared.tasks.Task.{Task}
-use Rattle.package_rules.specs.declared.answered.Answered.{Answered}
-use Rattle.package_rules.specs.Said.{cause_of}
-use Rattle.package.specs.steps.Ends.{cause_in}
-use Rattle.package.specs.steps.Packages.{IsPackageOf, PackageView, accounts_of, all_accounts, answers_of}
-use Rattle.package_quiet.specs.steps.Bearing.{HasBorne}
+use Rattle.replay.specs.leg.Kept.{StandsAt}
+use Rattle.replay.specs.leg.LegView.{LegView}
+use Rattle.replay.specs.leg.Phases.{answered}
+use Rattle.replay.specs.leg.Right.{IsCaused}
+use Rattle.replay.specs.leg.Terms.{Terms, terms_of}
+use Rattle.replay.specs.leg.Turns.{IsLegOf}
+use Rattle.replay.specs.leg.declared.accounts.Account.{Account}
+use Rattle.replay.specs.leg.declared.answers.LegAnswer.{LegAnswer}
+use Rattle.replay.specs.leg.declared.answers.LegAnswer.TheVariants as answer
+use Rattle.replay.specs.leg.declared.phases.Phase.{Phase}
+use Rattle.replay.specs.leg.declared.phases.Phase.TheVariants.{Begin, Dialling, Dialled, Ready, Searching, Presenting, Fetching, Scanning, Returning, Losing, Redialling, Spoiled, Done, Ended}
+use Rattle.replay.specs.leg.declared.tasks.Task.{Task}
+use Rattle.replay.specs.package_rules.declared.answered.Answered.{Answered}
+use Rattle.replay.specs.package_rules.Said.{cause_of}
+use Rattle.replay.specs.package.steps.Ends.{cause_in}
+use Rattle.replay.specs.package.steps.Packages.{IsPackageOf, PackageView, accounts_of, all_accounts, answers_of}
+use Rattle.replay.specs.package_quiet.steps.Bearing.{HasBorne}
 use Rattle.replay.specs.Undisturbed.{IsPlainOrFull}
 use Rattle.replay_laws.specs.Requests.{CausesNoMark}
 

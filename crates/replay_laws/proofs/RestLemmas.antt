@@ -5,22 +5,22 @@ use Rattle.z_types.specs.declared.memory.Memory.{Memory as NoMemory}
 use Rattle.z_types.specs.declared.sitting.Sitting as sitting
 use Rattle.z_types.specs.declared.world.World as world
 use Rattle.route_config.specs.declared.route.Route.{Route}
-use Rattle.front_z.specs.declared.units.Begun.{Begun}
-use Rattle.front_z.specs.declared.units.Begun.TheVariants as begun
-use Rattle.front_sru.specs.declared.begun.Begun as sru_begun
-use Rattle.front_sru.specs.declared.begun.Begun.TheVariants as get
-use Rattle.front_sru.specs.declared.state.SruStage.{SruStage}
-use Rattle.front_sru.specs.declared.state.SruStage.TheVariants as stage
-use Rattle.leg.specs.declared.answers.Turned.{Turned}
-use Rattle.leg.specs.declared.answers.Turned.TheVariants as turned
-use Rattle.package.specs.steps.Packages.{PackageView}
-use Rattle.front_conn.specs.declared.stepped.Stepped.{Stepped}
-use Rattle.front_conn.specs.declared.stepped.Stepped.TheVariants.{Idle, NotYet, Went, Memory}
-use Rattle.front_conn.specs.steps.Answering.{AnsweringState, EndsAt, IsEndAfter, IsGetEndedIf, IsKeptBehind, IsKeptBehindGet, IsKeptBehindHead, Outside, WorksOn}
-use Rattle.front_conn.specs.steps.Feeding.{fed_piece, with_piece}
-use Rattle.front_conn.specs.steps.States.{ConnectionState}
-use Rattle.front_conn.specs.steps.Steps.{EndsByRest, GoesAhead, IsStepped, StepsFrom, TakesHead, TakesUnit, answering_of}
-use Rattle.front_conn_costs.specs.steps.Conns.{RestsIfEnded}
+use Rattle.replay.specs.front_z.declared.units.Begun.{Begun}
+use Rattle.replay.specs.front_z.declared.units.Begun.TheVariants as begun
+use Rattle.replay.specs.front_sru.declared.begun.Begun as sru_begun
+use Rattle.replay.specs.front_sru.declared.begun.Begun.TheVariants as get
+use Rattle.replay.specs.front_sru.declared.state.SruStage.{SruStage}
+use Rattle.replay.specs.front_sru.declared.state.SruStage.TheVariants as stage
+use Rattle.replay.specs.leg.declared.answers.Turned.{Turned}
+use Rattle.replay.specs.leg.declared.answers.Turned.TheVariants as turned
+use Rattle.replay.specs.package.steps.Packages.{PackageView}
+use Rattle.replay.specs.front_conn.declared.stepped.Stepped.{Stepped}
+use Rattle.replay.specs.front_conn.declared.stepped.Stepped.TheVariants.{Idle, NotYet, Went, Memory}
+use Rattle.replay.specs.front_conn.steps.Answering.{AnsweringState, EndsAt, IsEndAfter, IsGetEndedIf, IsKeptBehind, IsKeptBehindGet, IsKeptBehindHead, Outside, WorksOn}
+use Rattle.replay.specs.front_conn.steps.Feeding.{fed_piece, with_piece}
+use Rattle.replay.specs.front_conn.steps.States.{ConnectionState}
+use Rattle.replay.specs.front_conn.steps.Steps.{EndsByRest, GoesAhead, IsStepped, StepsFrom, TakesHead, TakesUnit, answering_of}
+use Rattle.replay.specs.front_conn_costs.steps.Conns.{RestsIfEnded}
 use Rattle.replay.specs.Clients.{is_idle}
 
 -- what has no end has not ended

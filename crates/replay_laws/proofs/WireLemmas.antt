@@ -15,11 +15,11 @@ use Rattle.route_config.specs.declared.route.PoolNumbers.{PoolNumbers}
 use Rattle.route_config.specs.declared.route.Route.{Route}
 use Rattle.z_client.specs.Counts.{counts_over}
 use Rattle.z_client.specs.declared.own.Own.{Own}
-use Rattle.leg.specs.Deeds.{BackendView}
-use Rattle.front_conn.specs.steps.Answering.{Outside}
+use Rattle.replay.specs.leg.Deeds.{BackendView}
+use Rattle.replay.specs.front_conn.steps.Answering.{Outside}
 use Rattle.script.specs.declared.event.Event.{Event}
-use Rattle.package_quiet.specs.steps.Bearing.{AreBearable, AreCutOnceMade, DialsGoOn, FaresAt, IsBearable, IsBorneBy}
-use Rattle.package_quiet.specs.steps.Whole.{AreIdle, IsIdleSession}
+use Rattle.replay.specs.package_quiet.steps.Bearing.{AreBearable, AreCutOnceMade, DialsGoOn, FaresAt, IsBearable, IsBorneBy}
+use Rattle.replay.specs.package_quiet.steps.Whole.{AreIdle, IsIdleSession}
 use Rattle.replay.specs.Counts.{HaveCauses}
 use Rattle.replay.specs.Places.{most_at_once}
 use Rattle.replay.specs.Trace.{IsRunOf}

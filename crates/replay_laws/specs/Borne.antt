@@ -8,14 +8,14 @@ use Rattle.gw_outside.specs.Happened.{AreQuiet, Happened}
 use Rattle.route_config.specs.declared.route.PoolNumbers.{PoolNumbers}
 use Rattle.route_config.specs.declared.route.Route.{Route}
 use Rattle.pool_core.specs.PoolView.{counts_of, new_pool, pool_of}
-use Rattle.leg.specs.Turns.{DoorView}
-use Rattle.front_conn.specs.steps.Answering.{Outside}
+use Rattle.replay.specs.leg.Turns.{DoorView}
+use Rattle.replay.specs.front_conn.steps.Answering.{Outside}
 use Rattle.script.specs.declared.event.Event.{Event}
 use Rattle.script.specs.declared.event.Event.TheVariants.{Cut, Gone, Slow}
 use Rattle.z_client.specs.Counts.{counts_over}
 use Rattle.z_client.specs.declared.own.Own.{Own}
-use Rattle.front_conn_costs.specs.steps.Growth.{last64}
-use Rattle.package_quiet.specs.steps.Bearing.{DialsGoOn, IsBorneBy}
+use Rattle.replay.specs.front_conn_costs.steps.Growth.{last64}
+use Rattle.replay.specs.package_quiet.steps.Bearing.{DialsGoOn, IsBorneBy}
 use Rattle.replay.specs.Counts.{HaveCauses}
 use Rattle.replay.specs.Places.{most_at_once}
 use Rattle.replay.specs.Trace.{IsRunOf}

@@ -4,8 +4,8 @@ use Rattle.z_types.specs.declared.world.World as world
 use Rattle.gw_outside.specs.Counts.{Counts}
 use Rattle.route_config.specs.declared.route.PoolNumbers.{PoolNumbers}
 use Rattle.route_config.specs.declared.route.Route.{Route}
-use Rattle.front_conn_costs.specs.steps.Growth.{last64}
-use Rattle.front_conn_costs.specs.steps.Numbers.{dials, faults, full, gone, gones, link, silent}
+use Rattle.replay.specs.front_conn_costs.steps.Growth.{last64}
+use Rattle.replay.specs.front_conn_costs.steps.Numbers.{dials, faults, full, gone, gones, link, silent}
 use Rattle.replay.specs.Counts.{in_classes, met_for}
 use Rattle.replay.specs.Uncaused.{AreAllPlain}
 use Rattle.replay.specs.Wires.{IsCountedBy}

@@ -6,9 +6,9 @@ use Rattle.z_types.specs.declared.sitting.Sitting as sitting
 use Rattle.z_types.specs.declared.world.World as world
 use Rattle.route_config.specs.declared.route.PoolNumbers.{PoolNumbers}
 use Rattle.route_config.specs.declared.route.Route.{Route}
-use Rattle.leg.specs.declared.accounts.Account.{Account}
-use Rattle.package.specs.steps.Ends.{cause_in}
-use Rattle.package.specs.steps.Packages.{IsPackageOf, PackageView, all_accounts}
+use Rattle.replay.specs.leg.declared.accounts.Account.{Account}
+use Rattle.replay.specs.package.steps.Ends.{cause_in}
+use Rattle.replay.specs.package.steps.Packages.{IsPackageOf, PackageView, all_accounts}
 
 -- what a leg counted causes no mark: no call failed that may not be tried again, fewer looks were in vain on one ask than the pool is
 -- patient, no more sets were gone than it repeats, and no door was full

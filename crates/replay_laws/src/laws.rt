@@ -5,7 +5,7 @@ ghost use Rattle.replay_laws.specs.Pages.{SumsLeaveMarks};
 ghost use Rattle.replay_laws.specs.Quiet.{QuietDisturbsNobody};
 ghost use Rattle.replay_laws.specs.Requests.{UncausedRequestIsPlain};
 
-use package_quiet::{bearing_stays, packages_bear, packages_dial_on};
+use replay::package_quiet::{bearing_stays, packages_bear, packages_dial_on};
 use z_types::{Sitting, World};
 
 /// Where each client that took a step was run since, whenever links are cut or result sets deleted,

@@ -7,14 +7,14 @@ use Rattle.z_types.specs.declared.sitting.Sitting as sitting
 use Rattle.z_types.specs.declared.work.Work.{Work}
 use Rattle.z_types.specs.declared.world.World as world
 use Rattle.route_config.specs.declared.route.Route.{Route}
-use Rattle.gateway_rules.specs.Answers as kind
-use Rattle.gateway_rules.specs.Answers.{Kind, kind_of}
-use Rattle.gateway_rules.specs.OneAnswer.{AreMarksPlain}
-use Rattle.front_conn.specs.steps.Feeding.{fed_piece, with_end, with_piece}
-use Rattle.front_conn.specs.steps.States.{ConnectionState, MayCome}
-use Rattle.front_conn.specs.steps.Totals.{totals_for}
-use Rattle.front_conn_costs.specs.steps.Conns.{AreTotalsOf}
-use Rattle.front_conn_costs.proofs.TotalLemmas.{none-made}
+use Rattle.replay.specs.gateway_rules.Answers as kind
+use Rattle.replay.specs.gateway_rules.Answers.{Kind, kind_of}
+use Rattle.replay.specs.gateway_rules.OneAnswer.{AreMarksPlain}
+use Rattle.replay.specs.front_conn.steps.Feeding.{fed_piece, with_end, with_piece}
+use Rattle.replay.specs.front_conn.steps.States.{ConnectionState, MayCome}
+use Rattle.replay.specs.front_conn.steps.Totals.{totals_for}
+use Rattle.replay.specs.front_conn_costs.steps.Conns.{AreTotalsOf}
+use Rattle.replay.proofs.front_conn_costs.TotalLemmas.{none-made}
 use Rattle.front_conn_works.specs.steps.Begun.{HasBegun}
 use Rattle.front_conn_works.specs.steps.Laws.{StaysSoBegun}
 use Rattle.front_conn_works.proofs.BegunLemmas.{going-of, none-begun}

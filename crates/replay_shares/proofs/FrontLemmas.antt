@@ -14,17 +14,17 @@ use Rattle.z_types.specs.Bounds.{within64}
 use Rattle.z_ber.specs.Frames.{IsFrame}
 use Rattle.z_ber.proofs.OneSplit.{frame_begins_no_other}
 use Rattle.route_config.specs.declared.route.Route.{Route}
-use Rattle.gateway_rules.specs.Answers as kind
-use Rattle.gateway_rules.specs.Answers.{Answers, IsCourse, IsCourseOf, IsReceived, Kind, RestLeadsTo, kind_of}
-use Rattle.gateway_rules.specs.Course as at
-use Rattle.gateway_rules.specs.Course.{Course, Received, course, followed, octets_of, stands_at}
-use Rattle.gateway_rules.specs.Marks.{Cause, plain}
-use Rattle.gateway_rules.specs.OneAnswer.{AreMarksPlain}
-use Rattle.gateway_rules.specs.Runs.{marks_of}
-use Rattle.gateway_rules.specs.Session.{IsServed, answered, run}
-use Rattle.gateway_rules.specs.State.{ClientState, Progress, at_the_start, new_client}
-use Rattle.gateway_rules.proofs.Composition.{course-append}
-use Rattle.gateway_rules.proofs.OneEnding.{extent-filled, frame-filled, is_course-one, received-one}
+use Rattle.replay.specs.gateway_rules.Answers as kind
+use Rattle.replay.specs.gateway_rules.Answers.{Answers, IsCourse, IsCourseOf, IsReceived, Kind, RestLeadsTo, kind_of}
+use Rattle.replay.specs.gateway_rules.Course as at
+use Rattle.replay.specs.gateway_rules.Course.{Course, Received, course, followed, octets_of, stands_at}
+use Rattle.replay.specs.gateway_rules.Marks.{Cause, plain}
+use Rattle.replay.specs.gateway_rules.OneAnswer.{AreMarksPlain}
+use Rattle.replay.specs.gateway_rules.Runs.{marks_of}
+use Rattle.replay.specs.gateway_rules.Session.{IsServed, answered, run}
+use Rattle.replay.specs.gateway_rules.State.{ClientState, Progress, at_the_start, new_client}
+use Rattle.replay.proofs.gateway_rules.Composition.{course-append}
+use Rattle.replay.proofs.gateway_rules.OneEnding.{extent-filled, frame-filled, is_course-one, received-one}
 use Rattle.front_conn_works.specs.Works.{work_of, works_of}
 use Rattle.front_conn_works.specs.steps.Begun.{AreWorksBefore, AreWorksIn}
 use Rattle.front_conn_works.specs.steps.Laws.{MarksDecide}

@@ -6,17 +6,17 @@ use Rattle.z_types.specs.declared.work.Work.{Work}
 use Rattle.z_types.specs.declared.world.World as world
 use Rattle.route_config.specs.Sound.{IsSound}
 use Rattle.route_config.specs.declared.route.Route.{Route}
-use Rattle.gateway_rules.specs.Answers as kind
-use Rattle.gateway_rules.specs.Answers.{Kind, kind_of}
-use Rattle.gateway_rules.specs.Fair.{IsFair}
-use Rattle.package.specs.steps.Packages.{PackageView}
-use Rattle.front_conn.specs.declared.stepped.Stepped.{Stepped}
-use Rattle.front_conn.specs.declared.stepped.Stepped.TheVariants.{Idle, Memory, NotYet, Went}
-use Rattle.front_conn.specs.declared.totals.Total.{Total}
-use Rattle.front_conn.specs.steps.Answering.{Outside}
-use Rattle.front_conn.specs.steps.Feeding.{without_out}
-use Rattle.front_conn.specs.steps.States.{ConnectionState, IsConnOf, IsStateOf, MayCome}
-use Rattle.front_conn.specs.steps.Steps.{GoesAhead, IsStepped, StepsFrom}
+use Rattle.replay.specs.gateway_rules.Answers as kind
+use Rattle.replay.specs.gateway_rules.Answers.{Kind, kind_of}
+use Rattle.replay.specs.gateway_rules.Fair.{IsFair}
+use Rattle.package_shares.specs.package.steps.Packages.{PackageView}
+use Rattle.replay.specs.front_conn.declared.stepped.Stepped.{Stepped}
+use Rattle.replay.specs.front_conn.declared.stepped.Stepped.TheVariants.{Idle, Memory, NotYet, Went}
+use Rattle.replay.specs.front_conn.declared.totals.Total.{Total}
+use Rattle.replay.specs.front_conn.steps.Answering.{Outside}
+use Rattle.replay.specs.front_conn.steps.Feeding.{without_out}
+use Rattle.replay.specs.front_conn.steps.States.{ConnectionState, IsConnOf, IsStateOf, MayCome}
+use Rattle.replay.specs.front_conn.steps.Steps.{GoesAhead, IsStepped, StepsFrom}
 use Rattle.sharing_rules.specs.Uses.{DatedWork, Use}
 use Rattle.sharing_rules.specs.steps.Shared.{AreInOrder}
 use Rattle.replay.specs.Clients.{ClientState, is_idle}

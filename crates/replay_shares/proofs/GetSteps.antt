@@ -14,47 +14,47 @@ use Rattle.z_types.specs.declared.world.World as world
 use Rattle.route_config.specs.Sound.{IsSound}
 use Rattle.route_config.specs.declared.route.Route.{Route}
 use Rattle.limit_rules.specs.Limits.{are_units_spent}
-use Rattle.gateway_rules.specs.Answers as kind
-use Rattle.gateway_rules.specs.Answers.{kind_of}
-use Rattle.gateway_rules.specs.Asking.{Asking, asked_with, at_once, works}
-use Rattle.gateway_rules.specs.Course.{Meeting, Received, bad, beyond, closing, due, is_in_place, met, met_in_place, octets_of}
-use Rattle.gateway_rules.specs.Fair.{IsFair}
-use Rattle.gateway_rules.specs.Marks.{Cause, plain}
-use Rattle.gateway_rules.specs.Outcomes.{outcome_of}
-use Rattle.gateway_rules.specs.Runs.{marks_of}
-use Rattle.gateway_rules.specs.Session as session
-use Rattle.gateway_rules.specs.Session.{Run, Stop}
-use Rattle.gateway_rules.specs.State.{Progress}
+use Rattle.replay.specs.gateway_rules.Answers as kind
+use Rattle.replay.specs.gateway_rules.Answers.{kind_of}
+use Rattle.replay.specs.gateway_rules.Asking.{Asking, asked_with, at_once, works}
+use Rattle.replay.specs.gateway_rules.Course.{Meeting, Received, bad, beyond, closing, due, is_in_place, met, met_in_place, octets_of}
+use Rattle.replay.specs.gateway_rules.Fair.{IsFair}
+use Rattle.replay.specs.gateway_rules.Marks.{Cause, plain}
+use Rattle.replay.specs.gateway_rules.Outcomes.{outcome_of}
+use Rattle.replay.specs.gateway_rules.Runs.{marks_of}
+use Rattle.replay.specs.gateway_rules.Session as session
+use Rattle.replay.specs.gateway_rules.Session.{Run, Stop}
+use Rattle.replay.specs.gateway_rules.State.{Progress}
 use Rattle.sru_request.specs.Request.{IsHeadAnswer}
 use Rattle.sru_request.specs.declared.head.HeadGot.TheVariants.{NeedMore}
-use Rattle.sru_rules.specs.Answers.{Answers}
-use Rattle.sru_rules.specs.Asking.{search_work}
-use Rattle.sru_rules.specs.Run.{next_of}
-use Rattle.sru_rules.specs.declared.retrieval.Retrieval.{Retrieval}
-use Rattle.package_rules.specs.Planned.{AreThere}
-use Rattle.package_rules.specs.Truth.{HasWorldsHits}
-use Rattle.package.specs.steps.Ends.{cause_in, outcome_in}
-use Rattle.package.specs.steps.Packages.{IsPackageOf, PackageView, new_package}
-use Rattle.front_session.specs.Admitting.{hits_named}
-use Rattle.front_session.specs.Sessions.{client_of, progress_of}
-use Rattle.front_z.specs.Units.{IsBegun, IsDueBegun, IsMetBegun, Served}
-use Rattle.front_z.specs.declared.units.Begun.{Begun}
-use Rattle.front_z.specs.declared.units.Begun.TheVariants as begun
-use Rattle.front_sru.specs.declared.begun.Begun as sru_begun
-use Rattle.front_sru.specs.declared.begun.Begun.TheVariants as get
-use Rattle.front_sru.specs.declared.state.SruStage.{SruStage}
-use Rattle.front_sru.specs.declared.state.SruStage.TheVariants as stage
-use Rattle.front_http.specs.Seeking.{IsHeadOf}
-use Rattle.front_conn.specs.declared.stepped.Stepped.{Stepped}
-use Rattle.front_conn.specs.declared.stepped.Stepped.TheVariants.{Idle, Memory, NotYet, Went}
-use Rattle.front_conn.specs.declared.totals.Total.{Total}
-use Rattle.front_conn.specs.steps.Answering.{AnsweringState, EndsAt, IsGetEnded, IsKeptBehind, IsKeptBehindGet, IsKeptBehindHead, Outside, get_served, served}
-use Rattle.front_conn.specs.steps.States.{BeginsWithUnits, ConnectionState, HasAnswered, IsConnOf, IsStateOf, MayCome, Rests, StandsOrEnded, WorksAt}
-use Rattle.front_conn.specs.steps.Steps.{AreUnfinished, EndsAtRest, EndsByRest, GoesAhead, IsStepped, StepsFrom, TakesHead, TakesUnit, answering_of}
-use Rattle.front_conn.specs.steps.Totals.{no_total, totals_for}
+use Rattle.replay.specs.sru_rules.Answers.{Answers}
+use Rattle.replay.specs.sru_rules.Asking.{search_work}
+use Rattle.replay.specs.sru_rules.Run.{next_of}
+use Rattle.replay.specs.sru_rules.declared.retrieval.Retrieval.{Retrieval}
+use Rattle.package_shares.specs.package_rules.Planned.{AreThere}
+use Rattle.package_shares.specs.package_rules.Truth.{HasWorldsHits}
+use Rattle.package_shares.specs.package.steps.Ends.{cause_in, outcome_in}
+use Rattle.package_shares.specs.package.steps.Packages.{IsPackageOf, PackageView, new_package}
+use Rattle.replay.specs.front_session.Admitting.{hits_named}
+use Rattle.replay.specs.front_session.Sessions.{client_of, progress_of}
+use Rattle.replay.specs.front_z.Units.{IsBegun, IsDueBegun, IsMetBegun, Served}
+use Rattle.replay.specs.front_z.declared.units.Begun.{Begun}
+use Rattle.replay.specs.front_z.declared.units.Begun.TheVariants as begun
+use Rattle.replay.specs.front_sru.declared.begun.Begun as sru_begun
+use Rattle.replay.specs.front_sru.declared.begun.Begun.TheVariants as get
+use Rattle.replay.specs.front_sru.declared.state.SruStage.{SruStage}
+use Rattle.replay.specs.front_sru.declared.state.SruStage.TheVariants as stage
+use Rattle.replay.specs.front_http.Seeking.{IsHeadOf}
+use Rattle.replay.specs.front_conn.declared.stepped.Stepped.{Stepped}
+use Rattle.replay.specs.front_conn.declared.stepped.Stepped.TheVariants.{Idle, Memory, NotYet, Went}
+use Rattle.replay.specs.front_conn.declared.totals.Total.{Total}
+use Rattle.replay.specs.front_conn.steps.Answering.{AnsweringState, EndsAt, IsGetEnded, IsKeptBehind, IsKeptBehindGet, IsKeptBehindHead, Outside, get_served, served}
+use Rattle.replay.specs.front_conn.steps.States.{BeginsWithUnits, ConnectionState, HasAnswered, IsConnOf, IsStateOf, MayCome, Rests, StandsOrEnded, WorksAt}
+use Rattle.replay.specs.front_conn.steps.Steps.{AreUnfinished, EndsAtRest, EndsByRest, GoesAhead, IsStepped, StepsFrom, TakesHead, TakesUnit, answering_of}
+use Rattle.replay.specs.front_conn.steps.Totals.{no_total, totals_for}
 use Rattle.sharing_rules.specs.Uses.{Use}
 use Rattle.sharing_rules.specs.steps.Shared.{AreInOrder}
-use Rattle.front_conn_costs.specs.steps.Conns.{AreTotalsOf}
+use Rattle.replay.specs.front_conn_costs.steps.Conns.{AreTotalsOf}
 use Rattle.replay_shares.specs.Orderly.{dated}
 use Rattle.replay_shares.specs.Works.{AskByHead, works_of_next}
 use Rattle.replay_shares.specs.steps.Laws.{GetLaws}

@@ -12,12 +12,12 @@ use Rattle.z_types.specs.declared.work.Work.{Work}
 use Rattle.z_types.specs.declared.world.World as world
 use Rattle.route_config.specs.declared.route.Database.{Database}
 use Rattle.route_config.specs.declared.route.Route.{Route}
-use Rattle.gateway_rules.specs.Answers.{Kind, kind_of, letter}
-use Rattle.gateway_rules.specs.Marks.{Cause, plain}
-use Rattle.gateway_rules.specs.OneAnswer.{AreMarksPlain}
-use Rattle.gateway_rules.specs.Outcomes.{outcome_of}
-use Rattle.gateway_rules.specs.Session.{IsServed}
-use Rattle.gateway_rules.specs.Works.{mark_of}
+use Rattle.replay.specs.gateway_rules.Answers.{Kind, kind_of, letter}
+use Rattle.replay.specs.gateway_rules.Marks.{Cause, plain}
+use Rattle.replay.specs.gateway_rules.OneAnswer.{AreMarksPlain}
+use Rattle.replay.specs.gateway_rules.Outcomes.{outcome_of}
+use Rattle.replay.specs.gateway_rules.Session.{IsServed}
+use Rattle.replay.specs.gateway_rules.Works.{mark_of}
 use Rattle.sru_reply.specs.Bare.{bare}
 use Rattle.sru_reply.specs.declared.bare.Refusal.{Refusal}
 use Rattle.sru_reply.specs.declared.bare.Refusal.TheVariants.{BadRequest, MethodNotAllowed, NotFound}
@@ -29,22 +29,22 @@ use Rattle.sru_request.specs.declared.faults.HeadFault.TheVariants.{BadHttp, Hea
 use Rattle.sru_request.specs.declared.head.Get.{Get}
 use Rattle.sru_request.specs.declared.head.HeadGot.{HeadGot}
 use Rattle.sru_request.specs.declared.head.HeadGot.TheVariants.{Got, NeedMore}
-use Rattle.sru_rules.specs.Answers.{Answers, AnswersAs, Ended}
-use Rattle.sru_rules.specs.Asking.{search_work}
-use Rattle.sru_rules.specs.Course.{Course, GetLeadsTo, HasGet, HeadLeadsTo, IsCourse, answers, database_of, ends}
-use Rattle.sru_rules.specs.Laws.{HasOneCourse}
-use Rattle.sru_rules.specs.Reading.{Reading}
-use Rattle.sru_rules.specs.Run.{Due, at_once, due, next_of, run, searches}
-use Rattle.sru_rules.specs.Settling.{Next, after_search, answered, fetch_answer, fetches}
-use Rattle.sru_rules.specs.declared.retrieval.Retrieval.{Retrieval}
-use Rattle.front_sru.specs.Gets.{IsBegunAt, IsDueDone, IsEnded, IsFoundBegun, IsNextDone, IsPut, Served, next_behind}
-use Rattle.front_sru.specs.Kept.{fetching}
-use Rattle.front_sru.specs.declared.begun.Begun.{Begun}
-use Rattle.front_sru.specs.declared.begun.Begun.TheVariants as begun
-use Rattle.front_sru.specs.declared.state.SruStage.{SruStage}
-use Rattle.front_sru.specs.declared.state.SruStage.TheVariants.{Fetching, Searching}
-use Rattle.front_http.specs.Heads.{IsFaultBegun, IsHeadBegun, IsRefusedBy}
-use Rattle.front_http.specs.Seeking.{IsHeadOf}
+use Rattle.replay.specs.sru_rules.Answers.{Answers, AnswersAs, Ended}
+use Rattle.replay.specs.sru_rules.Asking.{search_work}
+use Rattle.replay.specs.sru_rules.Course.{Course, GetLeadsTo, HasGet, HeadLeadsTo, IsCourse, answers, database_of, ends}
+use Rattle.replay.specs.sru_rules.Laws.{HasOneCourse}
+use Rattle.replay.specs.sru_rules.Reading.{Reading}
+use Rattle.replay.specs.sru_rules.Run.{Due, at_once, due, next_of, run, searches}
+use Rattle.replay.specs.sru_rules.Settling.{Next, after_search, answered, fetch_answer, fetches}
+use Rattle.replay.specs.sru_rules.declared.retrieval.Retrieval.{Retrieval}
+use Rattle.replay.specs.front_sru.Gets.{IsBegunAt, IsDueDone, IsEnded, IsFoundBegun, IsNextDone, IsPut, Served, next_behind}
+use Rattle.replay.specs.front_sru.Kept.{fetching}
+use Rattle.replay.specs.front_sru.declared.begun.Begun.{Begun}
+use Rattle.replay.specs.front_sru.declared.begun.Begun.TheVariants as begun
+use Rattle.replay.specs.front_sru.declared.state.SruStage.{SruStage}
+use Rattle.replay.specs.front_sru.declared.state.SruStage.TheVariants.{Fetching, Searching}
+use Rattle.replay.specs.front_http.Heads.{IsFaultBegun, IsHeadBegun, IsRefusedBy}
+use Rattle.replay.specs.front_http.Seeking.{IsHeadOf}
 use Rattle.replay_shares.specs.Works.{AskByHead, works_of_due, works_of_http, works_of_next}
 
 -- ---- a head that has come

@@ -9,8 +9,8 @@ use Rattle.z_types.specs.declared.work.Work.{Work}
 use Rattle.z_types.specs.declared.work.Work.TheVariants as work
 use Rattle.route_config.specs.declared.route.Route.{Route}
 use Rattle.route_config.specs.declared.route.RouteLeg.{RouteLeg}
-use Rattle.leg.specs.Terms.{class_of}
-use Rattle.package_rules.specs.Planned.{AreThere, legs_named}
+use Rattle.package_shares.specs.leg.Terms.{class_of}
+use Rattle.package_shares.specs.package_rules.Planned.{AreThere, legs_named}
 use Rattle.sharing_rules.specs.Orderly.{keys_used}
 use Rattle.sharing_rules.specs.Uses.{Use, uses_by}
 use Rattle.sharing_rules.specs.steps.Shared.{AreInOrder}

@@ -8,9 +8,9 @@ use Rattle.gw_outside.specs.Happened.{AreQuiet}
 use Rattle.route_config.specs.Sound.{IsSound}
 use Rattle.route_config.specs.declared.route.Route.{Route}
 use Rattle.pool_sets.specs.Plain.{Pool}
-use Rattle.front_conn.specs.steps.Answering.{Outside}
+use Rattle.replay.specs.front_conn.steps.Answering.{Outside}
 use Rattle.sharing_rules.specs.steps.Shared.{pool_of}
-use Rattle.package_quiet.specs.steps.Whole.{IsWholePool}
+use Rattle.package_shares.specs.package_quiet.steps.Whole.{IsWholePool}
 use Rattle.script.specs.Events.{AreEvents}
 use Rattle.script.specs.declared.event.Event.{Event}
 use Rattle.replay.specs.Trace.{IsRunOf}

@@ -14,7 +14,7 @@ use Rattle.test_target.specs.contracts.worlds.TestWorldWorld.TheImpl as test_wor
 use Rattle.script.specs.declared.event.Event.TheVariants.{Feed, End, Run, Tick, Gone}
 use Rattle.sharing_rules.specs.Needed.{dials_needed, needed}
 use Rattle.sharing_rules.specs.Uses.{uses_of}
-use Rattle.sru_rules.specs.Run.{searches}
+use Rattle.replay.specs.sru_rules.Run.{searches}
 use Rattle.replay.specs.Trace.{closing}
 use Rattle.replay_shares.specs.Orderly.{ClientRun, are_run, dated_works, is_calm, works_added}
 use Rattle.replay_shares.specs.Works.{works_of_due, works_of_units}

@@ -7,12 +7,12 @@ use Rattle.std.proofs.lemmas.List.{get_or-set_other, length-map, take_all, take_
 use Rattle.std.proofs.lemmas.List.Sums.{sum_by-append, sum_by-cons}
 use Rattle.std.proofs.lemmas.Option.{unwrap_or-slice_get}
 use Rattle.z_types.specs.Bounds.{within64}
-use Rattle.gateway_rules.specs.OneAnswer.{AreMarksPlain}
+use Rattle.replay.specs.gateway_rules.OneAnswer.{AreMarksPlain}
 use Rattle.route_config.specs.declared.route.Class.{Class}
 use Rattle.route_config.specs.declared.route.Route.{Route}
-use Rattle.front_conn.specs.declared.totals.Total.{Total}
-use Rattle.front_conn_costs.specs.steps.Conns.{in_total}
-use Rattle.front_conn_costs.specs.steps.Numbers.{Number, dials, faults, gones, searches}
+use Rattle.replay.specs.front_conn.declared.totals.Total.{Total}
+use Rattle.replay.specs.front_conn_costs.steps.Conns.{in_total}
+use Rattle.replay.specs.front_conn_costs.steps.Numbers.{Number, dials, faults, gones, searches}
 use Rattle.replay.specs.Classes.{costless, costs_after, costs_of, costs_with, nameless, with_total}
 use Rattle.replay.specs.Clients.{ClientState, client_at, client_or_new}
 use Rattle.replay.specs.Counts.{in_class}

@@ -13,11 +13,11 @@ use Rattle.z_types.specs.declared.work.Work.{Work}
 use Rattle.z_types.specs.declared.world.World as world
 use Rattle.route_config.specs.Sound.{IsSound}
 use Rattle.route_config.specs.declared.route.Route.{Route}
-use Rattle.gateway_rules.specs.Fair.{IsFair}
-use Rattle.gateway_rules.specs.OneAnswer.{AreMarksPlain}
-use Rattle.leg.specs.Terms.{members_of}
-use Rattle.front_conn.specs.steps.Answering.{Outside}
-use Rattle.front_conn.specs.steps.Feeding.{fed_piece}
+use Rattle.replay.specs.gateway_rules.Fair.{IsFair}
+use Rattle.replay.specs.gateway_rules.OneAnswer.{AreMarksPlain}
+use Rattle.package_shares.specs.leg.Terms.{members_of}
+use Rattle.replay.specs.front_conn.steps.Answering.{Outside}
+use Rattle.replay.specs.front_conn.steps.Feeding.{fed_piece}
 use Rattle.script.specs.declared.event.Event.{Event}
 use Rattle.script.specs.declared.event.Event.TheVariants.{Feed, End, Step, Run, Tick, Gone, Cut, Slow}
 use Rattle.script.specs.Events.{AreEvents, IsClient, client_of, fed, has_ended, most_clients}
@@ -25,8 +25,8 @@ use Rattle.sharing_rules.specs.Needed.{count_after}
 use Rattle.sharing_rules.specs.Uses.{DatedWork, Use, uses_of}
 use Rattle.sharing_rules.specs.steps.Shared.{AreInOrder, of_class}
 use Rattle.sharing_rules.proofs.PoolUses.{kept_later}
-use Rattle.front_conn_costs.specs.steps.Numbers.{Number, dials, searches}
-use Rattle.package_quiet.specs.steps.Quiet.{IsCalm}
+use Rattle.replay.specs.front_conn_costs.steps.Numbers.{Number, dials, searches}
+use Rattle.package_shares.specs.package_quiet.steps.Quiet.{IsCalm}
 use Rattle.package_shares.specs.steps.Requests.{behind}
 use Rattle.replay.specs.Classes.{costless, nameless}
 use Rattle.replay.specs.Clients.{AreNone, ClientState, client_at, client_or_new}

@@ -6,12 +6,12 @@ use Rattle.std.proofs.lemmas.List.FromFn.{get_or-range_with_len}
 use Rattle.std.proofs.lemmas.List.Sums.{sum_by-cons}
 use Rattle.z_types.specs.Bounds.{within64}
 use Rattle.route_config.specs.declared.route.Route.{Route}
-use Rattle.leg.specs.declared.accounts.Account.{Account}
-use Rattle.front_conn.specs.declared.totals.Total.{Total}
-use Rattle.front_conn.specs.steps.Totals.{no_total, totals_after, totals_with, with_account}
-use Rattle.front_conn_costs.specs.steps.Conns.{AreTotalsOf, in_total}
-use Rattle.front_conn_costs.specs.steps.Numbers.{Number, dials, faults, gones, in_account, searches}
-use Rattle.front_conn_costs.proofs.TotalLemmas.{after-classes, all-classes, place-added}
+use Rattle.package_shares.specs.leg.declared.accounts.Account.{Account}
+use Rattle.replay.specs.front_conn.declared.totals.Total.{Total}
+use Rattle.replay.specs.front_conn.steps.Totals.{no_total, totals_after, totals_with, with_account}
+use Rattle.replay.specs.front_conn_costs.steps.Conns.{AreTotalsOf, in_total}
+use Rattle.replay.specs.front_conn_costs.steps.Numbers.{Number, dials, faults, gones, in_account, searches}
+use Rattle.replay.proofs.front_conn_costs.TotalLemmas.{after-classes, all-classes, place-added}
 use Rattle.replay_shares.specs.steps.Costs.{cost_in, cost_on}
 
 added : (number : Number) (account : Account) (total : Total)

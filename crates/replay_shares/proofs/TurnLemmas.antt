@@ -10,23 +10,23 @@ use Rattle.z_types.specs.declared.work.Work.{Work}
 use Rattle.z_types.specs.declared.world.World as world
 use Rattle.route_config.specs.Sound.{IsSound}
 use Rattle.route_config.specs.declared.route.Route.{Route}
-use Rattle.gateway_rules.specs.Fair.{IsFair}
-use Rattle.gateway_rules.specs.Marks.{Cause, plain}
-use Rattle.gateway_rules.specs.OneAnswer.{AreMarksPlain}
-use Rattle.leg.specs.LegView.{LegView}
-use Rattle.leg.specs.declared.answers.Turned.{Turned}
-use Rattle.leg.specs.declared.answers.Turned.TheVariants as turned
-use Rattle.package.specs.steps.Drives.{PackageAt}
-use Rattle.package.specs.steps.Ends.{cause_in}
-use Rattle.package.specs.steps.Packages.{IsOver, IsPackageOf, PackageView, accounts_of, all_accounts, new_package}
-use Rattle.package.specs.steps.Turns.{IsPackageTurn}
-use Rattle.front_conn.specs.declared.totals.Total.{Total}
-use Rattle.front_conn.specs.steps.Answering.{Outside}
-use Rattle.front_conn.specs.steps.Totals.{totals_after}
+use Rattle.replay.specs.gateway_rules.Fair.{IsFair}
+use Rattle.replay.specs.gateway_rules.Marks.{Cause, plain}
+use Rattle.replay.specs.gateway_rules.OneAnswer.{AreMarksPlain}
+use Rattle.package_shares.specs.leg.LegView.{LegView}
+use Rattle.package_shares.specs.leg.declared.answers.Turned.{Turned}
+use Rattle.package_shares.specs.leg.declared.answers.Turned.TheVariants as turned
+use Rattle.package_shares.specs.package.steps.Drives.{PackageAt}
+use Rattle.package_shares.specs.package.steps.Ends.{cause_in}
+use Rattle.package_shares.specs.package.steps.Packages.{IsOver, IsPackageOf, PackageView, accounts_of, all_accounts, new_package}
+use Rattle.package_shares.specs.package.steps.Turns.{IsPackageTurn}
+use Rattle.replay.specs.front_conn.declared.totals.Total.{Total}
+use Rattle.replay.specs.front_conn.steps.Answering.{Outside}
+use Rattle.replay.specs.front_conn.steps.Totals.{totals_after}
 use Rattle.sharing_rules.specs.Needed.{count_after}
 use Rattle.sharing_rules.specs.Uses.{Use, uses_by, uses_of}
-use Rattle.front_conn_costs.specs.steps.Numbers.{Number, dials, faults, gones, searches}
-use Rattle.front_conn_costs.proofs.TotalLemmas.{after-classes, made-classes}
+use Rattle.replay.specs.front_conn_costs.steps.Numbers.{Number, dials, faults, gones, searches}
+use Rattle.replay.proofs.front_conn_costs.TotalLemmas.{after-classes, made-classes}
 use Rattle.package_shares.specs.steps.Requests.{AreTurns, HasShared, IsTurnTo, MayWork, RequestsShare, behind, uses_at}
 use Rattle.package_shares.specs.steps.Together.{AreAllKept, AreUndisturbed}
 use Rattle.replay_shares.specs.Orderly.{dated}

@@ -10,26 +10,26 @@ use Rattle.z_types.specs.declared.work.Work.{Work}
 use Rattle.z_types.specs.declared.world.World as world
 use Rattle.route_config.specs.Sound.{IsSound}
 use Rattle.route_config.specs.declared.route.Route.{Route}
-use Rattle.gateway_rules.specs.Answers as kind
-use Rattle.gateway_rules.specs.Answers.{IsReceived, Kind, kind_of}
-use Rattle.gateway_rules.specs.Course.{Received, course, octets_of}
-use Rattle.gateway_rules.specs.Fair.{IsFair}
-use Rattle.gateway_rules.specs.OneAnswer.{AreMarksPlain}
-use Rattle.gateway_rules.specs.Session as session
-use Rattle.gateway_rules.specs.Session.{IsServed, Run, Stop, run}
-use Rattle.gateway_rules.specs.State.{Progress, at_the_start, new_client}
-use Rattle.gateway_rules.proofs.OneEnding.{frame-filled}
-use Rattle.front_session.specs.Sessions.{progress_of}
-use Rattle.sru_rules.specs.Answers.{Answers, AnswersAs}
-use Rattle.package.specs.steps.Packages.{PackageView}
-use Rattle.leg.specs.declared.answers.Turned.{Turned}
-use Rattle.leg.specs.declared.answers.Turned.TheVariants as turned
-use Rattle.front_conn.specs.declared.stepped.Stepped.{Stepped}
-use Rattle.front_conn.specs.declared.stepped.Stepped.TheVariants.{Idle, NotYet, Went, Memory}
-use Rattle.front_conn.specs.declared.totals.Total.{Total}
-use Rattle.front_conn.specs.steps.Answering.{AnsweringState, IsEndAfter, Outside, WorksOn}
-use Rattle.front_conn.specs.steps.States.{ConnectionState, IsConnOf, IsStateOf, MayCome, Rests, StandsOrEnded}
-use Rattle.front_conn.specs.steps.Steps.{AreUnfinished, BeginsWithLetter, GoesAhead, NothingWaits, StepsFrom, answering_of}
+use Rattle.replay.specs.gateway_rules.Answers as kind
+use Rattle.replay.specs.gateway_rules.Answers.{IsReceived, Kind, kind_of}
+use Rattle.replay.specs.gateway_rules.Course.{Received, course, octets_of}
+use Rattle.replay.specs.gateway_rules.Fair.{IsFair}
+use Rattle.replay.specs.gateway_rules.OneAnswer.{AreMarksPlain}
+use Rattle.replay.specs.gateway_rules.Session as session
+use Rattle.replay.specs.gateway_rules.Session.{IsServed, Run, Stop, run}
+use Rattle.replay.specs.gateway_rules.State.{Progress, at_the_start, new_client}
+use Rattle.replay.proofs.gateway_rules.OneEnding.{frame-filled}
+use Rattle.replay.specs.front_session.Sessions.{progress_of}
+use Rattle.replay.specs.sru_rules.Answers.{Answers, AnswersAs}
+use Rattle.package_shares.specs.package.steps.Packages.{PackageView}
+use Rattle.package_shares.specs.leg.declared.answers.Turned.{Turned}
+use Rattle.package_shares.specs.leg.declared.answers.Turned.TheVariants as turned
+use Rattle.replay.specs.front_conn.declared.stepped.Stepped.{Stepped}
+use Rattle.replay.specs.front_conn.declared.stepped.Stepped.TheVariants.{Idle, NotYet, Went, Memory}
+use Rattle.replay.specs.front_conn.declared.totals.Total.{Total}
+use Rattle.replay.specs.front_conn.steps.Answering.{AnsweringState, IsEndAfter, Outside, WorksOn}
+use Rattle.replay.specs.front_conn.steps.States.{ConnectionState, IsConnOf, IsStateOf, MayCome, Rests, StandsOrEnded}
+use Rattle.replay.specs.front_conn.steps.Steps.{AreUnfinished, BeginsWithLetter, GoesAhead, NothingWaits, StepsFrom, answering_of}
 use Rattle.sharing_rules.specs.Needed.{count_after}
 use Rattle.sharing_rules.specs.Uses.{Use, uses_of}
 use Rattle.sharing_rules.specs.steps.Shared.{AreInOrder}

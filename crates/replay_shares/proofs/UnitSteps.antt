@@ -10,32 +10,32 @@ use Rattle.z_types.specs.declared.work.Work.{Work}
 use Rattle.z_types.specs.declared.world.World as world
 use Rattle.route_config.specs.Sound.{IsSound}
 use Rattle.route_config.specs.declared.route.Route.{Route}
-use Rattle.gateway_rules.specs.Answers as kind
-use Rattle.gateway_rules.specs.Answers.{kind_of}
-use Rattle.gateway_rules.specs.Asking as asking
-use Rattle.gateway_rules.specs.Asking.{Asking, asked_with}
-use Rattle.gateway_rules.specs.Course as at
-use Rattle.gateway_rules.specs.Course.{Meeting, met, octets_of}
-use Rattle.gateway_rules.specs.Fair.{IsFair}
-use Rattle.gateway_rules.specs.OneAnswer.{AreMarksPlain}
-use Rattle.gateway_rules.proofs.OneEnding.{frame-filled}
-use Rattle.front_session.specs.Admitting.{hits_named}
-use Rattle.front_session.specs.Sessions.{client_of, progress_of}
-use Rattle.front_z.specs.Units.{IsBegun, IsDueBegun, IsMetBegun, Served}
-use Rattle.front_z.specs.declared.units.Begun.{Begun}
-use Rattle.front_z.specs.declared.units.Begun.TheVariants as begun
-use Rattle.front_sru.specs.declared.state.SruStage.{SruStage}
-use Rattle.front_sru.specs.declared.state.SruStage.TheVariants as stage
-use Rattle.package.specs.steps.Ends.{cause_in}
-use Rattle.package.specs.steps.Packages.{IsPackageOf, PackageView, new_package}
-use Rattle.front_conn.specs.declared.stepped.Stepped.{Stepped}
-use Rattle.front_conn.specs.declared.stepped.Stepped.TheVariants.{Idle, NotYet, Went, Memory}
-use Rattle.front_conn.specs.declared.totals.Total.{Total}
-use Rattle.front_conn.specs.steps.Answering.{AnsweringState, EndsAt, IsKeptBehind, IsRequestEndedIf, Outside, served}
-use Rattle.front_conn.specs.steps.Feeding.{without_out}
-use Rattle.front_conn.specs.steps.States.{ConnectionState, IsConnOf, IsStateOf, Rests, StandsOrEnded, WorksAt}
-use Rattle.front_conn.specs.steps.Steps.{AreUnfinished, EndsByRest, GoesAhead, HasTurned, IsStepped, KeepsState, StepsFrom, TakesHead, TakesUnit, UnlessMemory, answering_of}
-use Rattle.front_conn.specs.steps.Totals.{totals_for}
+use Rattle.replay.specs.gateway_rules.Answers as kind
+use Rattle.replay.specs.gateway_rules.Answers.{kind_of}
+use Rattle.replay.specs.gateway_rules.Asking as asking
+use Rattle.replay.specs.gateway_rules.Asking.{Asking, asked_with}
+use Rattle.replay.specs.gateway_rules.Course as at
+use Rattle.replay.specs.gateway_rules.Course.{Meeting, met, octets_of}
+use Rattle.replay.specs.gateway_rules.Fair.{IsFair}
+use Rattle.replay.specs.gateway_rules.OneAnswer.{AreMarksPlain}
+use Rattle.replay.proofs.gateway_rules.OneEnding.{frame-filled}
+use Rattle.replay.specs.front_session.Admitting.{hits_named}
+use Rattle.replay.specs.front_session.Sessions.{client_of, progress_of}
+use Rattle.replay.specs.front_z.Units.{IsBegun, IsDueBegun, IsMetBegun, Served}
+use Rattle.replay.specs.front_z.declared.units.Begun.{Begun}
+use Rattle.replay.specs.front_z.declared.units.Begun.TheVariants as begun
+use Rattle.replay.specs.front_sru.declared.state.SruStage.{SruStage}
+use Rattle.replay.specs.front_sru.declared.state.SruStage.TheVariants as stage
+use Rattle.package_shares.specs.package.steps.Ends.{cause_in}
+use Rattle.package_shares.specs.package.steps.Packages.{IsPackageOf, PackageView, new_package}
+use Rattle.replay.specs.front_conn.declared.stepped.Stepped.{Stepped}
+use Rattle.replay.specs.front_conn.declared.stepped.Stepped.TheVariants.{Idle, NotYet, Went, Memory}
+use Rattle.replay.specs.front_conn.declared.totals.Total.{Total}
+use Rattle.replay.specs.front_conn.steps.Answering.{AnsweringState, EndsAt, IsKeptBehind, IsRequestEndedIf, Outside, served}
+use Rattle.replay.specs.front_conn.steps.Feeding.{without_out}
+use Rattle.replay.specs.front_conn.steps.States.{ConnectionState, IsConnOf, IsStateOf, Rests, StandsOrEnded, WorksAt}
+use Rattle.replay.specs.front_conn.steps.Steps.{AreUnfinished, EndsByRest, GoesAhead, HasTurned, IsStepped, KeepsState, StepsFrom, TakesHead, TakesUnit, UnlessMemory, answering_of}
+use Rattle.replay.specs.front_conn.steps.Totals.{totals_for}
 use Rattle.sharing_rules.specs.Uses.{DatedWork, Use}
 use Rattle.sharing_rules.specs.steps.Shared.{AreInOrder}
 use Rattle.package_shares.specs.steps.Requests.{MayWork, behind}

@@ -19,33 +19,33 @@ use Rattle.z_types.specs.declared.world.World as world
 use Rattle.route_config.specs.Sound.{IsSound}
 use Rattle.route_config.specs.declared.route.Route.{Route}
 use Rattle.route_config.specs.declared.route.RouteLeg.{RouteLeg}
-use Rattle.gateway_rules.specs.Fair.{IsFair}
-use Rattle.gateway_rules.specs.OneAnswer.{AreMarksPlain}
-use Rattle.leg.specs.LegView.{LegView}
-use Rattle.leg.specs.Kept.{StandsAt}
-use Rattle.leg.specs.Phases.{answered}
-use Rattle.leg.specs.Terms.{class_of, terms_of}
-use Rattle.leg.specs.Turns.{IsLegOf}
-use Rattle.leg.specs.declared.answers.LegAnswer.{LegAnswer}
-use Rattle.leg.specs.declared.phases.Phase.{Phase}
-use Rattle.leg.specs.declared.phases.Phase.TheVariants.{Begin, Dialling, Dialled, Ready, Searching, Presenting, Fetching, Scanning, Returning, Losing, Redialling, Spoiled, Done, Ended}
-use Rattle.leg.specs.declared.answers.Turned.{Turned}
-use Rattle.leg.specs.declared.answers.Turned.TheVariants as turned
-use Rattle.package_rules.specs.Planned.{AreThere}
-use Rattle.package.specs.steps.Ends.{cause_in}
-use Rattle.package.specs.steps.Packages.{HasFitting, IsOver, IsPackageOf, PackageView, accounts_of, all_accounts, new_package}
-use Rattle.package.specs.steps.Turns.{IsPackageTurn}
-use Rattle.front_conn.specs.declared.stepped.Stepped.{Stepped}
-use Rattle.front_conn.specs.declared.stepped.Stepped.TheVariants.{Idle, Memory}
-use Rattle.front_conn.specs.declared.totals.Total.{Total}
-use Rattle.front_conn.specs.steps.Answering.{AnsweringState, EndsAt, EndsWork, IsEndAfter, Outside, TurnsWork, WorksOn}
-use Rattle.front_conn.specs.steps.Totals.{no_total, totals_for}
+use Rattle.replay.specs.gateway_rules.Fair.{IsFair}
+use Rattle.replay.specs.gateway_rules.OneAnswer.{AreMarksPlain}
+use Rattle.package_shares.specs.leg.LegView.{LegView}
+use Rattle.package_shares.specs.leg.Kept.{StandsAt}
+use Rattle.package_shares.specs.leg.Phases.{answered}
+use Rattle.package_shares.specs.leg.Terms.{class_of, terms_of}
+use Rattle.package_shares.specs.leg.Turns.{IsLegOf}
+use Rattle.package_shares.specs.leg.declared.answers.LegAnswer.{LegAnswer}
+use Rattle.package_shares.specs.leg.declared.phases.Phase.{Phase}
+use Rattle.package_shares.specs.leg.declared.phases.Phase.TheVariants.{Begin, Dialling, Dialled, Ready, Searching, Presenting, Fetching, Scanning, Returning, Losing, Redialling, Spoiled, Done, Ended}
+use Rattle.package_shares.specs.leg.declared.answers.Turned.{Turned}
+use Rattle.package_shares.specs.leg.declared.answers.Turned.TheVariants as turned
+use Rattle.package_shares.specs.package_rules.Planned.{AreThere}
+use Rattle.package_shares.specs.package.steps.Ends.{cause_in}
+use Rattle.package_shares.specs.package.steps.Packages.{HasFitting, IsOver, IsPackageOf, PackageView, accounts_of, all_accounts, new_package}
+use Rattle.package_shares.specs.package.steps.Turns.{IsPackageTurn}
+use Rattle.replay.specs.front_conn.declared.stepped.Stepped.{Stepped}
+use Rattle.replay.specs.front_conn.declared.stepped.Stepped.TheVariants.{Idle, Memory}
+use Rattle.replay.specs.front_conn.declared.totals.Total.{Total}
+use Rattle.replay.specs.front_conn.steps.Answering.{AnsweringState, EndsAt, EndsWork, IsEndAfter, Outside, TurnsWork, WorksOn}
+use Rattle.replay.specs.front_conn.steps.Totals.{no_total, totals_for}
 use Rattle.sharing_rules.specs.Needed.{count_after}
 use Rattle.sharing_rules.specs.Uses.{DatedWork, Use, uses_of}
 use Rattle.sharing_rules.specs.steps.Shared.{AreInOrder}
-use Rattle.front_conn_costs.specs.steps.Conns.{AreTotalsOf, in_total}
-use Rattle.front_conn_costs.specs.steps.Numbers.{Number, dials, faults, gones, searches}
-use Rattle.front_conn_costs.proofs.TotalLemmas.{after-classes, made-classes}
+use Rattle.replay.specs.front_conn_costs.steps.Conns.{AreTotalsOf, in_total}
+use Rattle.replay.specs.front_conn_costs.steps.Numbers.{Number, dials, faults, gones, searches}
+use Rattle.replay.proofs.front_conn_costs.TotalLemmas.{after-classes, made-classes}
 use Rattle.package_shares.specs.steps.Requests.{MayWork, RequestsShare, behind}
 use Rattle.replay_shares.specs.Orderly.{dated}
 use Rattle.replay_shares.specs.steps.Costs.{cost_in, cost_on, is_needed}

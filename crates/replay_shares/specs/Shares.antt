@@ -7,7 +7,7 @@ use Rattle.z_types.specs.declared.world.World as world
 use Rattle.gw_outside.specs.Counts.{Counts}
 use Rattle.gw_outside.specs.Happened.{Happened, IsQuietWire}
 use Rattle.route_config.specs.declared.route.Route.{Route}
-use Rattle.gateway_rules.specs.Fair.{IsFair}
+use Rattle.replay.specs.gateway_rules.Fair.{IsFair}
 use Rattle.script.specs.declared.event.Event.{Event}
 use Rattle.sharing_rules.specs.Needed.{dials_needed, needed}
 use Rattle.sharing_rules.specs.Uses.{Use, uses_of}

@@ -6,23 +6,23 @@ use Rattle.std.specs.List.{AllByRecursion}
 use Rattle.z_types.specs.declared.work.Work.{Work}
 use Rattle.z_types.specs.declared.world.World as world
 use Rattle.route_config.specs.declared.route.Route.{Route}
-use Rattle.gateway_rules.specs.Answers.{IsReceived, Kind, empty, letter, unit, kind_of}
-use Rattle.gateway_rules.specs.Course as course
-use Rattle.gateway_rules.specs.Course.{Course, Received, octets_of}
-use Rattle.gateway_rules.specs.Marks.{plain}
-use Rattle.gateway_rules.specs.Session.{answered}
-use Rattle.gateway_rules.specs.State.{ClientState, at_the_start, new_client}
+use Rattle.replay.specs.gateway_rules.Answers.{IsReceived, Kind, empty, letter, unit, kind_of}
+use Rattle.replay.specs.gateway_rules.Course as course
+use Rattle.replay.specs.gateway_rules.Course.{Course, Received, octets_of}
+use Rattle.replay.specs.gateway_rules.Marks.{plain}
+use Rattle.replay.specs.gateway_rules.Session.{answered}
+use Rattle.replay.specs.gateway_rules.State.{ClientState, at_the_start, new_client}
 use Rattle.sru_request.specs.Request.{IsHeadAnswer}
 use Rattle.sru_request.specs.declared.faults.HeadFault.{HeadFault}
 use Rattle.sru_request.specs.declared.head.HeadGot.{HeadGot}
 use Rattle.sru_request.specs.declared.head.HeadGot.TheVariants.{NeedMore}
-use Rattle.sru_rules.specs.Asking.{search_work}
-use Rattle.sru_rules.specs.Course as http
-use Rattle.sru_rules.specs.Course.{HeadLeadsTo}
-use Rattle.sru_rules.specs.Run as sru
-use Rattle.sru_rules.specs.Run.{Due, due, next_of}
-use Rattle.sru_rules.specs.Settling as next
-use Rattle.sru_rules.specs.Settling.{Next}
+use Rattle.replay.specs.sru_rules.Asking.{search_work}
+use Rattle.replay.specs.sru_rules.Course as http
+use Rattle.replay.specs.sru_rules.Course.{HeadLeadsTo}
+use Rattle.replay.specs.sru_rules.Run as sru
+use Rattle.replay.specs.sru_rules.Run.{Due, due, next_of}
+use Rattle.replay.specs.sru_rules.Settling as next
+use Rattle.replay.specs.sru_rules.Settling.{Next}
 use Rattle.front_conn_works.specs.Works.{work_of}
 
 -- ---- units

@@ -10,17 +10,17 @@ use Rattle.pool_sets.specs.Plain.{Pool}
 use Rattle.route_config.specs.declared.route.Route.{Route}
 use Rattle.z_client.specs.Counts.{counts_over}
 use Rattle.z_client.specs.declared.own.Own.{Own}
-use Rattle.front_conn.specs.steps.Answering.{Outside}
-use Rattle.front_conn_costs.specs.steps.Growth.{RisesAsMuch, RisesEnough, last64}
-use Rattle.front_conn_costs.specs.steps.Numbers.{dials, full}
+use Rattle.replay_shares.specs.front_conn.steps.Answering.{Outside}
+use Rattle.replay_shares.specs.front_conn_costs.steps.Growth.{RisesAsMuch, RisesEnough, last64}
+use Rattle.replay_shares.specs.front_conn_costs.steps.Numbers.{dials, full}
 use Rattle.script.specs.declared.event.Event.{Event}
-use Rattle.replay.specs.Counts.{AreDialled, AreSums, HaveCauses, in_classes, met_for}
-use Rattle.replay.specs.Trace.{IsRunOf}
-use Rattle.replay.specs.declared.reports.Report.{Report}
-use Rattle.replay.proofs.FullLemmas.{IsToldFull}
-use Rattle.replay.proofs.MovesLemmas.{IsNewPool, run-breaches, run-full}
-use Rattle.replay.proofs.RunKeeps.{most_of, run-most}
-use Rattle.replay.proofs.WireLemmas.{over_breaches}
+use Rattle.replay_shares.specs.replay.Counts.{AreDialled, AreSums, HaveCauses, in_classes, met_for}
+use Rattle.replay_shares.specs.replay.Trace.{IsRunOf}
+use Rattle.replay_shares.specs.replay.declared.reports.Report.{Report}
+use Rattle.replay_shares.proofs.replay.FullLemmas.{IsToldFull}
+use Rattle.replay_shares.proofs.replay.MovesLemmas.{IsNewPool, run-breaches, run-full}
+use Rattle.replay_shares.proofs.replay.RunKeeps.{most_of, run-most}
+use Rattle.replay_shares.proofs.replay.WireLemmas.{over_breaches}
 use Rattle.replay_top.specs.Paid.{AreLinksBelowEnd, IsFullPaid}
 
 -- ---- numbers

@@ -4,10 +4,10 @@ use Rattle.std.specs.Prelude.{IfOk}
 use Rattle.z_types.specs.declared.world.World as world
 use Rattle.route_config.specs.declared.route.Route.{Route}
 use Rattle.script.specs.declared.event.Event.{Event}
-use Rattle.replay.specs.declared.reports.Report.{Report}
-use Rattle.replay.specs.Report.{IsReportOf}
-use Rattle.replay.specs.Undisturbed.{IsUntroubledIf}
-use Rattle.replay.specs.Wires.{IsCountedBy}
+use Rattle.replay_shares.specs.replay.declared.reports.Report.{Report}
+use Rattle.replay_shares.specs.replay.Report.{IsReportOf}
+use Rattle.replay_shares.specs.replay.Undisturbed.{IsUntroubledIf}
+use Rattle.replay_shares.specs.replay.Wires.{IsCountedBy}
 use Rattle.replay_laws.specs.Borne.{IsBorneIf, WentThrough}
 use Rattle.replay_shares.specs.Shares.{SharesIfOrderlyOver}
 use Rattle.replay_top.specs.Outside.{WireCalls}

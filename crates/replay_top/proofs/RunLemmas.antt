@@ -7,11 +7,11 @@ use Rattle.gw_outside.specs.Counts.{Counts}
 use Rattle.gw_outside.specs.Happened.{AreQuiet, Happened}
 use Rattle.pool_core.specs.PoolView.{PoolView, counts_of, new_pool}
 use Rattle.route_config.specs.declared.route.Route.{Route}
-use Rattle.leg.specs.Turns.{DoorView}
+use Rattle.replay_shares.specs.leg.Turns.{DoorView}
 use Rattle.sharing_rules.specs.steps.Shared.{pool_of}
 use Rattle.script.specs.declared.event.Event.{Event}
-use Rattle.replay.specs.Undisturbed.{IsUntroubledIf}
-use Rattle.replay.specs.declared.reports.Report.{Report}
+use Rattle.replay_shares.specs.replay.Undisturbed.{IsUntroubledIf}
+use Rattle.replay_shares.specs.replay.declared.reports.Report.{Report}
 use Rattle.replay_laws.specs.Borne.{WentThrough, IsBorneIf, new_door}
 use Rattle.replay_laws.proofs.WireLemmas.{through_as_lent}
 use Rattle.replay_shares.specs.Shares.{SharesIfOrderlyOver}

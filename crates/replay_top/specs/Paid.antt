@@ -3,11 +3,11 @@ use Rattle.std.specs.Prelude.{◌≡◌, ℕ, ◌+◌, ◌≤◌, ◌<◌, Bool,
 use Rattle.z_types.specs.declared.world.World as world
 use Rattle.gw_outside.specs.Counts.{Counts}
 use Rattle.route_config.specs.declared.route.Route.{Route}
-use Rattle.front_conn_costs.specs.steps.Growth.{last64}
-use Rattle.front_conn_costs.specs.steps.Numbers.{dials, full}
-use Rattle.replay.specs.Counts.{in_classes, met_for}
-use Rattle.replay.specs.Wires.{AreTold}
-use Rattle.replay.specs.declared.reports.Report.{Report}
+use Rattle.replay_shares.specs.front_conn_costs.steps.Growth.{last64}
+use Rattle.replay_shares.specs.front_conn_costs.steps.Numbers.{dials, full}
+use Rattle.replay_shares.specs.replay.Counts.{in_classes, met_for}
+use Rattle.replay_shares.specs.replay.Wires.{AreTold}
+use Rattle.replay_shares.specs.replay.declared.reports.Report.{Report}
 
 -- the count of links stands below its last value: the wire's own where it counts exactly, and else that of those that are reported
 abbrev pub AreLinksBelowEnd : (exact : Bool) → Report → (behind : Counts) → Type 0

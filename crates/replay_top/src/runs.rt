@@ -2,9 +2,9 @@
 
 ghost use Rattle.std.specs.Prelude.{◌≡◌, ℕ, IfOk, OnOk};
 ghost use Rattle.script.specs.Events.{AreEvents};
-ghost use Rattle.replay.specs.Report.{IsReportOf};
-ghost use Rattle.replay.specs.Undisturbed.{IsUntroubledIf};
-ghost use Rattle.replay.specs.Wires.{IsCountedBy};
+ghost use Rattle.replay_shares.specs.replay.Report.{IsReportOf};
+ghost use Rattle.replay_shares.specs.replay.Undisturbed.{IsUntroubledIf};
+ghost use Rattle.replay_shares.specs.replay.Wires.{IsCountedBy};
 ghost use Rattle.replay_laws.specs.Borne.{WentThrough, IsBorneIf};
 ghost use Rattle.replay_shares.specs.Shares.{SharesIfOrderlyOver};
 ghost use Rattle.replay_top.specs.Paid.{IsFullPaid};
@@ -12,7 +12,7 @@ ghost use Rattle.replay_top.specs.Paid.{IsFullPaid};
 use crate::lent::LentWire;
 use gw_outside::{Events, Wire};
 use pool_index::IndexedPool;
-use replay::{Report, run_over};
+use replay_shares::replay::{Report, run_over};
 use replay_laws::{borne_is_plain, borne_is_plain_or_full, quiet_disturbs_nobody};
 use replay_shares::scripts_share;
 use route_config::Route;

@@ -4,7 +4,7 @@
 use crate::words::numbers_of;
 use case_files::{Answer, NoAnswer, number_of};
 use front_session::cut_of;
-use gateway_rules::Sizes;
+use front_session::gateway_rules::Sizes;
 use std::alloc::Global;
 use z_types::{Fetched, Form, Item, List, NamedRecord, Oid, Text};
 

@@ -2,7 +2,7 @@
 //! digits, and the size; each has the referenceId `ab`, the exceptional size 7 and a login.
 
 use case_files::{Answer, NoAnswer};
-use gateway_rules::{init_reply, is_accepted};
+use front_session::gateway_rules::{init_reply, is_accepted};
 use std::alloc::Global;
 use z_types::{Init, Reply, Text};
 

@@ -5,7 +5,7 @@ ghost use Rattle.std.proofs.Math.Nat.{min-le_right};
 ghost use Rattle.z_types.specs.Bounds.{most_number};
 
 use case_files::{Answer, NoAnswer};
-use gateway_rules::{
+use front_session::gateway_rules::{
     fair_legs, one_answer, one_end, one_reading, rest_ends, runs_go_on, some_answer, units_end,
 };
 use z_types::World;

@@ -8,19 +8,19 @@ use Rattle.z_types.specs.declared.sitting.Sitting as sitting
 use Rattle.z_types.specs.declared.world.World as world
 use Rattle.route_config.specs.declared.route.Route.{Route}
 use Rattle.pool_sets.specs.Plain.{Pool}
-use Rattle.leg.specs.declared.answers.Turned.{Turned}
-use Rattle.leg.specs.declared.answers.Turned.TheVariants as turned
-use Rattle.package.specs.steps.Ends.{lost_seats}
-use Rattle.package.specs.steps.Packages.{PackageView}
-use Rattle.front_conn.specs.declared.stepped.Stepped.{Stepped}
-use Rattle.front_conn.specs.declared.stepped.Stepped.TheVariants.{Memory, Went}
-use Rattle.front_conn.specs.steps.Answering.{AnsweringState, Outside, WorksOn}
-use Rattle.front_conn.specs.steps.Drives as drives
-use Rattle.front_conn.specs.steps.Drives.{ConnAt, HasDriven, IsInWork, StepsTo, given_up_at}
-use Rattle.front_conn.specs.steps.States.{ConnectionState}
-use Rattle.front_conn.specs.steps.Steps.{StepsFrom, answering_of}
-use Rattle.front_conn_costs.specs.steps.Conns.{dues_on}
-use Rattle.front_conn_costs.specs.steps.Laws.{CostsNothing, PaysOn, StepsMeet, StepsOweFew, StepsPay}
+use Rattle.conn_served.specs.leg.declared.answers.Turned.{Turned}
+use Rattle.conn_served.specs.leg.declared.answers.Turned.TheVariants as turned
+use Rattle.conn_served.specs.package.steps.Ends.{lost_seats}
+use Rattle.conn_served.specs.package.steps.Packages.{PackageView}
+use Rattle.conn_served.specs.front_conn.declared.stepped.Stepped.{Stepped}
+use Rattle.conn_served.specs.front_conn.declared.stepped.Stepped.TheVariants.{Memory, Went}
+use Rattle.conn_served.specs.front_conn.steps.Answering.{AnsweringState, Outside, WorksOn}
+use Rattle.conn_served.specs.front_conn.steps.Drives as drives
+use Rattle.conn_served.specs.front_conn.steps.Drives.{ConnAt, HasDriven, IsInWork, StepsTo, given_up_at}
+use Rattle.conn_served.specs.front_conn.steps.States.{ConnectionState}
+use Rattle.conn_served.specs.front_conn.steps.Steps.{StepsFrom, answering_of}
+use Rattle.conn_served.specs.front_conn_costs.steps.Conns.{dues_on}
+use Rattle.conn_served.specs.front_conn_costs.steps.Laws.{CostsNothing, PaysOn, StepsMeet, StepsOweFew, StepsPay}
 use Rattle.conn_served.specs.Runs.{GoesOnTo}
 use Rattle.conn_served.specs.steps.Rounds.{GoesSo}
 use Rattle.z_types.proofs.ChainLemmas.{steps-nowhere}

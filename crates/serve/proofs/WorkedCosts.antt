@@ -3,9 +3,9 @@ use Rattle.std.proofs.Common.{◌≡◌, ◌∙◌, ℕ, ◌+◌, List, [], ◌�
 use Rattle.std.specs.List.{AllByRecursion}
 use Rattle.std.proofs.lemmas.List.Sums.{sum_by_push}
 use Rattle.route_config.specs.declared.route.PoolNumbers.{PoolNumbers}
-use Rattle.front_conn_costs.specs.steps.Growth.{RisesEnough}
-use Rattle.front_conn_costs.specs.steps.Ledgers.{Cost}
-use Rattle.front_conn_costs.proofs.GrowthLemmas.{as-both, enough-both}
+use Rattle.conn_served.specs.front_conn_costs.steps.Growth.{RisesEnough}
+use Rattle.conn_served.specs.front_conn_costs.steps.Ledgers.{Cost}
+use Rattle.conn_served.proofs.front_conn_costs.GrowthLemmas.{as-both, enough-both}
 use Rattle.conn_served.specs.Costs.{AreMarksOf, ArePaid, HaveCauses, Tally, needed, tallied, undialled}
 use Rattle.serve.specs.Working.{HaveCost, needed_by, undialled_by}
 use Rattle.conn_served.specs.declared.served.Served.{Served}

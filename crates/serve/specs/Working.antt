@@ -9,7 +9,7 @@ use Rattle.gw_outside.specs.declared.accepts.Accepted.TheVariants.{Connection}
 use Rattle.gw_outside.specs.declared.sinks.Sink as to
 use Rattle.gw_outside.specs.declared.sources.Source as from
 use Rattle.gw_outside.specs.Accepts.{IsNewConnection}
-use Rattle.front_conn_costs.specs.steps.Numbers.{Caused}
+use Rattle.conn_served.specs.front_conn_costs.steps.Numbers.{Caused}
 use Rattle.conn_served.specs.Costs.{AreMarksOf, AreMet, ArePaid, Tally, needed, undialled}
 use Rattle.conn_served.specs.Serving.{IsServed, streams}
 use Rattle.conn_served.specs.declared.served.Served.{Served}

@@ -8,3 +8,6 @@ mod working;
 
 pub use serving::serve_connection;
 pub use working::{Worked, Worker, work};
+
+// Handed on: crates above name these through this one.
+pub use conn_served;

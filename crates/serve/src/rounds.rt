@@ -7,18 +7,18 @@ ghost use Rattle.conn_served.specs.Serving.{SinkView, SourceView, Streams, sink_
 ghost use Rattle.conn_served.specs.Runs.{IsCalm};
 ghost use Rattle.conn_served.specs.steps.Rounds.{IsRound, IsWritten};
 ghost use Rattle.conn_served.specs.steps.Serving.{GoesOn, IsIdle, IsServing, IsWrittenOut};
-ghost use Rattle.front_conn.specs.steps.Drives.{IsInWork, conn_at};
-ghost use Rattle.front_conn.specs.steps.States.{IsConnOf};
-ghost use Rattle.front_conn.specs.steps.Steps.{NothingWaits};
+ghost use Rattle.conn_served.specs.front_conn.steps.Drives.{IsInWork, conn_at};
+ghost use Rattle.conn_served.specs.front_conn.steps.States.{IsConnOf};
+ghost use Rattle.conn_served.specs.front_conn.steps.Steps.{NothingWaits};
 
-use front_conn::{
+use conn_served::front_conn::{
     Conn, Stepped, stands_when_ended, stands_when_fed, stands_when_written, stays_of_route,
 };
-use front_conn_costs::{costs_nothing, pays_on, steps_cost, steps_meet, steps_owe_few, steps_pay};
+use conn_served::front_conn_costs::{costs_nothing, pays_on, steps_cost, steps_meet, steps_owe_few, steps_pay};
 use gw_outside::{Backend, Clock, Got, Sink, Source, write_all};
 use pool_sets::Door;
 use route_config::Route;
-use sru_rules::head_is_refused;
+use conn_served::sru_rules::head_is_refused;
 use std::alloc::Global;
 use std::sync::Wait;
 use z_types::{End, Sitting, World};

@@ -1,20 +1,20 @@
 //! Serves a connection: reads what its client sends, and writes the answers (ANSI/NISO Z39.50-2003, 4.2).
 
 ghost use Rattle.std.specs.Prelude.{◌≡◌};
-ghost use Rattle.front_session.specs.Sessions.{new_session};
+ghost use Rattle.conn_served.specs.front_session.Sessions.{new_session};
 ghost use Rattle.conn_served.specs.Costs.{AreMarksOf, ArePaid, HaveCauses, tally_of, undialled};
 ghost use Rattle.conn_served.specs.Serving.{IsServed, streams};
 ghost use Rattle.conn_served.specs.Runs.{IsRun};
 ghost use Rattle.conn_served.specs.Seats.{AreGivenBack};
 ghost use Rattle.conn_served.specs.steps.Rounds.{ComesTo};
-ghost use Rattle.front_conn.specs.steps.Drives.{conn_at, outside_of};
-ghost use Rattle.front_conn.specs.steps.States.{nothing_yet};
+ghost use Rattle.conn_served.specs.front_conn.steps.Drives.{conn_at, outside_of};
+ghost use Rattle.conn_served.specs.front_conn.steps.States.{nothing_yet};
 
 use crate::rounds::go_on;
 use conn_served::{Ascending, Served};
-use front_conn::{Conn, stands_at_start};
-use front_conn_costs::{costs_nothing, marks_are_met, pays_on, starts_costless};
-use front_conn_seats::{connections_give_back, steps_keep_seats};
+use conn_served::front_conn::{Conn, stands_at_start};
+use conn_served::front_conn_costs::{costs_nothing, marks_are_met, pays_on, starts_costless};
+use conn_served::front_conn_seats::{connections_give_back, steps_keep_seats};
 use gw_outside::{Backend, Clock, Sink, Source};
 use pool_sets::Door;
 use route_config::Route;

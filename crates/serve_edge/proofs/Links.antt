@@ -10,8 +10,8 @@ use Rattle.bytes.specs.contracts.unique.BytesMut as BytesMut
 use Rattle.bytes.proofs.unique.BytesMut.TheSendSync as octets
 use Rattle.tcp_edge.specs.contracts.links.EdgeLink as EdgeLink
 use Rattle.tcp_edge.specs.contracts.links.TcpLink as TcpLink
-use Rattle.test_wire.specs.contracts.links.TestLink as TestLink
-use Rattle.test_wire.specs.contracts.owed.Owed as Owed
+use Rattle.tcp_edge.specs.test_wire.contracts.links.TestLink as TestLink
+use Rattle.tcp_edge.specs.test_wire.contracts.owed.Owed as Owed
 use Rattle.test_target.specs.contracts.peers.Peer as Peer
 
 peer_field : IsSend ((Peer.the_field).row)

@@ -11,7 +11,7 @@ use gateway_config::{ConfigRead, Status, read_config};
 use gw_outside::{Accept, Clock, Files, Sink, Wire};
 use log::Log;
 use route_config::Route;
-use serve::Worker;
+use serve_top::serve::Worker;
 use serve_top::{Asked, asked_of, top_serve};
 use std::alloc::Global;
 use std::net::{IpAddr, Net, TcpListener, TcpStream};

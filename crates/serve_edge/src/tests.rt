@@ -8,7 +8,7 @@ use gw_outside::{Accept, Accepted};
 use log::Log;
 use log::sink::Discard;
 use route_config::SMALLEST_TEXT;
-use serve::Worker;
+use serve_top::serve::Worker;
 use std::alloc::Global;
 use std::io::{Read, Result, Write};
 use std::net::{Net, SocketAddr, TcpListener, TcpStream};

@@ -1,7 +1,7 @@
 //! Workers over the system.
 
 use log::Log;
-use serve::Worker;
+use serve_top::serve::Worker;
 use std::alloc::Global;
 use std::net::{Net, TcpListener, TcpStream};
 use std::time;

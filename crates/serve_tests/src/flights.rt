@@ -5,7 +5,7 @@ use crate::connections::{are_plain, text_of};
 use crate::octets::{
     INIT, INIT_REPLY, MERGED_PRESENT_REPLY, MERGED_SEARCH_REPLY, PRESENT_ALL, SEARCH,
 };
-use conn_served::Served;
+use serve::conn_served::Served;
 use gw_memory::{MemoryClock, MemorySink, MemorySource};
 use gw_outside::Events;
 use pool_core::Pool;

@@ -5,13 +5,13 @@ use Rattle.std.proofs.lemmas.List.{reverse-append, reverse-reverse}
 use Rattle.std.proofs.lemmas.List.Sums.{sum_by-append, sum_by-cons, sum_by_push}
 use Rattle.gw_outside.specs.declared.watched.Watched as watched
 use Rattle.route_config.specs.declared.route.PoolNumbers.{PoolNumbers}
-use Rattle.front_conn_costs.specs.steps.Conns.{marks_of}
-use Rattle.front_conn_costs.specs.steps.Growth.{last64}
-use Rattle.front_conn_costs.specs.steps.Numbers.{full, gone, link, silent}
+use Rattle.serve.specs.front_conn_costs.steps.Conns.{marks_of}
+use Rattle.serve.specs.front_conn_costs.steps.Growth.{last64}
+use Rattle.serve.specs.front_conn_costs.steps.Numbers.{full, gone, link, silent}
 use Rattle.pool_locked.specs.Books.{FullOpens, counted}
 use Rattle.serve.specs.Working.{AreAllMarksOf, HaveCost, needed_by, undialled_by}
-use Rattle.conn_served.specs.Costs.{Tally, needed, undialled}
-use Rattle.conn_served.specs.declared.served.Served.{Served}
+use Rattle.serve.specs.conn_served.Costs.{Tally, needed, undialled}
+use Rattle.serve.specs.conn_served.declared.served.Served.{Served}
 use Rattle.serve.specs.declared.working.Worker.{Worker}
 use Rattle.serve_threads.specs.Serving.{AreDialsBelowEnd, HaveBackendCauses, IsFullCaused, dialled_by, fulls_in}
 use Rattle.serve_threads.specs.steps.Jobs.{Amounts, amounts, tally_with}

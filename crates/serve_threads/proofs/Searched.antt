@@ -6,7 +6,7 @@ use Rattle.std.proofs.lemmas.List.{reverse-reverse}
 use Rattle.std.proofs.lemmas.List.Sums.{sum_by-cons}
 use Rattle.gw_outside.specs.declared.watched.Watched as watched
 use Rattle.route_config.specs.declared.route.PoolNumbers.{PoolNumbers}
-use Rattle.front_conn_costs.specs.steps.Growth.{RisesAsMuch, last64}
+use Rattle.serve.specs.front_conn_costs.steps.Growth.{RisesAsMuch, last64}
 use Rattle.pool_locked.specs.Books.{counted}
 use Rattle.serve.specs.Working.{HaveCost}
 use Rattle.serve.specs.declared.working.Worker.{Worker}

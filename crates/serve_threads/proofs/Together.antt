@@ -8,11 +8,11 @@ use Rattle.gw_outside.specs.declared.accepts.Accept as accept
 use Rattle.gw_outside.specs.declared.sinks.Sink as to
 use Rattle.gw_outside.specs.declared.sources.Source as from
 use Rattle.gw_outside.specs.declared.watched.Watched as watched
-use Rattle.front_conn_costs.specs.steps.Growth.{last64}
+use Rattle.serve.specs.front_conn_costs.steps.Growth.{last64}
 use Rattle.pool_locked.specs.Books.{FullOpens, counted}
 use Rattle.std.proofs.lemmas.List.{append_cancel_left}
 use Rattle.serve.specs.Working.{AreAllMarksOf}
-use Rattle.conn_served.specs.declared.served.Served.{Served}
+use Rattle.serve.specs.conn_served.declared.served.Served.{Served}
 use Rattle.serve.specs.declared.working.Worked.{Worked}
 use Rattle.serve.specs.declared.working.Worked.TheVariants.{Ended, Failed, Memory}
 use Rattle.serve.specs.declared.working.Worker.{Worker}

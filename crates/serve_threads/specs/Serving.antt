@@ -10,11 +10,11 @@ use Rattle.gw_outside.specs.declared.accepts.Accept as accept
 use Rattle.gw_outside.specs.declared.sinks.Sink as to
 use Rattle.gw_outside.specs.declared.sources.Source as from
 use Rattle.gw_outside.specs.declared.watched.Watched as watched
-use Rattle.front_conn_costs.specs.steps.Conns.{marks_of}
-use Rattle.front_conn_costs.specs.steps.Growth.{RisesEnough, last64}
-use Rattle.front_conn_costs.specs.steps.Numbers.{full, gone, link, silent}
+use Rattle.serve.specs.front_conn_costs.steps.Conns.{marks_of}
+use Rattle.serve.specs.front_conn_costs.steps.Growth.{RisesEnough, last64}
+use Rattle.serve.specs.front_conn_costs.steps.Numbers.{full, gone, link, silent}
 use Rattle.serve.specs.Working.{AreAllMarksOf, HasWorked, IsNoneLeft, WorkerView, needed_by, undialled_by, worker_view}
-use Rattle.conn_served.specs.declared.served.Served.{Served}
+use Rattle.serve.specs.conn_served.declared.served.Served.{Served}
 use Rattle.serve.specs.declared.working.Worked.{Worked}
 use Rattle.serve.specs.declared.working.Worked.TheVariants.{Ended, Failed}
 use Rattle.serve.specs.declared.working.Worker.{Worker}

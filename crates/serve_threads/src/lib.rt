@@ -8,3 +8,6 @@ mod serving;
 mod threads;
 
 pub use serving::serve_all;
+
+// Handed on: crates above name these through this one.
+pub use serve;

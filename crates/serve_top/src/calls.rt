@@ -13,7 +13,7 @@ use gateway_config::{
 use gw_outside::{Accept, Backend, Clock, Files, Sink};
 use pool_index::IndexedPool;
 use route_config::Route;
-use serve::{Worked, Worker};
+use serve_threads::serve::{Worked, Worker};
 use serve_threads::serve_all;
 use std::alloc::Global;
 use std::sync::Wait;

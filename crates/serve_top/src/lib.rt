@@ -8,3 +8,6 @@ mod words;
 
 pub use crate::calls::top_serve;
 pub use crate::words::{ServeWords, asked_of};
+
+// Handed on: crates above name these through this one.
+pub use serve_threads::serve;

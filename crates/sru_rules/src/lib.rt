@@ -13,3 +13,6 @@ pub use laws::{
 };
 pub use retrieval::Retrieval;
 pub use works::{works_answer, works_can_begin};
+
+// Handed on: crates above name these through this one.
+pub use gateway_rules;

@@ -34,3 +34,6 @@ pub use standard::fill_standard_streams;
 pub use tally::Tally;
 pub use totals::{TargetTotals, Totals};
 pub use wires::EdgeWire;
+
+// Handed on: crates above name these through this one.
+pub use test_wire;

@@ -5,7 +5,7 @@ ghost use Rattle.gw_outside.specs.Accepts.{IsUntouched};
 
 use gw_memory::{FakeBackend, MemoryAccept, MemoryClock, MemorySink, MemorySource};
 use gw_outside::{Sink, Source};
-use serve::Worker;
+use serve_top::serve::Worker;
 use std::alloc::Global;
 use test_target::TestWorld;
 use z_types::{End, List, Memory, Text};

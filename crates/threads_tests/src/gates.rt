@@ -7,7 +7,7 @@ use gateway_config::Status;
 use gw_memory::{FakeBackend, MemoryClock, MemorySink, MemorySource};
 use gw_outside::{Accept, Accepted, Got, Sink, Source, Took};
 use route_config::SMALLEST_TEXT;
-use serve::Worker;
+use serve_top::serve::Worker;
 use serve_top::top_serve;
 use std::alloc::Global;
 use std::sync::Wait;

@@ -4,7 +4,7 @@ use Rattle.std.specs.Prelude.{◌≡◌, ℕ, Bool, true, false, List, [], ◌�
 use Rattle.std.specs.Char.{is_ascii_alphabetic}
 use Rattle.z_types.specs.declared.marks.End.{End}
 use Rattle.z_types.specs.declared.marks.End.TheVariants.{Finished, Cut}
-use Rattle.gateway_rules.specs.Answers.{IsOpen, IsBad}
+use Rattle.front_z.specs.gateway_rules.Answers.{IsOpen, IsBad}
 use Rattle.z_frame.specs.Framing.{Framing, IsGiven}
 use Rattle.sru_request.specs.Request.{IsHeadAnswer}
 use Rattle.sru_request.specs.declared.head.HeadGot.TheVariants.{NeedMore}

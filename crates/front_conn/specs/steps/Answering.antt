@@ -12,18 +12,18 @@ use Rattle.z_types.specs.declared.work.Work.{Work}
 use Rattle.z_types.specs.declared.world.World as world
 use Rattle.route_config.specs.declared.route.Route.{Route}
 use Rattle.unit_forms.specs.Replies.{spell_reply}
-use Rattle.gateway_rules.specs.Course.{accepts}
-use Rattle.gateway_rules.specs.Marks.{Cause}
-use Rattle.gateway_rules.specs.Session.{answered}
-use Rattle.front_session.specs.Sessions.{SessionState, Waiting, client_of, new_session}
+use Rattle.front_z.specs.gateway_rules.Course.{accepts}
+use Rattle.front_z.specs.gateway_rules.Marks.{Cause}
+use Rattle.front_z.specs.gateway_rules.Session.{answered}
+use Rattle.front_z.specs.front_session.Sessions.{SessionState, Waiting, client_of, new_session}
 use Rattle.front_z.specs.Units.{IsBegun, IsEnded, Served}
 use Rattle.front_z.specs.declared.units.Begun.{Begun}
 use Rattle.front_z.specs.declared.units.Begun.TheVariants as begun
-use Rattle.leg.specs.Deeds.{BackendView}
-use Rattle.leg.specs.LegView.{LegView}
-use Rattle.leg.specs.Turns.{DoorView}
-use Rattle.leg.specs.declared.answers.Turned.{Turned}
-use Rattle.leg.specs.declared.answers.Turned.TheVariants as turned
+use Rattle.package.specs.leg.Deeds.{BackendView}
+use Rattle.package.specs.leg.LegView.{LegView}
+use Rattle.package.specs.leg.Turns.{DoorView}
+use Rattle.package.specs.leg.declared.answers.Turned.{Turned}
+use Rattle.package.specs.leg.declared.answers.Turned.TheVariants as turned
 use Rattle.package.specs.steps.Ends.{cause_in, outcome_in}
 use Rattle.package.specs.steps.Packages.{IsOver, IsPackageOf, PackageView, all_accounts, new_package}
 use Rattle.package.specs.steps.Turns.{IsPackageTurn}
@@ -32,11 +32,11 @@ use Rattle.front_conn.specs.declared.stepped.Stepped.TheVariants.{Memory, NotYet
 use Rattle.front_conn.specs.declared.totals.Total.{Total}
 use Rattle.sru_request.specs.declared.faults.HeadFault.{HeadFault}
 use Rattle.sru_request.specs.declared.head.Get.{Get}
-use Rattle.front_sru.specs.Gets as sru
-use Rattle.front_sru.specs.declared.begun.Begun as sru_begun
-use Rattle.front_sru.specs.declared.begun.Begun.TheVariants as get
-use Rattle.front_sru.specs.declared.state.SruStage.{SruStage}
-use Rattle.front_sru.specs.declared.state.SruStage.TheVariants.{Idle}
+use Rattle.front_http.specs.front_sru.Gets as sru
+use Rattle.front_http.specs.front_sru.declared.begun.Begun as sru_begun
+use Rattle.front_http.specs.front_sru.declared.begun.Begun.TheVariants as get
+use Rattle.front_http.specs.front_sru.declared.state.SruStage.{SruStage}
+use Rattle.front_http.specs.front_sru.declared.state.SruStage.TheVariants.{Idle}
 use Rattle.front_http.specs.Heads.{IsHeadBegun}
 use Rattle.front_conn.specs.steps.States.{HasMeantHits, IsOneWork}
 use Rattle.front_conn.specs.steps.Totals.{totals_after, totals_for}

@@ -4,8 +4,8 @@ use Rattle.z_types.specs.declared.marks.End.{End}
 use Rattle.z_types.specs.declared.sitting.Sitting as sitting
 use Rattle.z_types.specs.declared.world.World as world
 use Rattle.route_config.specs.declared.route.Route.{Route}
-use Rattle.sru_rules.specs.Answers.{Answers}
-use Rattle.front_session.specs.Sessions.{new_session}
+use Rattle.front_http.specs.sru_rules.Answers.{Answers}
+use Rattle.front_z.specs.front_session.Sessions.{new_session}
 use Rattle.front_conn.specs.steps.Answering.{totals_of_all}
 use Rattle.front_conn.specs.steps.States.{ConnectionState, IsConnOf, IsStateOf, nothing_yet}
 

@@ -10,21 +10,21 @@ use Rattle.z_types.specs.declared.work.Work.{Work}
 use Rattle.z_types.specs.declared.world.World as world
 use Rattle.z_types.specs.Bounds.{within64}
 use Rattle.route_config.specs.declared.route.Route.{Route}
-use Rattle.gateway_rules.specs.Answers as kind
-use Rattle.gateway_rules.specs.Answers.{IsReceived, kind_of}
-use Rattle.gateway_rules.specs.Asking.{asked, works}
-use Rattle.gateway_rules.specs.Course.{Received, due, met, octets_of}
-use Rattle.gateway_rules.specs.Marks.{Cause}
-use Rattle.gateway_rules.specs.Runs.{HasRunSoFar, marks_of, written_as}
-use Rattle.gateway_rules.specs.Session.{Run, standing as stands_there}
-use Rattle.gateway_rules.specs.Targets.{hits_of}
-use Rattle.front_session.specs.Admitting.{waits}
-use Rattle.front_session.specs.Sessions.{SessionState, Waiting, client_of, progress_of}
+use Rattle.front_z.specs.gateway_rules.Answers as kind
+use Rattle.front_z.specs.gateway_rules.Answers.{IsReceived, kind_of}
+use Rattle.front_z.specs.gateway_rules.Asking.{asked, works}
+use Rattle.front_z.specs.gateway_rules.Course.{Received, due, met, octets_of}
+use Rattle.front_z.specs.gateway_rules.Marks.{Cause}
+use Rattle.front_z.specs.gateway_rules.Runs.{HasRunSoFar, marks_of, written_as}
+use Rattle.front_z.specs.gateway_rules.Session.{Run, standing as stands_there}
+use Rattle.front_z.specs.gateway_rules.Targets.{hits_of}
+use Rattle.front_z.specs.front_session.Admitting.{waits}
+use Rattle.front_z.specs.front_session.Sessions.{SessionState, Waiting, client_of, progress_of}
 use Rattle.package.specs.steps.Packages.{IsPackageOf, PackageView}
-use Rattle.sru_rules.specs.Answers.{Answers}
-use Rattle.front_sru.specs.Gets.{work_of}
-use Rattle.front_sru.specs.declared.state.SruStage.{SruStage}
-use Rattle.front_sru.specs.declared.state.SruStage.TheVariants.{Idle}
+use Rattle.front_http.specs.sru_rules.Answers.{Answers}
+use Rattle.front_http.specs.front_sru.Gets.{work_of}
+use Rattle.front_http.specs.front_sru.declared.state.SruStage.{SruStage}
+use Rattle.front_http.specs.front_sru.declared.state.SruStage.TheVariants.{Idle}
 use Rattle.front_http.specs.Gets.{StandsInGet}
 use Rattle.front_conn.specs.declared.totals.Total.{Total}
 

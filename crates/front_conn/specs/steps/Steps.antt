@@ -7,8 +7,8 @@ use Rattle.z_types.specs.declared.sitting.Sitting as sitting
 use Rattle.z_types.specs.declared.world.World as world
 use Rattle.route_config.specs.declared.route.Route.{Route}
 use Rattle.z_ber.specs.Frames.{IsFrame}
-use Rattle.gateway_rules.specs.Answers.{IsOpen, kind_of, letter}
-use Rattle.gateway_rules.specs.Fair.{IsFair}
+use Rattle.front_z.specs.gateway_rules.Answers.{IsOpen, kind_of, letter}
+use Rattle.front_z.specs.gateway_rules.Fair.{IsFair}
 use Rattle.package.specs.steps.Packages.{PackageView}
 use Rattle.sru_request.specs.Request.{IsHeadAnswer}
 use Rattle.sru_request.specs.declared.faults.HeadFault.{HeadFault}

@@ -3,7 +3,7 @@ use Rattle.std.specs.Prelude.{ℕ, ◌+◌, List, [], ◌∷◌, length, map, na
 use Rattle.std.specs.List.{range_with_len}
 use Rattle.z_types.specs.Bounds.{within64}
 use Rattle.route_config.specs.declared.route.Route.{Route}
-use Rattle.leg.specs.declared.accounts.Account.{Account}
+use Rattle.package.specs.leg.declared.accounts.Account.{Account}
 use Rattle.front_conn.specs.declared.totals.Total.{Total}
 
 -- a class of which nothing was counted

@@ -7,7 +7,7 @@ use Rattle.z_types.specs.declared.world.World as world
 use Rattle.route_config.specs.Sound.{IsSound}
 use Rattle.route_config.specs.declared.route.PoolNumbers.{PoolNumbers}
 use Rattle.route_config.specs.declared.route.Route.{Route}
-use Rattle.front_session.specs.Sessions.{new_session}
+use Rattle.front_conn.specs.front_session.Sessions.{new_session}
 use Rattle.front_conn.specs.declared.stepped.Stepped.{Stepped}
 use Rattle.front_conn.specs.steps.Answering.{Outside}
 use Rattle.front_conn.specs.steps.Feeding.{with_end, with_piece, without_out, without_work}

@@ -4,9 +4,9 @@ use Rattle.std.specs.Prelude.{ℕ, ◌+◌, ◌≤◌, List}
 use Rattle.std.specs.List.{sum_by}
 use Rattle.gw_outside.specs.Counts.{Counts}
 use Rattle.pool_sets.specs.Counts.{DoorCounts}
-use Rattle.leg.specs.Kept.{ahead_of}
-use Rattle.leg.specs.LegView.{LegView}
-use Rattle.leg.specs.Tasks.{want_of}
+use Rattle.front_conn.specs.leg.Kept.{ahead_of}
+use Rattle.front_conn.specs.leg.LegView.{LegView}
+use Rattle.front_conn.specs.leg.Tasks.{want_of}
 use Rattle.front_conn_costs.specs.steps.Growth.{RisesAsMuch, RisesEnough}
 
 -- how often each was counted

@@ -5,7 +5,7 @@ use Rattle.z_types.specs.declared.marks.Mark.TheVariants as mark
 use Rattle.route_config.specs.declared.route.PoolNumbers.{PoolNumbers}
 use Rattle.gw_outside.specs.Counts.{Counts}
 use Rattle.pool_sets.specs.Counts.{DoorCounts}
-use Rattle.leg.specs.declared.accounts.Account.{Account}
+use Rattle.front_conn.specs.leg.declared.accounts.Account.{Account}
 
 -- ---- what is summed by class
 

@@ -7,17 +7,17 @@ use Rattle.z_types.specs.declared.world.World as world
 use Rattle.route_config.specs.declared.route.Route.{Route}
 use Rattle.pool_sets.specs.Plain.{Ascends, Pool, out_of}
 use Rattle.pool_sets.specs.declared.doors.Seat.{Seat}
-use Rattle.leg.specs.Deeds.{BackendView}
-use Rattle.leg.specs.Phases.{given_up}
-use Rattle.leg.specs.Terms.{Terms}
-use Rattle.leg.specs.Turns.{DoorView, GivesUp, IsTurn}
-use Rattle.leg.specs.declared.accounts.Account.{Account}
-use Rattle.leg.specs.declared.answers.Turned.{Turned}
-use Rattle.leg.specs.declared.phases.Phase.{Phase}
-use Rattle.leg.specs.declared.tasks.Task.{Task}
-use Rattle.package.specs.steps.Ends.{gave_all_up, lost_seats}
-use Rattle.package.specs.steps.Packages.{AsksSo, PackageView, new_package}
-use Rattle.package.specs.steps.Turns.{IsPackageTurn}
+use Rattle.front_conn.specs.leg.Deeds.{BackendView}
+use Rattle.front_conn.specs.leg.Phases.{given_up}
+use Rattle.front_conn.specs.leg.Terms.{Terms}
+use Rattle.front_conn.specs.leg.Turns.{DoorView, GivesUp, IsTurn}
+use Rattle.front_conn.specs.leg.declared.accounts.Account.{Account}
+use Rattle.front_conn.specs.leg.declared.answers.Turned.{Turned}
+use Rattle.front_conn.specs.leg.declared.phases.Phase.{Phase}
+use Rattle.front_conn.specs.leg.declared.tasks.Task.{Task}
+use Rattle.front_conn.specs.package.steps.Ends.{gave_all_up, lost_seats}
+use Rattle.front_conn.specs.package.steps.Packages.{AsksSo, PackageView, new_package}
+use Rattle.front_conn.specs.package.steps.Turns.{IsPackageTurn}
 use Rattle.front_conn.specs.declared.stepped.Stepped.{Stepped}
 use Rattle.front_conn.specs.steps.Answering.{Outside, legs_in}
 use Rattle.front_conn.specs.steps.Feeding.{without_work}

@@ -4,12 +4,12 @@ use Rattle.std.specs.Prelude.{◌≡◌, ℕ, ◌+◌, ◌==◌, ◌&&◌, Bool,
 use Rattle.std.specs.List.{AllByRecursion, sum_by}
 use Rattle.pool_sets.specs.Plain.{Ascends, Pool, out_of}
 use Rattle.pool_sets.specs.declared.doors.Seat.{Seat}
-use Rattle.leg.specs.LegView.{LegView}
-use Rattle.leg.specs.Phases.{seat_of}
-use Rattle.leg.specs.declared.phases.Phase.{Phase}
-use Rattle.leg.specs.declared.phases.Phase.TheVariants.{Searching, Fetching}
-use Rattle.leg.specs.declared.tasks.Task.{Task}
-use Rattle.leg.specs.declared.tasks.Task.TheVariants.{Records, Scan}
+use Rattle.front_conn.specs.leg.LegView.{LegView}
+use Rattle.front_conn.specs.leg.Phases.{seat_of}
+use Rattle.front_conn.specs.leg.declared.phases.Phase.{Phase}
+use Rattle.front_conn.specs.leg.declared.phases.Phase.TheVariants.{Searching, Fetching}
+use Rattle.front_conn.specs.leg.declared.tasks.Task.{Task}
+use Rattle.front_conn.specs.leg.declared.tasks.Task.TheVariants.{Records, Scan}
 use Rattle.front_conn.specs.steps.Answering.{legs_in}
 use Rattle.front_conn.specs.steps.States.{ConnectionState}
 

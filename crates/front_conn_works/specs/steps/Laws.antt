@@ -7,14 +7,14 @@ use Rattle.z_types.specs.declared.sitting.Sitting as sitting
 use Rattle.z_types.specs.declared.work.Work.{Work}
 use Rattle.z_types.specs.declared.world.World as world
 use Rattle.route_config.specs.declared.route.Route.{Route}
-use Rattle.gateway_rules.specs.Answers.{kind_of, letter}
-use Rattle.gateway_rules.specs.Course.{Course}
-use Rattle.gateway_rules.specs.Fair.{IsFair}
-use Rattle.gateway_rules.specs.Marks.{Cause}
-use Rattle.gateway_rules.specs.Runs.{marks_of}
-use Rattle.gateway_rules.specs.State.{ClientState}
-use Rattle.front_session.specs.Sessions.{new_session}
-use Rattle.package.specs.steps.Packages.{PackageView}
+use Rattle.front_conn.specs.gateway_rules.Answers.{kind_of, letter}
+use Rattle.front_conn.specs.gateway_rules.Course.{Course}
+use Rattle.front_conn.specs.gateway_rules.Fair.{IsFair}
+use Rattle.front_conn.specs.gateway_rules.Marks.{Cause}
+use Rattle.front_conn.specs.gateway_rules.Runs.{marks_of}
+use Rattle.front_conn.specs.gateway_rules.State.{ClientState}
+use Rattle.front_conn.specs.front_session.Sessions.{new_session}
+use Rattle.front_conn.specs.package.steps.Packages.{PackageView}
 use Rattle.front_conn.specs.declared.stepped.Stepped.{Stepped}
 use Rattle.front_conn.specs.declared.stepped.Stepped.TheVariants.{Memory}
 use Rattle.front_conn.specs.steps.Answering.{Outside}

@@ -7,11 +7,11 @@ use Rattle.z_types.specs.declared.sitting.Sitting as sitting
 use Rattle.z_types.specs.declared.work.Work.{Work}
 use Rattle.z_types.specs.declared.world.World as world
 use Rattle.route_config.specs.declared.route.Route.{Route}
-use Rattle.gateway_rules.specs.Answers.{IsReceived}
-use Rattle.gateway_rules.specs.Course.{Received, course, octets_of}
-use Rattle.gateway_rules.specs.Marks.{Cause}
-use Rattle.gateway_rules.specs.Runs.{marks_of}
-use Rattle.front_session.specs.Sessions.{client_of, new_session, progress_of}
+use Rattle.front_conn.specs.gateway_rules.Answers.{IsReceived}
+use Rattle.front_conn.specs.gateway_rules.Course.{Received, course, octets_of}
+use Rattle.front_conn.specs.gateway_rules.Marks.{Cause}
+use Rattle.front_conn.specs.gateway_rules.Runs.{marks_of}
+use Rattle.front_conn.specs.front_session.Sessions.{client_of, new_session, progress_of}
 use Rattle.front_conn.specs.declared.stepped.Stepped.{Stepped}
 use Rattle.front_conn.specs.declared.stepped.Stepped.TheVariants.{Memory}
 use Rattle.front_conn.specs.steps.Answering.{Outside}

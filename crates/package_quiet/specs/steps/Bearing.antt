@@ -18,13 +18,13 @@ use Rattle.pool_sets.specs.Kept.{slot_name}
 use Rattle.pool_sets.specs.Plain.{Pool}
 use Rattle.route_config.specs.declared.route.PoolNumbers.{PoolNumbers}
 use Rattle.route_config.specs.declared.route.Route.{Route}
-use Rattle.leg.specs.Deeds.{BackendView}
-use Rattle.leg.specs.LegView.{LegView}
-use Rattle.leg.specs.Terms.{Terms, opened_at, terms_of}
-use Rattle.leg.specs.declared.accounts.Account.{Account}
-use Rattle.leg.specs.declared.phases.Held.{Held}
-use Rattle.leg.specs.declared.phases.Phase.{Phase}
-use Rattle.leg.specs.declared.phases.Phase.TheVariants.{Begin, Dialling, Dialled, Ready, Searching, Presenting, Fetching, Scanning, Returning, Redialling}
+use Rattle.package.specs.leg.Deeds.{BackendView}
+use Rattle.package.specs.leg.LegView.{LegView}
+use Rattle.package.specs.leg.Terms.{Terms, opened_at, terms_of}
+use Rattle.package.specs.leg.declared.accounts.Account.{Account}
+use Rattle.package.specs.leg.declared.phases.Held.{Held}
+use Rattle.package.specs.leg.declared.phases.Phase.{Phase}
+use Rattle.package.specs.leg.declared.phases.Phase.TheVariants.{Begin, Dialling, Dialled, Ready, Searching, Presenting, Fetching, Scanning, Returning, Redialling}
 use Rattle.package_quiet.specs.steps.Whole.{AreIdle, IsScan, IsSearchUnder, will_stand}
 
 -- ---- what was made to happen

@@ -6,15 +6,15 @@ use Rattle.z_types.specs.declared.work.Work.{Work}
 use Rattle.z_types.specs.declared.world.World as world
 use Rattle.route_config.specs.declared.route.Route.{Route}
 use Rattle.gw_outside.specs.Happened.{Happened}
-use Rattle.leg.specs.Deeds.{BackendView}
-use Rattle.leg.specs.LegView.{LegView}
-use Rattle.leg.specs.Terms.{Terms}
-use Rattle.leg.specs.Turns.{DoorView, IsTurn}
-use Rattle.leg.specs.declared.accounts.Account.{Account}
-use Rattle.leg.specs.declared.answers.Turned.{Turned}
-use Rattle.leg.specs.declared.answers.Turned.TheVariants as turned
-use Rattle.leg.specs.declared.phases.Phase.{Phase}
-use Rattle.leg.specs.declared.tasks.Task.{Task}
+use Rattle.package.specs.leg.Deeds.{BackendView}
+use Rattle.package.specs.leg.LegView.{LegView}
+use Rattle.package.specs.leg.Terms.{Terms}
+use Rattle.package.specs.leg.Turns.{DoorView, IsTurn}
+use Rattle.package.specs.leg.declared.accounts.Account.{Account}
+use Rattle.package.specs.leg.declared.answers.Turned.{Turned}
+use Rattle.package.specs.leg.declared.answers.Turned.TheVariants as turned
+use Rattle.package.specs.leg.declared.phases.Phase.{Phase}
+use Rattle.package.specs.leg.declared.tasks.Task.{Task}
 use Rattle.package.specs.steps.Packages.{PackageView, new_package}
 use Rattle.package.specs.steps.Turns.{IsPackageTurn}
 use Rattle.package_quiet.specs.steps.Bearing.{AllBear, AreBearable, AreNoWorse, BearsAt, BearsOn, DialsGoOn, IsBorneBy}

@@ -9,11 +9,11 @@ use Rattle.gw_outside.specs.Happened.{AreQuiet}
 use Rattle.pool_sets.specs.Plain.{Pool}
 use Rattle.route_config.specs.declared.route.Class.{Class}
 use Rattle.route_config.specs.declared.route.Route.{Route}
-use Rattle.leg.specs.Deeds.{BackendView}
-use Rattle.leg.specs.LegView.{LegView}
-use Rattle.leg.specs.Terms.{Terms, terms_of}
-use Rattle.leg.specs.declared.accounts.Account.{Account}
-use Rattle.leg.specs.declared.phases.Phase.{Phase}
+use Rattle.package.specs.leg.Deeds.{BackendView}
+use Rattle.package.specs.leg.LegView.{LegView}
+use Rattle.package.specs.leg.Terms.{Terms, terms_of}
+use Rattle.package.specs.leg.declared.accounts.Account.{Account}
+use Rattle.package.specs.leg.declared.phases.Phase.{Phase}
 use Rattle.package_quiet.specs.steps.Whole.{IsWholeIn, IsWholePool}
 
 -- these addresses are told

@@ -18,9 +18,9 @@ use Rattle.pool_sets.specs.Sessions.{Session}
 use Rattle.pool_sets.specs.declared.pooled.Parts.{Parts}
 use Rattle.pool_sets.specs.declared.sessions.Stand.{Stand}
 use Rattle.pool_sets.specs.declared.sessions.Stand.TheVariants.{Idle, Out}
-use Rattle.leg.specs.Terms.{Terms, opened_at}
-use Rattle.leg.specs.declared.phases.Phase.{Phase}
-use Rattle.leg.specs.declared.phases.Phase.TheVariants.{Dialling, Dialled, Ready, Searching, Presenting, Fetching, Scanning, Returning}
+use Rattle.package.specs.leg.Terms.{Terms, opened_at}
+use Rattle.package.specs.leg.declared.phases.Phase.{Phase}
+use Rattle.package.specs.leg.declared.phases.Phase.TheVariants.{Dialling, Dialled, Ready, Searching, Presenting, Fetching, Scanning, Returning}
 
 -- ---- a session
 

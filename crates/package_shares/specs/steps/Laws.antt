@@ -6,14 +6,14 @@ use Rattle.z_types.specs.declared.work.Work.{Work}
 use Rattle.z_types.specs.declared.world.World as world
 use Rattle.route_config.specs.declared.route.Route.{Route}
 use Rattle.pool_sets.specs.Plain.{Pool}
-use Rattle.leg.specs.Deeds.{BackendView}
-use Rattle.leg.specs.LegView.{LegView}
-use Rattle.leg.specs.Turns.{DoorView}
-use Rattle.leg.specs.declared.answers.Turned.{Turned}
-use Rattle.leg.specs.declared.answers.Turned.TheVariants as turned
-use Rattle.package.specs.declared.turning.Round.{Round}
-use Rattle.package.specs.steps.Packages.{PackageView, new_package}
-use Rattle.package.specs.steps.Turns.{HaveTurned, IsPackageTurn, all_done}
+use Rattle.package_quiet.specs.leg.Deeds.{BackendView}
+use Rattle.package_quiet.specs.leg.LegView.{LegView}
+use Rattle.package_quiet.specs.leg.Turns.{DoorView}
+use Rattle.package_quiet.specs.leg.declared.answers.Turned.{Turned}
+use Rattle.package_quiet.specs.leg.declared.answers.Turned.TheVariants as turned
+use Rattle.package_quiet.specs.package.declared.turning.Round.{Round}
+use Rattle.package_quiet.specs.package.steps.Packages.{PackageView, new_package}
+use Rattle.package_quiet.specs.package.steps.Turns.{HaveTurned, IsPackageTurn, all_done}
 use Rattle.sharing_rules.specs.Uses.{Use}
 use Rattle.package_quiet.specs.steps.Quiet.{AreWell, IsCalm, IsToldRoute}
 use Rattle.package_shares.specs.steps.Packages.{HadMemory, MayPackageShare, PackageShares, PackageSharesOver}

@@ -5,10 +5,10 @@ use Rattle.z_types.specs.declared.sitting.Sitting as sitting
 use Rattle.z_types.specs.declared.world.World as world
 use Rattle.route_config.specs.declared.route.Route.{Route}
 use Rattle.pool_sets.specs.Plain.{Pool}
-use Rattle.leg.specs.LegView.{LegView}
-use Rattle.package.specs.declared.turning.Round.{Round}
-use Rattle.package.specs.steps.Packages.{PackageView}
-use Rattle.package.specs.steps.Turns.{all_done}
+use Rattle.package_quiet.specs.leg.LegView.{LegView}
+use Rattle.package_quiet.specs.package.declared.turning.Round.{Round}
+use Rattle.package_quiet.specs.package.steps.Packages.{PackageView}
+use Rattle.package_quiet.specs.package.steps.Turns.{all_done}
 use Rattle.sharing_rules.specs.Uses.{Use}
 use Rattle.package_shares.specs.steps.Together.{AreSharing, HadItsCost, MayShare, uses_behind}
 

@@ -10,15 +10,15 @@ use Rattle.route_config.specs.declared.route.Route.{Route}
 use Rattle.gateway_rules.specs.Fair.{IsFair}
 use Rattle.gateway_rules.specs.Marks.{plain}
 use Rattle.pool_sets.specs.Plain.{Pool}
-use Rattle.leg.specs.Terms.{class_of}
-use Rattle.leg.specs.declared.accounts.Account.{Account}
-use Rattle.leg.specs.declared.answers.Turned.{Turned}
-use Rattle.leg.specs.declared.answers.Turned.TheVariants as turned
-use Rattle.package_rules.specs.Planned.{AreThere, legs_named}
-use Rattle.package.specs.steps.Drives.{PackageAt}
-use Rattle.package.specs.steps.Ends.{cause_in}
-use Rattle.package.specs.steps.Packages.{IsOver, IsPackageOf, PackageView, all_accounts, new_package}
-use Rattle.package.specs.steps.Turns.{IsPackageTurn}
+use Rattle.package_quiet.specs.leg.Terms.{class_of}
+use Rattle.package_quiet.specs.leg.declared.accounts.Account.{Account}
+use Rattle.package_quiet.specs.leg.declared.answers.Turned.{Turned}
+use Rattle.package_quiet.specs.leg.declared.answers.Turned.TheVariants as turned
+use Rattle.package_quiet.specs.package_rules.Planned.{AreThere, legs_named}
+use Rattle.package_quiet.specs.package.steps.Drives.{PackageAt}
+use Rattle.package_quiet.specs.package.steps.Ends.{cause_in}
+use Rattle.package_quiet.specs.package.steps.Packages.{IsOver, IsPackageOf, PackageView, all_accounts, new_package}
+use Rattle.package_quiet.specs.package.steps.Turns.{IsPackageTurn}
 use Rattle.sharing_rules.specs.Needed.{count_after, needs_dial, needs_search}
 use Rattle.sharing_rules.specs.Orderly.{keys_used}
 use Rattle.sharing_rules.specs.Uses.{Use, uses_by}

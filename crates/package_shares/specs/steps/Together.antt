@@ -5,11 +5,11 @@ use Rattle.z_types.specs.declared.sitting.Sitting as sitting
 use Rattle.z_types.specs.declared.world.World as world
 use Rattle.route_config.specs.declared.route.Route.{Route}
 use Rattle.pool_sets.specs.Plain.{Pool}
-use Rattle.leg.specs.Kept.{one_if}
-use Rattle.leg.specs.LegView.{LegView}
-use Rattle.leg.specs.Phases.{IsDone}
-use Rattle.leg.specs.Tasks.{want_of}
-use Rattle.leg.specs.Terms.{class_of}
+use Rattle.package_quiet.specs.leg.Kept.{one_if}
+use Rattle.package_quiet.specs.leg.LegView.{LegView}
+use Rattle.package_quiet.specs.leg.Phases.{IsDone}
+use Rattle.package_quiet.specs.leg.Tasks.{want_of}
+use Rattle.package_quiet.specs.leg.Terms.{class_of}
 use Rattle.sharing_rules.specs.Uses.{Use}
 use Rattle.sharing_rules.specs.steps.Shared.{dial_due, search_due, use_now}
 use Rattle.package_quiet.specs.steps.Quiet.{HasNoCause}

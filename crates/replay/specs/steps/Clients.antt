@@ -4,9 +4,9 @@ use Prim.Native.Nat.{suc}
 use Rattle.z_types.specs.declared.sitting.Sitting as sitting
 use Rattle.z_types.specs.declared.world.World as world
 use Rattle.route_config.specs.declared.route.Route.{Route}
-use Rattle.gateway_rules.specs.Fair.{IsFair}
-use Rattle.front_conn.specs.steps.Feeding.{without_work}
-use Rattle.front_conn.specs.steps.States.{IsConnOf, IsStateOf}
+use Rattle.front_conn_costs.specs.gateway_rules.Fair.{IsFair}
+use Rattle.front_conn_costs.specs.front_conn.steps.Feeding.{without_work}
+use Rattle.front_conn_costs.specs.front_conn.steps.States.{IsConnOf, IsStateOf}
 use Rattle.script.specs.declared.event.Event.{Event}
 use Rattle.script.specs.Events.{fed, has_ended, is_named, most_clients}
 use Rattle.replay.specs.Clients.{AreNone, ClientState, client_at}

@@ -3,7 +3,7 @@ use Rattle.std.specs.Prelude.{◌≡◌, ℕ, Bool, List, Option, None, Some, Is
 use Rattle.z_types.specs.declared.sitting.Sitting as sitting
 use Rattle.z_types.specs.declared.world.World as world
 use Rattle.route_config.specs.declared.route.Route.{Route}
-use Rattle.front_conn.specs.steps.Answering.{Outside}
+use Rattle.front_conn_costs.specs.front_conn.steps.Answering.{Outside}
 use Rattle.script.specs.declared.event.Event.{Event}
 use Rattle.replay.specs.Trace.{ArePlayed, HasRun, Playing, closings, with_no_more}
 use Rattle.replay.specs.Clients.{ClientState}

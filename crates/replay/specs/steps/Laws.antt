@@ -4,7 +4,7 @@ use Rattle.z_types.specs.declared.world.World as world
 use Rattle.front_conn_costs.specs.steps.Laws.{CostsNothing, CostsOn, MarksAreMet, StartsCostless, StaysSoCosted, StepsCost, SumsAtRest}
 use Rattle.package_quiet.specs.steps.Laws.{PackagesGoWell}
 use Rattle.front_conn_seats.specs.steps.Laws.{StepsKeepSeats, TurnsKeepSeats}
-use Rattle.front_conn.specs.steps.Feeding.{EndsAnswered, StandsAtStart, StandsWhenEnded, StandsWhenFed, StandsWhenWritten, StaysOfRoute}
+use Rattle.front_conn_costs.specs.front_conn.steps.Feeding.{EndsAnswered, StandsAtStart, StandsWhenEnded, StandsWhenFed, StandsWhenWritten, StaysOfRoute}
 
 -- where a connection stands at its start, when it is fed, when its input has ended and when its output was written; that it stays of
 -- its route; and that one that has ended was answered

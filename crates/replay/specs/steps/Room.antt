@@ -2,8 +2,8 @@
 use Rattle.std.specs.Prelude.{◌≡◌, ℕ, ◌*◌, ◌≤◌, [], length, Option, None, Some}
 use Rattle.route_config.specs.declared.route.Route.{Route}
 use Rattle.pool_sets.specs.Plain.{Pool}
-use Rattle.leg.specs.Turns.{DoorView}
-use Rattle.front_conn.specs.steps.Answering.{Outside}
+use Rattle.package_quiet.specs.leg.Turns.{DoorView}
+use Rattle.front_conn_costs.specs.front_conn.steps.Answering.{Outside}
 use Rattle.replay.specs.Places.{most_at_once}
 use Rattle.replay.specs.declared.reports.Report.{Report}
 

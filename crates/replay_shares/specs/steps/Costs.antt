@@ -3,9 +3,9 @@ use Rattle.std.specs.Prelude.{ℕ, ◌==◌, if◌then◌else◌, Bool, false, L
 use Rattle.std.specs.List.{sum_by}
 use Rattle.z_types.specs.declared.world.World as world
 use Rattle.route_config.specs.declared.route.Route.{Route}
-use Rattle.front_conn.specs.declared.totals.Total.{Total}
-use Rattle.front_conn_costs.specs.steps.Conns.{in_total}
-use Rattle.front_conn_costs.specs.steps.Numbers.{Number, dials, searches}
+use Rattle.replay.specs.front_conn.declared.totals.Total.{Total}
+use Rattle.replay.specs.front_conn_costs.steps.Conns.{in_total}
+use Rattle.replay.specs.front_conn_costs.steps.Numbers.{Number, dials, searches}
 use Rattle.sharing_rules.specs.Needed.{needs_dial, needs_search}
 use Rattle.sharing_rules.specs.Uses.{Use}
 use Rattle.replay.specs.Clients.{ClientState}

@@ -6,17 +6,17 @@ use Rattle.z_types.specs.declared.sitting.Sitting as sitting
 use Rattle.z_types.specs.declared.work.Work.{Work}
 use Rattle.z_types.specs.declared.world.World as world
 use Rattle.route_config.specs.declared.route.Route.{Route}
-use Rattle.gateway_rules.specs.OneAnswer.{AreMarksPlain}
+use Rattle.replay.specs.gateway_rules.OneAnswer.{AreMarksPlain}
 use Rattle.z_types.specs.declared.marks.Mark.{Mark}
-use Rattle.package.specs.steps.Drives.{PackageAt}
-use Rattle.package.specs.steps.Packages.{PackageView, new_package}
-use Rattle.front_conn.specs.declared.totals.Total.{Total}
-use Rattle.front_conn.specs.steps.Answering.{Outside}
-use Rattle.front_conn.specs.steps.Totals.{totals_for}
+use Rattle.package_shares.specs.package.steps.Drives.{PackageAt}
+use Rattle.package_shares.specs.package.steps.Packages.{PackageView, new_package}
+use Rattle.replay.specs.front_conn.declared.totals.Total.{Total}
+use Rattle.replay.specs.front_conn.steps.Answering.{Outside}
+use Rattle.replay.specs.front_conn.steps.Totals.{totals_for}
 use Rattle.sharing_rules.specs.Needed.{count_after}
 use Rattle.sharing_rules.specs.Uses.{Use, uses_of}
-use Rattle.front_conn_costs.specs.steps.Conns.{AreTotalsOf}
-use Rattle.front_conn_costs.specs.steps.Numbers.{Number}
+use Rattle.replay.specs.front_conn_costs.steps.Conns.{AreTotalsOf}
+use Rattle.replay.specs.front_conn_costs.steps.Numbers.{Number}
 use Rattle.package_shares.specs.steps.Requests.{AreTurns, IsKeptAt, MayWork, behind}
 use Rattle.replay_shares.specs.Orderly.{dated}
 use Rattle.replay_shares.specs.steps.Costs.{cost_on, is_needed}

@@ -6,19 +6,19 @@ use Rattle.z_types.specs.declared.work.Work.{Work}
 use Rattle.z_types.specs.declared.world.World as world
 use Rattle.route_config.specs.Sound.{IsSound}
 use Rattle.route_config.specs.declared.route.Route.{Route}
-use Rattle.gateway_rules.specs.Answers.{kind_of, letter}
-use Rattle.gateway_rules.specs.Fair.{IsFair}
-use Rattle.package.specs.steps.Laws.{OutcomeIsTrue}
+use Rattle.replay.specs.gateway_rules.Answers.{kind_of, letter}
+use Rattle.replay.specs.gateway_rules.Fair.{IsFair}
+use Rattle.package_shares.specs.package.steps.Laws.{OutcomeIsTrue}
 use Rattle.sru_request.specs.Laws.{HeadStays}
-use Rattle.sru_rules.specs.Laws.{HasOneCourse}
-use Rattle.front_conn.specs.steps.Answering.{Outside}
-use Rattle.front_conn.specs.steps.Feeding.{StandsAtStart, StandsWhenEnded, StandsWhenFed, StandsWhenWritten, StaysOfRoute}
+use Rattle.replay.specs.sru_rules.Laws.{HasOneCourse}
+use Rattle.replay.specs.front_conn.steps.Answering.{Outside}
+use Rattle.replay.specs.front_conn.steps.Feeding.{StandsAtStart, StandsWhenEnded, StandsWhenFed, StandsWhenWritten, StaysOfRoute}
 use Rattle.script.specs.declared.event.Event.{Event}
 use Rattle.script.specs.Events.{AreEvents}
 use Rattle.sharing_rules.specs.Needed.{count_after}
 use Rattle.sharing_rules.specs.Uses.{DatedWork, Use, uses_of}
 use Rattle.sharing_rules.specs.steps.Shared.{AreInOrder}
-use Rattle.front_conn_costs.specs.steps.Numbers.{Number}
+use Rattle.replay.specs.front_conn_costs.steps.Numbers.{Number}
 use Rattle.package_shares.specs.steps.Requests.{RequestsShare, behind}
 use Rattle.front_conn_works.specs.steps.Laws.{BeginsNone, EndedIsWhole, MarksDecide, StaysSoBegun, StepsBegin}
 use Rattle.replay.specs.Clients.{ClientState}

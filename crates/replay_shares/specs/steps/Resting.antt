@@ -8,20 +8,20 @@ use Rattle.z_types.specs.declared.sitting.Sitting as sitting
 use Rattle.z_types.specs.declared.work.Work.{Work}
 use Rattle.z_types.specs.declared.world.World as world
 use Rattle.route_config.specs.declared.route.Route.{Route}
-use Rattle.gateway_rules.specs.Answers.{Kind, letter, kind_of}
-use Rattle.gateway_rules.specs.OneAnswer.{AreMarksPlain}
+use Rattle.replay.specs.gateway_rules.Answers.{Kind, letter, kind_of}
+use Rattle.replay.specs.gateway_rules.OneAnswer.{AreMarksPlain}
 use Rattle.pool_sets.specs.Plain.{Pool}
-use Rattle.front_conn.specs.steps.Answering.{Outside}
-use Rattle.front_conn.specs.steps.States.{ConnectionState, IsConnOf, IsStateOf, MayCome}
-use Rattle.front_conn.specs.steps.Totals.{totals_for}
+use Rattle.replay.specs.front_conn.steps.Answering.{Outside}
+use Rattle.replay.specs.front_conn.steps.States.{ConnectionState, IsConnOf, IsStateOf, MayCome}
+use Rattle.replay.specs.front_conn.steps.Totals.{totals_for}
 use Rattle.script.specs.Events.{fed, has_ended, most_clients}
 use Rattle.script.specs.declared.event.Event.{Event}
 use Rattle.sharing_rules.specs.Orderly.{keys_used}
 use Rattle.sharing_rules.specs.Uses.{DatedWork, Use, uses_of}
 use Rattle.sharing_rules.specs.steps.Shared.{AreInOrder}
-use Rattle.front_conn_costs.specs.steps.Conns.{AreTotalsOf}
-use Rattle.front_conn_costs.specs.steps.Numbers.{Number}
-use Rattle.package_quiet.specs.steps.Quiet.{IsCalm}
+use Rattle.replay.specs.front_conn_costs.steps.Conns.{AreTotalsOf}
+use Rattle.replay.specs.front_conn_costs.steps.Numbers.{Number}
+use Rattle.package_shares.specs.package_quiet.steps.Quiet.{IsCalm}
 use Rattle.package_shares.specs.steps.Requests.{behind}
 use Rattle.package_shares.specs.steps.Together.{AreAllKept}
 use Rattle.front_conn_works.specs.steps.Begun.{HasBegun}

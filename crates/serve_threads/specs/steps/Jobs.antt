@@ -7,7 +7,7 @@ use Rattle.gw_outside.specs.declared.sinks.Sink as to
 use Rattle.gw_outside.specs.declared.sources.Source as from
 use Rattle.gw_outside.specs.declared.watched.Watched as watched
 use Rattle.pool_locked.specs.Books.{counts_of}
-use Rattle.conn_served.specs.Costs.{Tally}
+use Rattle.serve.specs.conn_served.Costs.{Tally}
 use Rattle.serve.specs.Working.{HaveCost}
 use Rattle.serve.specs.declared.working.Worked.{Worked}
 use Rattle.serve.specs.declared.working.Worked.TheVariants.{Ended, Failed, Memory}

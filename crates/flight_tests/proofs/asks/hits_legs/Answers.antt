@@ -1,6 +1,6 @@
 use Rattle.std.proofs.Common.{[], ◌∷◌, All, subst, sym}
 use Rattle.std.proofs.lemmas.List.Elements.{All-append, All-cons, All-nil}
-use Rattle.leg.specs.Turns.{IsLegOf}
+use Rattle.package.specs.leg.Turns.{IsLegOf}
 use Rattle.flight_tests.proofs.asks.hits_legs.Goals as goal
 
 -- one more leg of the route behind those before

@@ -1,5 +1,5 @@
 use Rattle.std.proofs.Common.{ℕ, All}
-use Rattle.leg.specs.Turns.{IsLegOf}
+use Rattle.package.specs.leg.Turns.{IsLegOf}
 use Rattle.flight_tests.proofs.asks.hits_legs.Given as goal
 
 -- the legs so far are some of the route

@@ -1,7 +1,7 @@
 use Rattle.std.proofs.Common.{subst, sym}
 use Rattle.std.specs.Prelude.{IfSome}
 use Rattle.z_types.specs.declared.outcome.Outcome.{Outcome}
-use Rattle.gateway_rules.specs.Works.{FitsWork}
+use Rattle.front_z.specs.gateway_rules.Works.{FitsWork}
 use Rattle.front_conn.proofs.AnsweringLemmas.{ended-back, ended-listed}
 use Rattle.front_conn.proofs.answering.settle.Goals as goal
 

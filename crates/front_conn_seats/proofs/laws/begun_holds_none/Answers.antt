@@ -1,5 +1,5 @@
 use Rattle.std.proofs.Common.{◌++◌}
-use Rattle.package.specs.steps.Packages.{new_package}
+use Rattle.front_conn.specs.package.steps.Packages.{new_package}
 use Rattle.front_conn_seats.proofs.PackageLemmas.{new-none, none-held}
 use Rattle.front_conn_seats.proofs.laws.begun_holds_none.Goals as goal
 

@@ -1,5 +1,5 @@
 use Rattle.std.proofs.Common.{◌≡◌, ◌≤◌, ◌*◌, ◌^◌, take}
-use Rattle.replay.specs.Page.{requests}
+use Rattle.replay_shares.specs.replay.Page.{requests}
 use Rattle.gateway_top.proofs.load.requests.Given as goal
 
 abbrev pub invariant-loop-client : goal.invariant-loop-client

@@ -1,6 +1,6 @@
 use Rattle.std.proofs.Common.{◌∙◌, ap, sym, subst}
 use Rattle.std.proofs.lemmas.Result.{on_ok_weaker}
-use Rattle.front_conn.specs.steps.States.{IsConnOf}
+use Rattle.front_conn_costs.specs.front_conn.steps.States.{IsConnOf}
 use Rattle.replay.specs.Clients.{ClientState}
 use Rattle.replay.proofs.ClosingLemmas.{closed_now}
 use Rattle.replay.proofs.StepLemmas.{run_input}

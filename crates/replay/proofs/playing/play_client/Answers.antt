@@ -1,7 +1,7 @@
 use Rattle.std.proofs.Common.{◌∙◌, refl, sym, subst}
 use Rattle.std.proofs.lemmas.Option.{none-some, same_Some}
 use Rattle.std.proofs.lemmas.Result.{on_ok_weaker}
-use Rattle.front_conn.specs.steps.States.{IsConnOf}
+use Rattle.front_conn_costs.specs.front_conn.steps.States.{IsConnOf}
 use Rattle.replay.specs.Clients.{ClientState, client_or_new}
 use Rattle.replay.specs.Trace.{PlaysFor, outside_of}
 use Rattle.replay.specs.steps.Playing.{CanTake}

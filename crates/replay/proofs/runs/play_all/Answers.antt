@@ -5,7 +5,7 @@ use Rattle.replay.specs.Report.{IsReportOf}
 use Rattle.replay.specs.steps.Clients.{AreClientsOf}
 use Rattle.replay.proofs.ClientLemmas.{nobody}
 use Rattle.replay.proofs.ReportLemmas.{is_right}
-use Rattle.front_conn.specs.steps.Answering.{Outside}
+use Rattle.front_conn_costs.specs.front_conn.steps.Answering.{Outside}
 use Rattle.replay.specs.Counts.{AreDialled, AreSums, HaveCauses}
 use Rattle.replay.proofs.SumLemmas.{costed_on}
 use Rattle.replay.proofs.SumReports.{dialled_reported, marks_reported, nobody_counted, nobody_kept, nobody_met, sums_reported}

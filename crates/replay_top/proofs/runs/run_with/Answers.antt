@@ -1,6 +1,6 @@
 use Rattle.std.proofs.Common.{refl}
-use Rattle.replay.proofs.MovesLemmas.{counted_ok, lent_ok, new_pool_is}
-use Rattle.replay.proofs.UndisturbedLemmas.{untroubled_ok}
+use Rattle.replay_shares.proofs.replay.MovesLemmas.{counted_ok, lent_ok, new_pool_is}
+use Rattle.replay_shares.proofs.replay.UndisturbedLemmas.{untroubled_ok}
 use Rattle.replay_laws.proofs.WireLemmas.{borne_through, through_ok}
 use Rattle.replay_shares.proofs.NewLemmas.{shares_ok}
 use Rattle.replay_top.proofs.PaidLemmas.{paid_ok}

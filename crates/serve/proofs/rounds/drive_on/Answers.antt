@@ -1,6 +1,6 @@
 use Rattle.std.proofs.Common.{◌≡◌, ◌∙◌, ap}
-use Rattle.front_conn.specs.declared.stepped.Stepped.TheVariants.{Memory, Went}
-use Rattle.front_conn.specs.steps.Drives.{ConnAt, conn_at, given_up_at}
+use Rattle.conn_served.specs.front_conn.declared.stepped.Stepped.TheVariants.{Memory, Went}
+use Rattle.conn_served.specs.front_conn.steps.Drives.{ConnAt, conn_at, given_up_at}
 use Rattle.conn_served.specs.Serving.{sink_view}
 use Rattle.serve.proofs.DriveLemmas.{driven-ends, driven-few, driven-memory, driven-so, given-twice}
 use Rattle.conn_served.proofs.RoundLemmas.{behind-answered, left-here, so-calmly}

@@ -2,7 +2,7 @@ use Rattle.std.proofs.Common.{inl, inr, sym, subst, refl, take}
 use Rattle.z_types.specs.declared.marks.End.TheVariants as how
 use Rattle.conn_served.specs.Serving.{IsServed, source_view}
 use Rattle.conn_served.specs.steps.Serving.{IsWrittenOut}
-use Rattle.front_conn.specs.steps.States.{ConnectionState}
+use Rattle.conn_served.specs.front_conn.steps.States.{ConnectionState}
 use Rattle.conn_served.proofs.RoundLemmas.{fed-writes}
 use Rattle.conn_served.proofs.ServingLemmas.{serving-fed, serving-unfed, serving-unread}
 use Rattle.serve.proofs.rounds.read_on.Goals as goal

@@ -1,12 +1,12 @@
 use Rattle.std.proofs.Common.{◌∙◌, refl, sym, subst}
-use Rattle.front_conn_costs.specs.steps.Laws.{IsCosted}
-use Rattle.front_conn.specs.declared.stepped.Stepped.TheVariants.{Idle, Memory, NotYet, Went}
-use Rattle.front_conn.specs.steps.Answering.{Outside}
-use Rattle.front_conn.specs.steps.Drives.{ConnAt, conn_at, outside_of}
+use Rattle.conn_served.specs.front_conn_costs.steps.Laws.{IsCosted}
+use Rattle.conn_served.specs.front_conn.declared.stepped.Stepped.TheVariants.{Idle, Memory, NotYet, Went}
+use Rattle.conn_served.specs.front_conn.steps.Answering.{Outside}
+use Rattle.conn_served.specs.front_conn.steps.Drives.{ConnAt, conn_at, outside_of}
 use Rattle.conn_served.specs.Serving.{sink_view, source_view, streams}
 use Rattle.conn_served.proofs.RoundLemmas.{behind-idle, behind-went, left-here, so-calmly, step-few, step-so, step-wrote}
 use Rattle.conn_served.specs.steps.Serving.{IsIdle, IsWrittenOut}
-use Rattle.front_conn.specs.steps.States.{ConnectionState}
+use Rattle.conn_served.specs.front_conn.steps.States.{ConnectionState}
 use Rattle.conn_served.proofs.ServingLemmas.{serving-memory, serving-stepped, step-idle, step-memory, step-not_yet, step-went}
 use Rattle.serve.proofs.rounds.step_on.Goals as goal
 

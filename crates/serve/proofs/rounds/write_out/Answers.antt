@@ -3,7 +3,7 @@ use Rattle.std.proofs.lemmas.Bool.{eqb-true}
 use Rattle.std.proofs.lemmas.List.{nil_from_length}
 use Rattle.conn_served.specs.Serving.{sink_view}
 use Rattle.conn_served.specs.steps.Serving.{IsWrittenOut}
-use Rattle.front_conn.specs.steps.States.{ConnectionState, IsConnOf}
+use Rattle.conn_served.specs.front_conn.steps.States.{ConnectionState, IsConnOf}
 use Rattle.conn_served.proofs.ServingLemmas.{serving-unwritten, serving-written}
 use Rattle.serve.proofs.rounds.write_out.Goals as goal
 

@@ -4,9 +4,9 @@ use Rattle.z_types.specs.declared.marks.Mark.{Mark}
 use Rattle.pool_sets.specs.Counts.{DoorCounts}
 use Rattle.conn_served.specs.Costs.{AreMarksOf, ArePaid, HaveCauses, tally_of, undialled}
 use Rattle.conn_served.specs.Runs.{GoesOnTo}
-use Rattle.front_conn.specs.steps.Answering.{Outside}
-use Rattle.front_conn.specs.steps.Drives.{ConnAt, conn_at, given_up_at, outside_of}
-use Rattle.front_conn.specs.steps.States.{ConnectionState}
+use Rattle.conn_served.specs.front_conn.steps.Answering.{Outside}
+use Rattle.conn_served.specs.front_conn.steps.Drives.{ConnAt, conn_at, given_up_at, outside_of}
+use Rattle.conn_served.specs.front_conn.steps.States.{ConnectionState}
 use Rattle.conn_served.specs.Serving.{IsServed, streams}
 use Rattle.conn_served.proofs.SeatLemmas.{run-back}
 use Rattle.serve.proofs.serving.serve_connection.Goals as goal

@@ -1,11 +1,11 @@
 use Rattle.std.proofs.Common.{◌≡◌, ◌∙◌, Option, None, ap, refl, sym, subst}
 use Rattle.z_types.specs.declared.marks.End.{End}
 use Rattle.conn_served.specs.Serving.{Streams, streams}
-use Rattle.front_conn.specs.steps.Drives.{ConnAt, conn_at, outside_of}
+use Rattle.conn_served.specs.front_conn.steps.Drives.{ConnAt, conn_at, outside_of}
 use Rattle.conn_served.specs.steps.Rounds.{IsBetween}
 use Rattle.z_types.specs.declared.marks.End.TheVariants.{Memory}
 use Rattle.conn_served.specs.steps.Serving.{GoesOn, IsWrittenOut}
-use Rattle.front_conn.specs.steps.States.{ConnectionState, IsConnOf}
+use Rattle.conn_served.specs.front_conn.steps.States.{ConnectionState, IsConnOf}
 use Rattle.conn_served.specs.Costs.{AreMarksOf, ArePaid, HaveCauses, undialled}
 use Rattle.conn_served.specs.Runs.{GoesOnTo}
 use Rattle.z_types.proofs.ChainLemmas.{steps-nowhere, steps-on}

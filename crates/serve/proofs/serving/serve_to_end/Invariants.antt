@@ -1,14 +1,14 @@
 use Rattle.std.proofs.Common.{◌≡◌}
 use Rattle.z_types.specs.Chains.{StepsFrom}
-use Rattle.front_conn_costs.specs.steps.Conns.{PaysFor}
-use Rattle.front_conn_costs.specs.steps.Laws.{MeetsEnough}
+use Rattle.conn_served.specs.front_conn_costs.steps.Conns.{PaysFor}
+use Rattle.conn_served.specs.front_conn_costs.steps.Laws.{MeetsEnough}
 use Rattle.conn_served.specs.Serving.{streams}
 use Rattle.conn_served.specs.Costs.{AreMarksOf}
 use Rattle.conn_served.specs.Runs.{GoesOnTo}
 use Rattle.conn_served.specs.steps.Rounds.{IsBetween}
 use Rattle.conn_served.specs.steps.Serving.{IsWrittenOut}
-use Rattle.front_conn.specs.steps.Drives.{conn_at, outside_of}
-use Rattle.front_conn.specs.steps.States.{IsConnOf}
+use Rattle.conn_served.specs.front_conn.steps.Drives.{conn_at, outside_of}
+use Rattle.conn_served.specs.front_conn.steps.States.{IsConnOf}
 use Rattle.serve.proofs.serving.serve_to_end.Given as goal
 
 abbrev pub invariant-loop-round : goal.invariant-loop-round

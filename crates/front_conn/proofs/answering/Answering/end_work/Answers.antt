@@ -1,5 +1,5 @@
 use Rattle.std.proofs.Common.{◌∙◌, sym}
-use Rattle.gateway_rules.specs.Works.{FitsWork}
+use Rattle.front_z.specs.gateway_rules.Works.{FitsWork}
 use Rattle.package.specs.steps.Ends.{outcome_in}
 use Rattle.package.specs.steps.Packages.{AsksSo, IsOver}
 use Rattle.front_conn.proofs.EndedLemmas.{ends-get, ends-request, get-here, idle-here, of-work}

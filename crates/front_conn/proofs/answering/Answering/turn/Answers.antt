@@ -1,5 +1,5 @@
 use Rattle.std.proofs.Common.{refl}
-use Rattle.leg.specs.declared.answers.Turned.TheVariants as turned
+use Rattle.package.specs.leg.declared.answers.Turned.TheVariants as turned
 use Rattle.front_conn.proofs.EndedLemmas.{turns-on, turns-over, work-next}
 use Rattle.front_conn.proofs.answering.Answering.turn.Goals as goal
 

@@ -1,5 +1,5 @@
 use Rattle.std.proofs.Common.{◌≡◌, List}
-use Rattle.front_conn.specs.steps.States.{IsConnOf}
+use Rattle.front_conn_costs.specs.front_conn.steps.States.{IsConnOf}
 use Rattle.replay.specs.Trace.{AreSteps, Point, outside_of}
 use Rattle.replay.proofs.client.Client.run.Given as goal
 

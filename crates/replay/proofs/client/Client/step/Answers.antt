@@ -1,5 +1,5 @@
 use Rattle.std.proofs.Common.{◌++◌, ◌∙◌, ℕ, List, ap, subst, sym}
-use Rattle.front_conn.specs.steps.States.{ConnectionState, IsConnOf}
+use Rattle.front_conn_costs.specs.front_conn.steps.States.{ConnectionState, IsConnOf}
 use Rattle.replay.specs.Clients.{ClientState}
 use Rattle.replay.specs.Trace.{IsClientStep, outside_of}
 use Rattle.replay.proofs.StepLemmas.{known}
