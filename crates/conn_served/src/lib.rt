@@ -9,7 +9,6 @@ pub use clocks::Ascending;
 pub use served::Served;
 
 // Handed on: crates above name these through this one.
-pub use front_conn_costs::front_conn;
-pub use front_conn_costs::sru_rules;
 pub use front_conn_costs;
+pub use front_conn_costs::{front_conn, sru_rules};
 pub use front_conn_seats;

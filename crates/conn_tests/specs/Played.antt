@@ -18,7 +18,8 @@ module _ {W S : Type 0} (w : world.Ghosts W) (t : sitting.Ghosts S W) where
 
   -- a connection of a route stays so
   abbrev pub StaysClient : (old new : ClientState S) → Type 0
-  StaysClient old new = (route : Route) (most : ℕ) → IsClient route most old → IsClient route most new
+  StaysClient old new =
+      (route : Route) (most : ℕ) → IsClient route most old → IsClient route most new
 
   -- both connections are the route's
   pub record ArePlayed (route : Route) (most : ℕ) (client other : ClientState S) : Type 0 where

@@ -1,4 +1,5 @@
--- A text has tokens, or a place where it is unclosed, one of them and not both (this project's own claim).
+-- A text has tokens, or a place where it is unclosed, one of them and not both
+-- (this project's own claim).
 use Rattle.std.specs.Prelude.{◌≡◌, ℕ, ◌⊎◌, List}
 use Rattle.cql_lex.specs.Tokens.{AreTokens, IsUnclosed}
 use Rattle.cql_lex.specs.declared.token.Token.{Token}

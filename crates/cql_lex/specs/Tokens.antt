@@ -1,4 +1,5 @@
--- The tokens of a text (CQL 1.2, BNF): the longest symbol first, strings, bare words, and white space between them.
+-- The tokens of a text (CQL 1.2, BNF): the longest symbol first, strings, bare words, and white
+-- space between them.
 use Rattle.std.specs.Prelude.{◌≡◌, ℕ, ◌+◌, ◌-◌, ◌<◌, ◌==◌, List, [], ◌∷◌, length, drop, slice_index, Option, Some, None, option_map, false, if◌then◌else◌}
 use Rattle.cql_lex.specs.Characters.{spaces, quoted_length, word_length}
 use Rattle.cql_lex.specs.declared.token.Token.{Token}
@@ -14,14 +15,17 @@ abbrev pub equal_at : ℕ → ℕ → Token
 equal_at next at = if next == 61 then token Exact at 2 else token Equal at 1
 
 abbrev pub less_at : ℕ → ℕ → Token
-less_at next at = if next == 61 then token LessOrEqual at 2 else (if next == 62 then token LessOrGreater at 2 else token Less at 1)
+less_at next at =
+    if next == 61 then token LessOrEqual at 2
+    else (if next == 62 then token LessOrGreater at 2 else token Less at 1)
 
 abbrev pub greater_at : ℕ → ℕ → Token
 greater_at next at = if next == 61 then token GreaterOrEqual at 2 else token Greater at 1
 
 -- a string, with both its quotes (charString2)
 unfoldable pub quoted_at : List ℕ → ℕ → Option Token
-quoted_at text at = option_map (λ len. token Quoted at (len + 1)) (quoted_length false (drop (at + 1) text))
+quoted_at text at =
+    option_map (λ len. token Quoted at (len + 1)) (quoted_length false (drop (at + 1) text))
 
 -- a bare word (charString1)
 unfoldable pub word_at : List ℕ → ℕ → Option Token
@@ -66,4 +70,5 @@ unclosed_place text start = if slice_index text start == 34 then start else leng
 abbrev pub IsUnclosed : List ℕ → ℕ → Type 0
 IsUnclosed text place =
     (ts : List Token) × (end : ℕ) × LeadsTo text 0 ts end × (next_start text end < length text)
-    × (token_at text (next_start text end) ≡ None) × (place ≡ unclosed_place text (next_start text end))
+    × (token_at text (next_start text end) ≡ None)
+    × (place ≡ unclosed_place text (next_start text end))

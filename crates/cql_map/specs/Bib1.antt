@@ -17,7 +17,8 @@ use_attribute value = attribute 1 value
 abbrev pub anywhere : ℕ
 anywhere = 1016
 
--- Relation (type 2): less than, less than or equal, equal, greater or equal, greater than, not equal
+-- Relation (type 2): less than, less than or equal, equal, greater or equal, greater than, not
+-- equal
 abbrev pub relation_attribute : ℕ → Attr
 relation_attribute value = attribute 2 value
 

@@ -1,4 +1,5 @@
--- The numbers and details of the refusals (this project's own), and of their diagnostics (SRU 1.2, list of diagnostics).
+-- The numbers and details of the refusals (this project's own), and of their diagnostics (SRU 1.2,
+-- list of diagnostics).
 use Rattle.std.specs.Prelude.{ℕ, List, []}
 use Rattle.cql_map.specs.declared.fault.MapFault.{MapFault}
 use Rattle.cql_map.specs.declared.fault.MapFault.TheVariants.{ContextSet, Index, Relation, Modifier, Boolean, Masking, EmptyTerm, Sort, BooleanModifier, Anchoring, Memory}
@@ -17,8 +18,8 @@ fault_number (BooleanModifier text) = 9
 fault_number (Anchoring text) = 10
 fault_number Memory = 0
 
--- unsupported context set, index, relation, relation modifier, boolean, masking character, empty term, sort,
--- boolean modifier, anchoring character
+-- unsupported context set, index, relation, relation modifier, boolean, masking character, empty
+-- term, sort, boolean modifier, anchoring character
 abbrev pub diagnostic_of : MapFault → ℕ
 diagnostic_of (ContextSet text) = 15
 diagnostic_of (Index text) = 16

@@ -1,5 +1,6 @@
--- What a query has that is not mapped, from the left, in a clause in the order index, relation, modifiers, term, and
--- a sort behind all others (CQL 1.2 has these parts; which are not mapped is this project's own).
+-- What a query has that is not mapped, from the left, in a clause in the order index, relation,
+-- modifiers, term, and a sort behind all others (CQL 1.2 has these parts; which are not mapped is
+-- this project's own).
 use Rattle.std.specs.Prelude.{◌≡◌, ℕ, ◌||◌, ◌⊎◌, Bool, true, false, List, [], ◌∷◌, ◌++◌, Option, Some, None, if◌then◌else◌}
 use Rattle.route_config.specs.declared.route.Index.{Index}
 use Rattle.cql_parse.specs.declared.tree.Modifier.{Modifier}
@@ -21,7 +22,8 @@ use Rattle.cql_map.specs.Operators.{operator_of}
 -- an index that there is not: its prefix, where no index has it, else its name
 abbrev pub unknown_index : List Index → List ℕ → MapFault
 unknown_index indexes name =
-    if has_dot name then (if is_known_prefix indexes (prefix_of name) then fault.Index name else fault.ContextSet (prefix_of name))
+    if has_dot name then (if is_known_prefix indexes (prefix_of name) then fault.Index name
+    else fault.ContextSet (prefix_of name))
     else fault.Index name
 
 abbrev pub index_faults_by : List Index → List ℕ → Option ℕ → List MapFault
@@ -85,7 +87,8 @@ term_faults (Some row) cs = row_faults row cs
 -- a clause
 abbrev pub head_faults : List Index → Head → List MapFault
 head_faults indexes head =
-    index_faults indexes head.index ++ (relation_faults head.relation ++ relation_modifier_faults head.modifiers)
+    index_faults indexes head.index
+    ++ (relation_faults head.relation ++ relation_modifier_faults head.modifiers)
 
 abbrev pub clause_faults : List Index → Option Head → List ℕ → List MapFault
 clause_faults indexes None term = row_faults (Compared equal) (characters false term)

@@ -11,7 +11,8 @@ use_in (i ∷ rest) name = if is_same_name i.name name then Some i.value else us
 
 -- cql.serverChoice is the same for every route
 abbrev pub use_named : List Index → List ℕ → Option ℕ
-use_named indexes name = if is_same_name (codes "cql.serverChoice") name then Some anywhere else use_in indexes name
+use_named indexes name =
+    if is_same_name (codes "cql.serverChoice") name then Some anywhere else use_in indexes name
 
 -- the first of two, or the second where there is none
 abbrev pub or_else : Option ℕ → Option ℕ → Option ℕ
@@ -22,7 +23,8 @@ or_else (Some value) other = Some value
 abbrev pub use_of : List Index → List ℕ → Option ℕ
 use_of indexes name =
     if has_dot name then use_named indexes name
-    else or_else (use_named indexes (codes "dc." ++ name)) (use_named indexes (codes "cql." ++ name))
+    else or_else (use_named indexes (codes "dc." ++ name))
+    (use_named indexes (codes "cql." ++ name))
 
 -- some index has this prefix, or it is cql
 abbrev pub is_known_prefix : List Index → List ℕ → Bool

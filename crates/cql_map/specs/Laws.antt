@@ -8,4 +8,5 @@ use Rattle.cql_map.specs.Mapped.{mapped}
 
 -- a query without a fault is mapped
 abbrev pub IsMappedUnlessFaulty : List Index → Tree → Type 0
-IsMappedUnlessFaulty indexes q = all_faults indexes q ≡ [] → (root : rpn.Tree) × (mapped indexes q ≡ Some root)
+IsMappedUnlessFaulty indexes q =
+    all_faults indexes q ≡ [] → (root : rpn.Tree) × (mapped indexes q ≡ Some root)

@@ -1,5 +1,5 @@
--- The operand of a term or word: its attributes, in the order of the table of relations, and its octets.
--- (ANSI/NISO Z39.50-2003, AttributesPlusTerm; the attributes are this project's own.)
+-- The operand of a term or word: its attributes, in the order of the table of relations, and its
+-- octets. (ANSI/NISO Z39.50-2003, AttributesPlusTerm; the attributes are this project's own.)
 use Rattle.std.specs.Prelude.{ℕ, Bool, true, false, List, [], ◌∷◌, ◌++◌, if◌then◌else◌}
 use Rattle.z_types.specs.declared.query.Attr.{Attr}
 use Rattle.z_types.specs.declared.query.Term.{Term}
@@ -31,7 +31,8 @@ truncation true true = both_truncations ∷ []
 
 abbrev pub attributes : ℕ → Row → List Character → List Attr
 attributes value row cs =
-    use_attribute value ∷ row_attributes row (core cs) ++ truncation (begins_star cs) (ends_star (behind_star cs))
+    use_attribute value ∷ row_attributes row (core cs)
+    ++ truncation (begins_star cs) (ends_star (behind_star cs))
 
 abbrev pub term_of : List Character → Term
 term_of cs = General (octets (core cs))

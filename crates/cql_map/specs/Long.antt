@@ -1,4 +1,5 @@
--- Terms of which each word is searched, and which have too many (the limit of 48 levels is this project's own)
+-- Terms of which each word is searched, and which have too many (the limit of 48 levels is
+-- this project's own)
 use Rattle.std.specs.Prelude.{◌≡◌, ◌<◌, ◌||◌, Bool, true, false, List, length, nat_lt, Option, None, Some}
 use Rattle.z_types.specs.Bounds.{most_query_depth}
 use Rattle.z_types.specs.QueryMeasures.{tree_depth}
@@ -29,4 +30,5 @@ has_long_term (sorted q keys) = has_long_term q
 -- the mapping of a query with such a term has too many levels
 abbrev pub IsTooDeepIfLong : List Index → Tree → Type 0
 IsTooDeepIfLong indexes q =
-    (root : rpn.Tree) → has_long_term q ≡ true → mapped indexes q ≡ Some root → most_query_depth < tree_depth root
+    (root : rpn.Tree) → has_long_term q ≡ true → mapped indexes q ≡ Some root
+    → most_query_depth < tree_depth root

@@ -1,4 +1,5 @@
--- The query of type 1 that a query of CQL is mapped to; none where a part of it has no mapping (this project's own).
+-- The query of type 1 that a query of CQL is mapped to; none where a part of it has no mapping
+-- (this project's own).
 use Rattle.std.specs.Prelude.{ℕ, false, List, [], ◌∷◌, Option, Some, None}
 use Rattle.z_types.specs.Tree as rpn
 use Rattle.route_config.specs.declared.route.Index.{Index}
@@ -24,11 +25,13 @@ beside Any a b = rpn.or a b
 
 abbrev pub words_joined : Joint → ℕ → rpn.Tree → List (List Character) → rpn.Tree
 words_joined joint value left [] = left
-words_joined joint value left (w ∷ ws) = words_joined joint value (beside joint left (leaf_of value (Words joint) w)) ws
+words_joined joint value left (w ∷ ws) =
+    words_joined joint value (beside joint left (leaf_of value (Words joint) w)) ws
 
 abbrev pub words_mapped : Joint → ℕ → List (List Character) → Option rpn.Tree
 words_mapped joint value [] = None
-words_mapped joint value (w ∷ ws) = Some (words_joined joint value (leaf_of value (Words joint) w) ws)
+words_mapped joint value (w ∷ ws) =
+    Some (words_joined joint value (leaf_of value (Words joint) w) ws)
 
 abbrev pub row_mapped : ℕ → Row → List Character → Option rpn.Tree
 row_mapped value (Words joint) cs = words_mapped joint value (words cs)

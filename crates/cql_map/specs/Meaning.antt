@@ -1,5 +1,6 @@
--- Whether a query finds a record, apart from how it is mapped (CQL 1.2; ANSI/NISO Z39.50-2003, RPNQuery). A search says
--- of each operand whether it finds that record; sets are joined record by record, so one record says it of all.
+-- Whether a query finds a record, apart from how it is mapped (CQL 1.2; ANSI/NISO Z39.50-2003,
+-- RPNQuery). A search says of each operand whether it finds that record; sets are joined record by
+-- record, so one record says it of all.
 use Rattle.std.specs.Prelude.{◌≡◌, ℕ, ◌&&◌, ◌||◌, Bool, true, false, not, List, [], ◌∷◌, Option, Some, None}
 use Rattle.z_types.specs.declared.query.Attr.{Attr}
 use Rattle.z_types.specs.declared.query.Term.{Term}
@@ -38,22 +39,26 @@ term_finds search value row cs = search (attributes value row cs) (term_of cs)
 
 abbrev pub words_find : Joint → Search → ℕ → List (List Character) → Bool
 words_find All search value [] = true
-words_find All search value (w ∷ ws) = term_finds search value (Words All) w && words_find All search value ws
+words_find All search value (w ∷ ws) =
+    term_finds search value (Words All) w && words_find All search value ws
 words_find Any search value [] = false
-words_find Any search value (w ∷ ws) = term_finds search value (Words Any) w || words_find Any search value ws
+words_find Any search value (w ∷ ws) =
+    term_finds search value (Words Any) w || words_find Any search value ws
 
 abbrev pub row_finds : Search → ℕ → Row → List Character → Bool
 row_finds search value (Words joint) cs = words_find joint search value (words cs)
 row_finds search value row cs = term_finds search value row cs
 
--- a clause by the row of its relation, in its index; without them it has no meaning, and finds nothing
+-- a clause by the row of its relation, in its index; without them it has no meaning, and finds
+-- nothing
 abbrev pub searched : Search → Option ℕ → Option Row → List Character → Bool
 searched search None row cs = false
 searched search (Some value) None cs = false
 searched search (Some value) (Some row) cs = row_finds search value row cs
 
 abbrev pub clause_finds : Search → List Index → Option Head → List ℕ → Bool
-clause_finds search indexes None term = row_finds search anywhere (Compared equal) (characters false term)
+clause_finds search indexes None term =
+    row_finds search anywhere (Compared equal) (characters false term)
 clause_finds search indexes (Some head) term =
     searched search (use_of indexes head.index) (row_of head.relation) (characters false term)
 
@@ -74,4 +79,5 @@ finds search indexes (sorted q keys) = finds search indexes q
 
 -- both queries find the same, whatever their operands find
 abbrev pub HasMeaningOf : List Index → Tree → rpn.Tree → Type 0
-HasMeaningOf indexes query mapped = (search : Search) → rpn_finds search mapped ≡ finds search indexes query
+HasMeaningOf indexes query mapped =
+    (search : Search) → rpn_finds search mapped ≡ finds search indexes query

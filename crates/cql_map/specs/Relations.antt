@@ -1,4 +1,5 @@
--- The table of relations: which attributes follow Use (CQL 1.2, context set cql; the attributes are this project's own).
+-- The table of relations: which attributes follow Use (CQL 1.2, context set cql; the attributes are
+-- this project's own).
 use Rattle.std.specs.Prelude.{ℕ, List, [], ◌∷◌, take, drop, codes, Option, Some, None, if◌then◌else◌}
 use Rattle.cql_map.specs.declared.relation.Row.{Row}
 use Rattle.cql_map.specs.declared.relation.Row.TheVariants.{Compared, Whole, Adjacent, Words}
@@ -9,14 +10,15 @@ use Rattle.cql_map.specs.Bib1.{less, less_or_equal, equal, greater_or_equal, gre
 -- the symbols
 abbrev pub symbols : List (List ℕ × Row)
 symbols =
-    (codes "=", Compared equal) ∷ (codes "==", Whole) ∷ (codes "<", Compared less) ∷ (codes "<=", Compared less_or_equal)
-    ∷ (codes ">=", Compared greater_or_equal) ∷ (codes ">", Compared greater) ∷ (codes "<>", Compared not_equal) ∷ []
+    (codes "=", Compared equal) ∷ (codes "==", Whole) ∷ (codes "<", Compared less)
+    ∷ (codes "<=", Compared less_or_equal) ∷ (codes ">=", Compared greater_or_equal)
+    ∷ (codes ">", Compared greater) ∷ (codes "<>", Compared not_equal) ∷ []
 
 -- the words
 abbrev pub words : List (List ℕ × Row)
 words =
-    (codes "scr", Compared equal) ∷ (codes "exact", Whole) ∷ (codes "adj", Adjacent) ∷ (codes "all", Words All)
-    ∷ (codes "any", Words Any) ∷ []
+    (codes "scr", Compared equal) ∷ (codes "exact", Whole) ∷ (codes "adj", Adjacent)
+    ∷ (codes "all", Words All) ∷ (codes "any", Words Any) ∷ []
 
 -- the row of this name
 abbrev pub row_in : List (List ℕ × Row) → List ℕ → Option Row

@@ -1,4 +1,5 @@
--- A term's characters, its words and its masks (CQL 1.2; which masks are taken is this project's own).
+-- A term's characters, its words and its masks (CQL 1.2; which masks are taken is
+-- this project's own).
 use Rattle.std.specs.Prelude.{◌≡◌, ℕ, ◌<◌, length, Option, Some, None, ◌==◌, ◌&&◌, ◌||◌, Bool, true, false, not, List, [], ◌∷◌, drop, map, if◌then◌else◌}
 use Rattle.std.specs.Borrow.{Bor}
 use Rattle.cql_lex.specs.Characters.{is_space}
@@ -12,7 +13,8 @@ character octet taken = record { octet = octet; taken = taken }
 abbrev pub characters : Bool → List ℕ → List Character
 characters taken [] = []
 characters true (b ∷ rest) = character b true ∷ characters false rest
-characters false (b ∷ rest) = if b == 92 then characters true rest else (character b false ∷ characters false rest)
+characters false (b ∷ rest) =
+    if b == 92 then characters true rest else (character b false ∷ characters false rest)
 
 abbrev pub octets : List Character → List ℕ
 octets cs = map (λ c. c.octet) cs
@@ -52,9 +54,11 @@ abbrev pub EndsWord : List Character → ℕ → Type 0
 EndsWord cs len = len < length cs → begins parts_words (drop len cs) ≡ true
 
 -- the first word and what stands behind it; none where there is no word
-abbrev pub IsNextWord : List Character → Option (Bor (List Character) × Bor (List Character)) → Type 0
+abbrev pub IsNextWord : List Character
+    → Option (Bor (List Character) × Bor (List Character)) → Type 0
 IsNextWord cs None = words cs ≡ []
-IsNextWord cs (Some found) = (words cs ≡ found.0.now ∷ words found.1.now) × (length found.1.now < length cs)
+IsNextWord cs (Some found) =
+    (words cs ≡ found.0.now ∷ words found.1.now) × (length found.1.now < length cs)
 
 -- a mask: a star at the start, one at the end
 abbrev pub is_star : Character → Bool

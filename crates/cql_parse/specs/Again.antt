@@ -20,7 +20,8 @@ pub record IsTextOf (text : List ℕ) (tree : Tree) : Type 0 where
 
 -- the brackets in this text are nested so deep at most (this project's own)
 abbrev pub IsNestedWithin : List ℕ → ℕ → Type 0
-IsNestedWithin text most = (tokens : List Token) → AreTokens text tokens → nesting 0 (lexemes text tokens) ≤ most
+IsNestedWithin text most =
+    (tokens : List Token) → AreTokens text tokens → nesting 0 (lexemes text tokens) ≤ most
 
 -- and no deeper than this tree has levels
 abbrev pub IsNoDeeper : List ℕ → Tree → Type 0

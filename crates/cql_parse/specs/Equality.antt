@@ -1,4 +1,5 @@
--- For proofs alone: the parts of queries, and their trees, are tested and copied exactly (this project's own).
+-- For proofs alone: the parts of queries, and their trees, are tested and copied exactly
+-- (this project's own).
 use Rattle.std.specs.Prelude.{◌≡◌, ℕ, refl, Bool, true, false, ◌&&◌, List, Option}
 use Rattle.std.specs.Cmp.{IsEquivalence, IsPartialEquivalence, partial_equiv_from_equiv}
 use Rattle.std.specs.Cmp.Lexicographic.{lists_equiv, options_equiv}
@@ -30,7 +31,8 @@ head = made_of
     (part (λ (h : Head). h.index) text
     ⊗ part (λ h. h.relation) text
     ⊗ part (λ h. h.modifiers) modifiers)
-    (λ (index, (relation, modifiers)). record { index = index; relation = relation; modifiers = modifiers })
+    (λ (index, (relation, modifiers)).
+    record { index = index; relation = relation; modifiers = modifiers })
     (λ _. refl)
 
 abbrev pub key : Exactness SortKey
@@ -58,7 +60,8 @@ abbrev pub tree_eq : Tree → Tree → Bool
 tree_eq (clause head term) (clause other word) = clause_parts.eq (head, term) (other, word)
 tree_eq (joined boolean modifiers l r) (joined word others m s) =
     boolean_parts.eq (boolean, modifiers) (word, others) && (tree_eq l m && tree_eq r s)
-tree_eq (assigned name uri q) (assigned other word r) = prefix_parts.eq (name, uri) (other, word) && tree_eq q r
+tree_eq (assigned name uri q) (assigned other word r) =
+    prefix_parts.eq (name, uri) (other, word) && tree_eq q r
 tree_eq (sorted q these) (sorted r others) = tree_eq q r && keys.eq these others
 tree_eq a b = false
 
@@ -67,7 +70,8 @@ tree_exact (clause head term) (clause other word) h =
     let p = clause_parts.eq_is_exact (head, term) (other, word) h in
     ap (λ (x : Option Head × List ℕ). clause x.0 x.1) p
 tree_exact (joined boolean modifiers l r) (joined word others m s) h =
-    let p = both_true (boolean_parts.eq (boolean, modifiers) (word, others)) (tree_eq l m && tree_eq r s) h in
+    let p = both_true (boolean_parts.eq (boolean, modifiers) (word, others))
+    (tree_eq l m && tree_eq r s) h in
     let q = both_true (tree_eq l m) (tree_eq r s) p.1 in
     let b = boolean_parts.eq_is_exact (boolean, modifiers) (word, others) p.0 in
     let word_is = ap (λ (x : List ℕ × List Modifier). x.0) b in
@@ -92,7 +96,8 @@ tree_itself (clause head term) =
     let t = nat_list_eq_equiv.refl term in rw (h, t)
 tree_itself (joined boolean modifiers l r) =
     let b = nat_list_eq_equiv.refl boolean in
-    let m = (lists_equiv modifier_law.laws-law).refl modifiers in rw (b, m, tree_itself l, tree_itself r)
+    let m = (lists_equiv modifier_law.laws-law).refl modifiers in
+    rw (b, m, tree_itself l, tree_itself r)
 tree_itself (assigned name uri q) =
     let n = (options_equiv nat_list_eq_equiv).refl name in
     let u = nat_list_eq_equiv.refl uri in rw (n, u, tree_itself q)

@@ -1,5 +1,6 @@
--- The grammar of CQL (CQL 1.2, BNF), as a relation between tokens and a tree. Each rule says of the tokens
--- from some place on which part of a query they begin with, and which tokens are left behind it.
+-- The grammar of CQL (CQL 1.2, BNF), as a relation between tokens and a tree. Each rule says of the
+-- tokens from some place on which part of a query they begin with, and which tokens are left behind
+-- it.
 use Rattle.std.specs.Prelude.{◌≡◌, ℕ, Bool, true, false, List, [], ◌∷◌, Option, Some, None}
 use Rattle.cql_parse.specs.declared.tree.Modifier.{Modifier}
 use Rattle.cql_parse.specs.declared.tree.Head.{Head}
@@ -13,7 +14,8 @@ abbrev pub Repeats : {X : Type 0} → (List Lexeme → Bool) → (List Lexeme �
     → List Lexeme → List X → List Lexeme → Type 0
 Repeats is_due IsItem ts [] rest = (is_due ts ≡ false) × (rest ≡ ts)
 Repeats is_due IsItem ts (x ∷ xs) rest =
-    (is_due ts ≡ true) × (more : List Lexeme) × IsItem ts x more × Repeats is_due IsItem more xs rest
+    (is_due ts ≡ true) × (more : List Lexeme) × IsItem ts x more
+    × Repeats is_due IsItem more xs rest
 
 -- "/" word
 pub record IsName (ts : List Lexeme) (name : List ℕ) (rest : List Lexeme) : Type 0 where
@@ -71,7 +73,8 @@ pub record IsTerm (ts : List Lexeme) (text : List ℕ) (rest : List Lexeme) : Ty
   pub alone : starts is_relation rest ≡ false
 
 -- term relation { modifier } term
-pub record IsComparison (ts : List Lexeme) (head : Head) (text : List ℕ) (rest : List Lexeme) : Type 0 where
+pub record IsComparison (ts : List Lexeme) (head : Head) (text : List ℕ)
+    (rest : List Lexeme) : Type 0 where
   pub index : Lexeme
   pub relation : Lexeme
   pub term : Lexeme
@@ -135,30 +138,36 @@ abbrev pub join : Option Left → Tree → Tree
 join None right = right
 join (Some left) right = joined left.boolean left.modifiers left.tree right
 
--- What comes next: a clause, behind what stands left of it in this query, or what may follow this query.
+-- What comes next: a clause, behind what stands left of it in this query, or what may follow this
+-- query.
 pub data Due : Type 0 where
   operand : Option Left → Due
   after : Tree → Due
 
--- query := clause { boolean { modifier } clause } [ "sortby" key { key } ], where a clause may also be a
--- query in brackets, which leave nothing in the tree, or a prefix assignment, whose query goes on as far as it
--- can. What is due at the front of the tokens makes the query this tree, and these tokens are left behind it.
+-- query := clause { boolean { modifier } clause } [ "sortby" key { key } ], where a clause may also
+-- be a query in brackets, which leave nothing in the tree, or a prefix assignment, whose query goes
+-- on as far as it can. What is due at the front of the tokens makes the query this tree, and these
+-- tokens are left behind it.
 pub data Reads : Due → List Lexeme → Tree → List Lexeme → Type 0 where
-  plain : {left : Option Left} {ts rest end : List Lexeme} {q : Tree} (head : Option Head) (text : List ℕ)
+  plain : {left : Option Left} {ts rest end : List Lexeme} {q : Tree} (head : Option Head)
+      (text : List ℕ)
       → IsClause ts head text rest → Reads (after (join left (clause head text))) rest q end
       → Reads (operand left) ts q end
   bracket : {left : Option Left} {ts rest end : List Lexeme} {inner q : Tree} (x y : Lexeme)
       → is_open x.class ≡ true → Reads (operand None) ts inner (y ∷ rest) → is_close y.class ≡ true
       → Reads (after (join left inner)) rest q end → Reads (operand left) (x ∷ ts) q end
-  prefix : {left : Option Left} {ts rest end : List Lexeme} {q : Tree} (name : Option (List ℕ)) (uri : List ℕ)
+  prefix : {left : Option Left} {ts rest end : List Lexeme} {q : Tree} (name : Option (List ℕ))
+      (uri : List ℕ)
       → IsPrefix ts name uri rest → Reads (operand None) rest q end
       → Reads (operand left) ts (join left (assigned name uri q)) end
   boolean : {tree q : Tree} {ts rest end : List Lexeme} (x : Lexeme) (ms : List Modifier)
       → is_boolean x.class ≡ true → AreModifiers ts ms rest
-      → Reads (operand (Some (record { tree = tree; boolean = lower x.text; modifiers = ms }))) rest q end
+      → Reads
+      (operand (Some (record { tree = tree; boolean = lower x.text; modifiers = ms }))) rest q end
       → Reads (after tree) (x ∷ ts) q end
-  sort : {tree : Tree} {ts end : List Lexeme} (x : Lexeme) (keys : List SortKey) → is_sortby x.class ≡ true
-      → AreKeys ts keys end → ends_query end ≡ true → Reads (after tree) (x ∷ ts) (sorted tree keys) end
+  sort : {tree : Tree} {ts end : List Lexeme} (x : Lexeme) (keys : List SortKey)
+      → is_sortby x.class ≡ true → AreKeys ts keys end → ends_query end ≡ true
+      → Reads (after tree) (x ∷ ts) (sorted tree keys) end
   done : {tree : Tree} {ts : List Lexeme} → ends_query ts ≡ true → Reads (after tree) ts tree ts
 
 -- these tokens are a query of this tree

@@ -1,4 +1,5 @@
--- The tokens of a text as the grammar sees them: their class, and their text as it stands (CQL 1.2, BNF).
+-- The tokens of a text as the grammar sees them: their class, and their text as it stands (CQL 1.2,
+-- BNF).
 use Rattle.std.specs.Prelude.{ℕ, ◌+◌, ◌-◌, Bool, false, List, [], ◌∷◌, map, take, drop}
 use Rattle.cql_lex.specs.declared.token.Token.{Token}
 use Rattle.cql_lex.specs.declared.token.Kind.{Kind}
@@ -22,7 +23,10 @@ text_of text _ start end = between text start end
 
 abbrev pub lexeme_of : List ℕ → Token → Lexeme
 lexeme_of text t =
-    let octets = text_of text t.kind t.start t.end in record { class = class_of t.kind octets; text = octets }
+    let octets = text_of text t.kind t.start t.end in record {
+      class = class_of t.kind octets;
+      text = octets;
+    }
 
 abbrev pub lexemes : List ℕ → List Token → List Lexeme
 lexemes text tokens = map (lexeme_of text) tokens

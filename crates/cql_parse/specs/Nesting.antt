@@ -9,7 +9,8 @@ abbrev pub nesting : ℕ → List Lexeme → ℕ
 nesting open_before [] = open_before
 nesting open_before (x ∷ rest) =
     max open_before (nesting
-    (if is_open x.class then suc open_before else (if is_close x.class then open_before - 1 else open_before)) rest)
+    (if is_open x.class then suc open_before
+    else (if is_close x.class then open_before - 1 else open_before)) rest)
 
 -- brackets are within the limit
 abbrev pub HasShallowBrackets : List Lexeme → Type 0

@@ -28,7 +28,8 @@ abbrev pub IsNamedPrefixOf : List Lexeme → List ℕ × List ℕ → List Lexem
 IsNamedPrefixOf ts p rest = IsNamedPrefix ts p.0 p.1 rest
 
 -- what was found stands in this relation to the tokens left; where nothing is, nothing does
-abbrev pub Finds : {X : Type 0} → List ℕ → (X → List Lexeme → Type 0) → Result (X × Bor (List Token)) Stop → Type 0
+abbrev pub Finds : {X : Type 0} → List ℕ → (X → List Lexeme → Type 0)
+    → Result (X × Bor (List Token)) Stop → Type 0
 Finds text IsFound (Ok found) = IsFound found.0 (lexemes text found.1.now)
 Finds {X} text IsFound (Err NoQuery) = (x : X) (rest : List Lexeme) → IsFound x rest → ⊥
 Finds text IsFound (Err Deep) = ⊥

@@ -1,4 +1,5 @@
--- For contracts alone: what an unfinished query is within: brackets and prefix assignments (this project's own).
+-- For contracts alone: what an unfinished query is within: brackets and prefix assignments
+-- (this project's own).
 use Rattle.std.specs.Prelude.{◌≡◌, ℕ, List, Bool, true, false}
 use Rattle.cql_parse.specs.declared.fault.Stop.{Stop}
 use Rattle.cql_parse.specs.declared.fault.Stop.TheVariants.{NoQuery, Deep, Memory}

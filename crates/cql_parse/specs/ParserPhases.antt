@@ -1,4 +1,5 @@
--- For contracts alone: which token may come next in a query (CQL 1.2, BNF, as an LL(1) table with a counter of open brackets).
+-- For contracts alone: which token may come next in a query (CQL 1.2, BNF, as an LL(1) table with a
+-- counter of open brackets).
 use Rattle.std.specs.Prelude.{ℕ, zero, suc, ◌==◌, ◌&&◌, Bool, true, false, List, [], ◌∷◌, Option, Some, None, option_map, if◌then◌else◌}
 use Rattle.cql_parse.specs.declared.lexeme.Class.{Class}
 use Rattle.cql_parse.specs.declared.first_fault.Owner.{Owner}
@@ -22,7 +23,8 @@ closed (suc n) = Some (spot After n)
 abbrev pub clause_step : ℕ → Class → Option Spot
 clause_step n c =
     if is_term c then Some (spot Term n)
-    else (if is_open c then Some (spot Clause (suc n)) else (if is_greater c then Some (spot Sign n) else None))
+    else (if is_open c then Some (spot Clause (suc n))
+    else (if is_greater c then Some (spot Sign n) else None))
 
 -- behind a clause: a boolean, sortby, a closing bracket
 abbrev pub after_step : ℕ → Class → Option Spot
@@ -34,10 +36,12 @@ after_step n c =
 abbrev pub unmodified_step : Owner → ℕ → Class → Option Spot
 unmodified_step Relation n c = if is_term c then Some (spot After n) else None
 unmodified_step Boolean n c = clause_step n c
-unmodified_step Key n c = if is_term c then Some (spot (Modified Key) n) else (if is_close c then closed n else None)
+unmodified_step Key n c =
+    if is_term c then Some (spot (Modified Key) n) else (if is_close c then closed n else None)
 
 abbrev pub modified_step : Owner → ℕ → Class → Option Spot
-modified_step owner n c = if is_slash c then Some (spot (Slash owner) n) else unmodified_step owner n c
+modified_step owner n c =
+    if is_slash c then Some (spot (Slash owner) n) else unmodified_step owner n c
 
 -- one token
 abbrev pub step_of : Phase → ℕ → Class → Option Spot
@@ -45,12 +49,15 @@ step_of Clause n c = clause_step n c
 step_of Term n c = if is_relation c then Some (spot (Modified Relation) n) else after_step n c
 step_of After n c = after_step n c
 step_of SortBy n c = if is_term c then Some (spot (Modified Key) n) else None
-step_of Sign n c = if is_word c then Some (spot PrefixWord n) else (if is_term c then Some (spot Clause n) else None)
+step_of Sign n c =
+    if is_word c then Some (spot PrefixWord n)
+    else (if is_term c then Some (spot Clause n) else None)
 step_of PrefixWord n c = if is_equal c then Some (spot Uri n) else clause_step n c
 step_of Uri n c = if is_term c then Some (spot Clause n) else None
 step_of (Modified owner) n c = modified_step owner n c
 step_of (Slash owner) n c = if is_word c then Some (spot (Named owner) n) else None
-step_of (Named owner) n c = if is_symbol c then Some (spot (Value owner) n) else modified_step owner n c
+step_of (Named owner) n c =
+    if is_symbol c then Some (spot (Value owner) n) else modified_step owner n c
 step_of (Value owner) n c = if is_term c then Some (spot (Modified owner) n) else None
 
 -- a query may end in this phase
@@ -68,11 +75,13 @@ ends_so phase n = is_final phase && (n == 0)
 abbrev pub accepts : Phase → ℕ → List Lexeme → Bool
 accepts phase n [] = ends_so phase n
 accepts phase n (x ∷ rest) =
-    elim (step_of phase n x.class) [ None ↦ false | Some next ↦ accepts next.phase next.«open» rest ]
+    elim (step_of phase n x.class)
+    [ None ↦ false | Some next ↦ accepts next.phase next.«open» rest ]
 
--- how many tokens come before the first with which no query goes on; their number where a query goes on with all
--- of them but does not end; none where it ends
+-- how many tokens come before the first with which no query goes on; their number where a query
+-- goes on with all of them but does not end; none where it ends
 abbrev pub fault_at : Phase → ℕ → List Lexeme → Option ℕ
 fault_at phase n [] = if ends_so phase n then None else Some 0
 fault_at phase n (x ∷ rest) =
-    elim (step_of phase n x.class) [ None ↦ Some 0 | Some next ↦ option_map suc (fault_at next.phase next.«open» rest) ]
+    elim (step_of phase n x.class)
+    [ None ↦ Some 0 | Some next ↦ option_map suc (fault_at next.phase next.«open» rest) ]

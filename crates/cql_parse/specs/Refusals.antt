@@ -13,8 +13,8 @@ use Rattle.z_types.specs.Bounds.{most_query_depth}
 abbrev pub Begins : List Lexeme → Type 0
 Begins front = (more : List Lexeme) × (t : Tree) × IsQuery (front ++ more) t
 
--- The tokens before this one begin a query, and with it they begin none; at the tokens' end, they begin a query
--- and are none.
+-- The tokens before this one begin a query, and with it they begin none; at the tokens' end, they
+-- begin a query and are none.
 pub record IsSyntax (ts : List Lexeme) (at : ℕ) : Type 0 where
   pub within : at ≤ length ts
   pub before : Begins (take at ts)
@@ -38,5 +38,7 @@ IsNeverShallow ts = (t : Tree) → IsQuery ts t → IsTooDeep ts t
 -- this is why the tokens of the text give no tree
 abbrev pub IsRefusal : List ℕ → List Token → ParseFault → Type 0
 IsRefusal text tokens Memory = Unit {0}
-IsRefusal text tokens (Syntax place) = (at : ℕ) × IsSyntax (lexemes text tokens) at × (place ≡ place_of text tokens at)
-IsRefusal text tokens TooDeep = (t : Tree) × IsQuery (lexemes text tokens) t × IsTooDeep (lexemes text tokens) t
+IsRefusal text tokens (Syntax place) =
+    (at : ℕ) × IsSyntax (lexemes text tokens) at × (place ≡ place_of text tokens at)
+IsRefusal text tokens TooDeep =
+    (t : Tree) × IsQuery (lexemes text tokens) t × IsTooDeep (lexemes text tokens) t

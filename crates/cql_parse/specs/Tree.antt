@@ -35,13 +35,15 @@ text_code = coded_list coded_ℕ
 
 abbrev modifier_code : Coded Modifier
 modifier_code =
-    code_by (List ℕ × Option (List ℕ × List ℕ)) (coded× text_code (coded_option (coded× text_code text_code)))
+    code_by (List ℕ × Option (List ℕ × List ℕ))
+    (coded× text_code (coded_option (coded× text_code text_code)))
     (λ m. (m.name, m.value))
     (λ p. record { name = p.0; value = p.1 }) (λ _. refl)
 
 abbrev head_code : Coded Head
 head_code =
-    code_by (List ℕ × (List ℕ × List Modifier)) (coded× text_code (coded× text_code (coded_list modifier_code)))
+    code_by (List ℕ × (List ℕ × List Modifier))
+    (coded× text_code (coded× text_code (coded_list modifier_code)))
     (λ h. (h.index, (h.relation, h.modifiers)))
     (λ p. record { index = p.0; relation = p.1.0; modifiers = p.1.1 }) (λ _. refl)
 
@@ -65,7 +67,8 @@ keys_code = coded_list key_code
 
 abbrev code_of : Tree → Gv
 code_of (clause head term) = gcons (gnum 0) (clause_code.code (head, term))
-code_of (joined boolean modifiers l r) = gcons (gnum 1) (gcons (boolean_code.code (boolean, modifiers)) (gcons (code_of l) (code_of r)))
+code_of (joined boolean modifiers l r) =
+    gcons (gnum 1) (gcons (boolean_code.code (boolean, modifiers)) (gcons (code_of l) (code_of r)))
 code_of (assigned name uri q) = gcons (gnum 2) (gcons (prefix_code.code (name, uri)) (code_of q))
 code_of (sorted q keys) = gcons (gnum 3) (gcons (keys_code.code keys) (code_of q))
 

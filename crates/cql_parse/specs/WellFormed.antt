@@ -1,4 +1,5 @@
--- Which trees queries have: each text of the tree is what the grammar has at its place (CQL 1.2, BNF).
+-- Which trees queries have: each text of the tree is what the grammar has at its place (CQL 1.2,
+-- BNF).
 use Rattle.std.specs.Prelude.{◌≡◌, ℕ, suc, Bool, true, false, List, [], ◌∷◌, ◌++◌, length, Option, Some, None, codes, IsUtf8}
 use Rattle.cql_lex.specs.Characters.{quoted_length, is_word}
 use Rattle.cql_parse.specs.declared.tree.Modifier.{Modifier}
@@ -51,15 +52,18 @@ IsWellFormedValue (Some value) = IsSymbolText value.0 × IsTermText value.1
 
 abbrev pub AreWellFormedModifiers : List Modifier → Type 0
 AreWellFormedModifiers [] = Unit {0}
-AreWellFormedModifiers (m ∷ ms) = IsWordText m.name × IsWellFormedValue m.value × AreWellFormedModifiers ms
+AreWellFormedModifiers (m ∷ ms) =
+    IsWordText m.name × IsWellFormedValue m.value × AreWellFormedModifiers ms
 
 abbrev pub AreWellFormedKeys : List SortKey → Type 0
 AreWellFormedKeys [] = Unit {0}
-AreWellFormedKeys (k ∷ ks) = IsTermText k.index × AreWellFormedModifiers k.modifiers × AreWellFormedKeys ks
+AreWellFormedKeys (k ∷ ks) =
+    IsTermText k.index × AreWellFormedModifiers k.modifiers × AreWellFormedKeys ks
 
 abbrev pub IsWellFormedHead : Option Head → Type 0
 IsWellFormedHead None = Unit {0}
-IsWellFormedHead (Some head) = IsTermText head.index × IsRelationText head.relation × AreWellFormedModifiers head.modifiers
+IsWellFormedHead (Some head) =
+    IsTermText head.index × IsRelationText head.relation × AreWellFormedModifiers head.modifiers
 
 abbrev pub IsWellFormedName : Option (List ℕ) → Type 0
 IsWellFormedName None = Unit {0}
@@ -73,6 +77,7 @@ has_keys (k ∷ ks) = true
 -- each text of the tree is of its kind
 abbrev pub IsWellFormed : Tree → Type 0
 IsWellFormed (clause head term) = IsWellFormedHead head × IsTermText term
-IsWellFormed (joined b ms l r) = IsBooleanText b × AreWellFormedModifiers ms × IsWellFormed l × IsWellFormed r
+IsWellFormed (joined b ms l r) =
+    IsBooleanText b × AreWellFormedModifiers ms × IsWellFormed l × IsWellFormed r
 IsWellFormed (assigned name uri q) = IsWellFormedName name × IsTermText uri × IsWellFormed q
 IsWellFormed (sorted q keys) = (has_keys keys ≡ true) × AreWellFormedKeys keys × IsWellFormed q

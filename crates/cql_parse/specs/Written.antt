@@ -33,7 +33,8 @@ keys_text (k ∷ ks) = 32 ∷ index_text k.index ++ modifiers_text k.modifiers +
 -- what is read before a term is compared, and before the query of a prefix assignment
 abbrev pub head_text : Option Head → List ℕ
 head_text None = []
-head_text (Some head) = index_text head.index ++ 32 ∷ head.relation ++ modifiers_text head.modifiers ++ 32 ∷ []
+head_text (Some head) =
+    index_text head.index ++ 32 ∷ head.relation ++ modifiers_text head.modifiers ++ 32 ∷ []
 
 abbrev pub prefix_text : Option (List ℕ) → List ℕ
 prefix_text None = 62 ∷ 32 ∷ []
@@ -57,6 +58,8 @@ groups (sorted q keys) = true
 abbrev pub written : Tree → List ℕ
 written (clause head term) = head_text head ++ quoted term
 written (joined boolean modifiers l r) =
-    bracketed (reaches_on l) (written l) ++ 32 ∷ boolean ++ modifiers_text modifiers ++ 32 ∷ bracketed (groups r) (written r)
-written (assigned name uri q) = prefix_text name ++ quoted uri ++ 32 ∷ bracketed (reaches_on q) (written q)
+    bracketed (reaches_on l) (written l) ++ 32 ∷ boolean ++ modifiers_text modifiers ++ 32
+    ∷ bracketed (groups r) (written r)
+written (assigned name uri q) =
+    prefix_text name ++ quoted uri ++ 32 ∷ bracketed (reaches_on q) (written q)
 written (sorted q keys) = bracketed (reaches_on q) (written q) ++ codes " sortby" ++ keys_text keys

@@ -7,8 +7,8 @@ ghost use Rattle.package.specs.steps.Packages.{asked_of};
 
 use futures::executor::block_on;
 use gw_outside::{Backend, Clock};
-use package::leg::{Account, Leg, LegAnswer};
 use package::AllLegs;
+use package::leg::{Account, Leg, LegAnswer};
 use pool_sets::Door;
 use route_config::Route;
 use std::alloc::{Alloc, Global};

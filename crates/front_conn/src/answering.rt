@@ -21,14 +21,15 @@ use crate::Stepped;
 use crate::ends::end_step;
 use crate::totals::{Total, add_accounts, make_totals};
 use front_http::begin_head;
-use front_z::front_session::FrontSession;
 use front_http::front_sru::{SruState, end_get};
-use front_z::{Begun, begin_unit, end_unit};
+use front_z::front_session::FrontSession;
 use front_z::gateway_rules::{bad_unit_reply, mark_of};
+use front_z::z_write::put_reply;
+use front_z::{Begun, begin_unit, end_unit};
 use gw_outside::{Backend, Clock};
 use package::leg::Turned;
-use package::{Package, package_outcome_fits};
 use package::package_rules::finished_has_mark;
+use package::{Package, package_outcome_fits};
 use pool_sets::Door;
 use route_config::Route;
 use sru_request::{Get, HeadFault};
@@ -36,7 +37,6 @@ use std::alloc::Global;
 use std::marker::Model;
 use std::sync::Wait;
 use z_types::{End, List, Mark, Memory, Sitting, Text, Work, World};
-use front_z::z_write::put_reply;
 
 /// The session of a client and its GET, the legs of its request in work, and what was answered.
 #[derive(Drop)]

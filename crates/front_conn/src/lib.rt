@@ -20,6 +20,6 @@ pub use stepped::Stepped;
 pub use totals::Total;
 
 // Handed on: crates above name these through this one.
-pub use front_http::sru_rules;
 pub use front_http;
+pub use front_http::sru_rules;
 pub use front_z::gateway_rules;

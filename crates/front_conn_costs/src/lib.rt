@@ -11,7 +11,5 @@ pub use laws::{
 };
 
 // Handed on: crates above name these through this one.
-pub use front_conn::front_http;
-pub use front_conn::gateway_rules;
-pub use front_conn::sru_rules;
 pub use front_conn;
+pub use front_conn::{front_http, gateway_rules, sru_rules};

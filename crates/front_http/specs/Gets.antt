@@ -34,19 +34,21 @@ module _ {W : Type 0} (w : world.Ghosts W) (route : Route) where
     pub is_due : due route database reading ≡ searches retrieval
     pub waits : WaitsFor retrieval stage
 
-  -- a message was written that is the answer to a connection which begins with these octets, under these marks, and the connection
-  -- has ended so
-  pub record IsAnswered (octets : List ℕ) (marks : List Mark) (old new : List ℕ) (end : Option End) : Type 0 where
+  -- a message was written that is the answer to a connection which begins with these octets, under
+  -- these marks, and the connection has ended so
+  pub record IsAnswered (octets : List ℕ) (marks : List Mark) (old new : List ℕ)
+      (end : Option End) : Type 0 where
     pub message : List ℕ
     pub written : new ≡ old ++ message
     pub how : End
     pub ended : end ≡ Some how
     pub whole : (more : List ℕ) → Answers w route (octets ++ more) marks message how
 
-  -- the GET goes on behind a work that ended under a cause: it is answered under its mark, or waits for its next work, and nothing
-  -- was written
+  -- the GET goes on behind a work that ended under a cause: it is answered under its mark, or waits
+  -- for its next work, and nothing was written
   abbrev pub GoesOnBehind : List ℕ → Cause → (old new : Served) → Begun → Type 0
   GoesOnBehind octets cause old new (begun.Write mark end) =
       (mark ≡ Some cause.mark) × IsAnswered octets (cause.mark ∷ []) old.out new.out end
-  GoesOnBehind octets cause old new (begun.Work job) = StandsInGet octets new.stage × (new.out ≡ old.out)
+  GoesOnBehind octets cause old new (begun.Work job) =
+      StandsInGet octets new.stage × (new.out ≡ old.out)
   GoesOnBehind octets cause old new begun.Memory = new.out ≡ old.out

@@ -13,11 +13,12 @@ use Rattle.front_sru.specs.Gets.{IsBegun, Served}
 use Rattle.front_sru.specs.declared.begun.Begun.{Begun}
 use Rattle.front_sru.specs.declared.begun.Begun.TheVariants as begun
 
--- a reply without a body was written under no mark, and the connection has ended so; want of memory has no cause, and
--- nothing is written then
+-- a reply without a body was written under no mark, and the connection has ended so; want of memory
+-- has no cause, and nothing is written then
 abbrev pub IsRefusedBy : Refusal → End → (old new : List ℕ) → Begun → Type 0
 IsRefusedBy refusal end old new begun.Memory = new ≡ old
-IsRefusedBy refusal end old new answer = (answer ≡ begun.Write None (Some end)) × (new ≡ old ++ bare refusal)
+IsRefusedBy refusal end old new answer =
+    (answer ≡ begun.Write None (Some end)) × (new ≡ old ++ bare refusal)
 
 -- a head that is no GET
 abbrev pub IsFaultBegun : HeadFault → (old new : List ℕ) → Begun → Type 0
@@ -29,4 +30,5 @@ IsFaultBegun Memory old new answer = (answer ≡ begun.Memory) × (new ≡ old)
 -- a head
 abbrev pub IsHeadBegun : Route → Result Get HeadFault → (old new : Served) → Begun → Type 0
 IsHeadBegun route (Ok get) old new answer = IsBegun route get old new answer
-IsHeadBegun route (Err fault) old new answer = IsFaultBegun fault old.out new.out answer × (new.stage ≡ old.stage)
+IsHeadBegun route (Err fault) old new answer =
+    IsFaultBegun fault old.out new.out answer × (new.stage ≡ old.stage)

@@ -23,23 +23,28 @@ module _ {W : Type 0} (w : world.Ghosts W) where
   -- what a head was answered at once is the answer to its connection, whatever comes behind it
   abbrev pub HeadsAnswer : Type 0
   HeadsAnswer =
-      (route : Route) (octets : List ℕ) (head : Result Get HeadFault) (old new : Served) (mark : Option Mark) (end : Option End)
-      → kind_of octets ≡ letter → IsHeadOf octets head → IsHeadBegun route head old new (begun.Write mark end)
+      (route : Route) (octets : List ℕ) (head : Result Get HeadFault) (old new : Served)
+      (mark : Option Mark) (end : Option End)
+      → kind_of octets ≡ letter → IsHeadOf octets head
+      → IsHeadBegun route head old new (begun.Write mark end)
       → IsAnswered w route octets (option_to_list mark) old.out new.out end
 
   -- a head for which a work is begun is a GET that waits for it
   abbrev pub HeadsStand : Type 0
   HeadsStand =
-      (route : Route) (octets : List ℕ) (head : Result Get HeadFault) (old new : Served) (job : Work)
+      (route : Route) (octets : List ℕ) (head : Result Get HeadFault) (old new : Served)
+      (job : Work)
       → IsHeadOf octets head → IsHeadBegun route head old new (begun.Work job)
       → StandsInGet w route octets new.stage × (new.out ≡ old.out)
 
   -- behind a work that a GET waited for it goes on, under any cause that may come
   abbrev pub GetsGoOn : Type 0
   GetsGoOn =
-      (route : Route) (octets : List ℕ) (old new : Served) (job : Work) (got : Outcome) (cause : Cause) (answer : Begun)
-      → kind_of octets ≡ letter → StandsInGet w route octets old.stage → work_of route old.stage ≡ Some job
-      → got ≡ outcome_of w route job cause → IsAllowed (record { classes = classes_asked route job; cause = cause })
+      (route : Route) (octets : List ℕ) (old new : Served) (job : Work) (got : Outcome)
+      (cause : Cause) (answer : Begun)
+      → kind_of octets ≡ letter → StandsInGet w route octets old.stage
+      → work_of route old.stage ≡ Some job → got ≡ outcome_of w route job cause
+      → IsAllowed (record { classes = classes_asked route job; cause = cause })
       → IsEnded route got old new answer → GoesOnBehind w route octets cause old new answer
 
   -- and whatever follows the octets, it stands there

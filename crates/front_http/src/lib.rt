@@ -12,5 +12,5 @@ pub use laws::{gets_go_on, heads_answer};
 pub use seek::{awaits_more, seek_head};
 
 // Handed on: crates above name these through this one.
-pub use front_sru::sru_rules;
 pub use front_sru;
+pub use front_sru::sru_rules;

@@ -43,23 +43,29 @@ waits s request waiting = record (counted s request) { waiting = Some waiting }
 -- a request waits for its work, which can begin, and which its legs may be asked for
 abbrev pub IsWorkAdmitted : Work → Request → SessionState → SessionState → Admitted → Type 0
 IsWorkAdmitted work request old new (admitted.Work given) =
-    (given ≡ work) × CanBegin work × IsAskable work × (new ≡ waits old request (record { request = request; work = work }))
+    (given ≡ work) × CanBegin work × IsAskable work
+    × (new ≡ waits old request (record { request = request; work = work }))
 IsWorkAdmitted work request old new admitted.Memory = Unit {0}
 IsWorkAdmitted work request old new answer = ⊥
 
 -- what a request in its place is due becomes of it; want of memory has no cause
 abbrev pub IsGivenAdmitted : Given → Request → SessionState → SessionState → Admitted → Type 0
 IsGivenAdmitted given request old new admitted.Memory = Unit {0}
-IsGivenAdmitted (given.AtOnce reply) request old new (admitted.Reply answer) = (answer ≡ reply) × (new ≡ counted old request)
-IsGivenAdmitted (given.Works work) request old new answer = IsWorkAdmitted work request old new answer
+IsGivenAdmitted (given.AtOnce reply) request old new (admitted.Reply answer) =
+    (answer ≡ reply) × (new ≡ counted old request)
+IsGivenAdmitted (given.Works work) request old new answer =
+    IsWorkAdmitted work request old new answer
 IsGivenAdmitted other request old new answer = ⊥
 
--- a request that is due is answered at once, or waits for its work, which can begin, and which its legs may be asked for
+-- a request that is due is answered at once, or waits for its work, which can begin, and which its
+-- legs may be asked for
 abbrev pub IsDueAdmitted : Asking → Request → SessionState → SessionState → Admitted → Type 0
-IsDueAdmitted (at_once reply) request old new (admitted.Reply given) = (given ≡ reply) × (new ≡ counted old request)
+IsDueAdmitted (at_once reply) request old new (admitted.Reply given) =
+    (given ≡ reply) × (new ≡ counted old request)
 IsDueAdmitted (works work) request old new (admitted.Work given) =
     (given ≡ work) × CanBegin work × IsAskable work
-    × (new ≡ record (counted old request) { waiting = Some (record { request = request; work = work }) })
+    × (new ≡ record (counted old request)
+    { waiting = Some (record { request = request; work = work }) })
 IsDueAdmitted asked request old new answer = ⊥
 
 -- a request as it is met
@@ -67,14 +73,18 @@ abbrev pub IsMetAdmitted : Meeting → Route → SessionState → SessionState �
 IsMetAdmitted bad route old new answer = (answer ≡ admitted.Bad) × (new ≡ old)
 IsMetAdmitted (beyond request) route old new answer = (answer ≡ admitted.Limited) × (new ≡ old)
 IsMetAdmitted (closing close) route old new answer =
-    (answer ≡ admitted.Reply (close_reply close.ref_id finished)) × (new ≡ counted old (request.Close close))
+    (answer ≡ admitted.Reply (close_reply close.ref_id finished))
+    × (new ≡ counted old (request.Close close))
 IsMetAdmitted (due request) route old new answer =
-    IsDueAdmitted (asked_with (hits_named old.sets) route (client_of old) request) request old new answer
+    IsDueAdmitted
+    (asked_with (hits_named old.sets) route (client_of old) request) request old new answer
 
--- what a request is admitted as, and what is kept of the client behind it; want of memory has no cause
+-- what a request is admitted as, and what is kept of the client behind it; want of memory has no
+-- cause
 abbrev pub IsAdmitted : Route → Request → SessionState → SessionState → Admitted → Type 0
 IsAdmitted route request old new admitted.Memory = Unit {0}
-IsAdmitted route request old new answer = IsMetAdmitted (met route (progress_of 0 old) (Some request)) route old new answer
+IsAdmitted route request old new answer =
+    IsMetAdmitted (met route (progress_of 0 old) (Some request)) route old new answer
 
 -- what an outcome leaves of a request that waits
 abbrev pub settled_for : SessionState → Waiting → Outcome → Settled
@@ -82,7 +92,8 @@ settled_for s waiting outcome = settled (client_of s) waiting.request waiting.wo
 
 -- a set that a search found: its legs, its query and the hits of the outcome
 abbrev pub IsFoundSet : Work → Outcome → KnownSet → Type 0
-IsFoundSet (work.Search login legs query small large medium small_element medium_element syntax room) (outcome.Found hits records) set =
+IsFoundSet (work.Search login legs query small large medium small_element medium_element syntax
+    room) (outcome.Found hits records) set =
     (set.legs ≡ legs) × (set.query ≡ query) × (set.hits ≡ hits)
 IsFoundSet work outcome set = ⊥
 
@@ -91,7 +102,8 @@ abbrev pub HasGivenHits : List KnownSet → Work → Outcome → KnownSet → Ty
 HasGivenHits sets work outcome set = Contains sets set ⊎ IsFoundSet work outcome set
 
 -- the reply to the request that waited, and what is kept of the client behind it
-pub record IsSettled (old new : SessionState) (waiting : Waiting) (outcome : Outcome) (reply : Reply) : Type 0 where
+pub record IsSettled (old new : SessionState) (waiting : Waiting) (outcome : Outcome)
+    (reply : Reply) : Type 0 where
   pub reply-is : reply ≡ (settled_for old waiting outcome).reply
   pub client-is : client_of new ≡ (settled_for old waiting outcome).client
   pub hits : AllByRecursion (HasGivenHits old.sets waiting.work outcome) new.sets
@@ -102,4 +114,5 @@ pub record IsSettled (old new : SessionState) (waiting : Waiting) (outcome : Out
 
 -- whether a request is in its place
 abbrev pub is_in_place_after : (accepted : Bool) → Request → Bool
-is_in_place_after accepted request = is_in_place (record { at = 0; accepted = accepted; units = 0 }) request
+is_in_place_after accepted request =
+    is_in_place (record { at = 0; accepted = accepted; units = 0 }) request

@@ -27,11 +27,14 @@ pub record IsNamed (sets : List KnownSet) (name : List ℕ) (set : KnownSet) : T
 
 -- the set of a name, or the diagnostic where there is none
 abbrev pub AnswersSet : List KnownSet → List ℕ → Result (Bor KnownSet) Refusal → Type 0
-AnswersSet sets name (Ok set) = (set_check (stored_set_named name sets) name ≡ None) × IsNamed sets name set.now
+AnswersSet sets name (Ok set) =
+    (set_check (stored_set_named name sets) name ≡ None) × IsNamed sets name set.now
 AnswersSet sets name (Err refusal) = IsRefusal (set_check (stored_set_named name sets) name) refusal
 
--- the set that a Present names has its records, they are not too many, and the name of their element set is not too long
-pub record MayFetch (limits : Limits) (spent : Spent) (sets : List KnownSet) (present : Present) (set : KnownSet) : Type 0 where
+-- the set that a Present names has its records, they are not too many, and the name of their
+-- element set is not too long
+pub record MayFetch (limits : Limits) (spent : Spent) (sets : List KnownSet) (present : Present)
+    (set : KnownSet) : Type 0 where
   pub named : IsNamed sets present.set_name set
   pub range : is_out_of_range present (total set.hits) ≡ false
   pub number : are_too_many limits spent.records present.number ≡ false
@@ -40,12 +43,16 @@ pub record MayFetch (limits : Limits) (spent : Spent) (sets : List KnownSet) (pr
 -- what a Present of a client with this login asks of its set
 abbrev pub fetch_work : Option (List ℕ) → Present → KnownSet → Work
 fetch_work login present set =
-    work.Fetch login set.legs set.query set.hits (nat_abs present.start) present.number present.syntax
+    work.Fetch login set.legs set.query set.hits
+    (nat_abs present.start) present.number present.syntax
     (element_of present.element)
 
--- what a Present is due, where its client's Init settled this, and it has spent so much and has these sets
-abbrev pub AnswersPresent : Route → Agreement → Spent → List KnownSet → Present → Result Asking Refusal → Type 0
+-- what a Present is due, where its client's Init settled this, and it has spent so much and has
+-- these sets
+abbrev pub AnswersPresent : Route → Agreement → Spent → List KnownSet → Present
+    → Result Asking Refusal → Type 0
 AnswersPresent route agreed spent sets present answer =
     AnswersDue
-    (present_due route (client_with agreed spent sets) present (stored_set_named present.set_name sets)
+    (present_due route (client_with agreed spent sets) present
+    (stored_set_named present.set_name sets)
     (hits_named sets present.set_name)) answer

@@ -38,8 +38,10 @@ first_diagnostic [] = None
 first_diagnostic (None ∷ checks) = first_diagnostic checks
 first_diagnostic (Some diag ∷ checks) = Some diag
 
--- all checks pass, and this is so of what they give; or the first that refuses does so with its diagnostic
-abbrev pub AnswersChecks : {A : Type 0} → List (Option Diag) → (A → Type 0) → Result A Refusal → Type 0
+-- all checks pass, and this is so of what they give; or the first that refuses does so with its
+-- diagnostic
+abbrev pub AnswersChecks : {A : Type 0} → List (Option Diag) → (A → Type 0)
+    → Result A Refusal → Type 0
 AnswersChecks checks Gives (Ok x) = (first_diagnostic checks ≡ None) × Gives x
 AnswersChecks checks Gives (Err refusal) = IsRefusal (first_diagnostic checks) refusal
 
@@ -71,7 +73,12 @@ AnswersDue due (Err refusal) = FailsWith due refusal
 -- a client whose Init settled this, that has spent so much and has these sets
 abbrev pub client_with : Agreement → Spent → List KnownSet → ClientState
 client_with agreed spent sets =
-    record { agreed = agreed; searches = spent.searches; records = spent.records; sets = map stored sets }
+    record {
+      agreed = agreed;
+      searches = spent.searches;
+      records = spent.records;
+      sets = map stored sets;
+    }
 
 -- a work can begin, its legs may be asked for it, and its records can be spent
 abbrev pub IsReady : Spent → Asking → Type 0

@@ -12,7 +12,8 @@ use Rattle.gateway_rules.specs.Works.{IsAskableScan}
 use Rattle.front_session.specs.declared.asking.Asking.{Asking}
 use Rattle.front_session.specs.declared.asking.Asking.TheVariants.{Works}
 
--- what a Scan asks, and the first leg of its databases; where its numbers are within their range, the leg may be asked
+-- what a Scan asks, and the first leg of its databases; where its numbers are within their range,
+-- the leg may be asked
 abbrev pub IsAskedOf : Route → Scan → ScanAsk → ℕ → Type 0
 IsAskedOf route scan ask leg =
     (scan.ask ≡ Good ask) × (slice_get (legs_of route scan.dbs) 0 ≡ Some leg) × IsAskableScan ask

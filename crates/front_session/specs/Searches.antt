@@ -26,7 +26,8 @@ use Rattle.front_session.specs.declared.refusal.Refusal.TheVariants.{Refused, Me
 
 -- no name of an element set of a Search is too long
 abbrev pub HasShortElements : Search → Type 0
-HasShortElements search = (is_too_long search.small_element ≡ false) × (is_too_long search.medium_element ≡ false)
+HasShortElements search =
+    (is_too_long search.small_element ≡ false) × (is_too_long search.medium_element ≡ false)
 
 -- no check of a Search refuses: its legs are found, and no name of its element sets is too long
 pub record PassesChecks (route : Route) (search : Search) (legs : List ℕ) : Type 0 where
@@ -51,10 +52,13 @@ IsNoExpansion why refusal = refusal ≡ Refused (no_expansion why)
 -- what a Search of a client with this login asks of these legs
 abbrev pub search_work : Option (List ℕ) → Search → List ℕ → RpnQuery → ℕ → Work
 search_work login search legs query room =
-    work.Search login legs query search.small search.large search.medium search.small_element search.medium_element
+    work.Search login legs query search.small search.large search.medium search.small_element
+    search.medium_element
     search.syntax room
 
--- what a Search is due, where its client's Init settled this, and it has spent so much and has these sets
-abbrev pub AnswersSearch : Route → Agreement → Spent → List KnownSet → Search → Result Asking Refusal → Type 0
+-- what a Search is due, where its client's Init settled this, and it has spent so much and has
+-- these sets
+abbrev pub AnswersSearch : Route → Agreement → Spent → List KnownSet → Search
+    → Result Asking Refusal → Type 0
 AnswersSearch route agreed spent sets search answer =
     AnswersDue (search_due route (client_with agreed spent sets) search) answer

@@ -18,7 +18,8 @@ pub record Waiting : Type 0 where
   pub request : Request
   pub work : Work
 
--- whether an Init was accepted, how many units were taken, what the Init settled, the searches and records spent, the sets with their hits, and the request that waits
+-- whether an Init was accepted, how many units were taken, what the Init settled, the searches and
+-- records spent, the sets with their hits, and the request that waits
 pub record SessionState : Type 0 where
   pub accepted : Bool
   pub units : ℕ
@@ -30,11 +31,24 @@ pub record SessionState : Type 0 where
 
 -- a client that has sent nothing
 abbrev pub new_session : SessionState
-new_session = record { accepted = false; units = 0; agreed = no_agreement; searches = 0; records = 0; sets = []; waiting = None }
+new_session = record {
+  accepted = false;
+  units = 0;
+  agreed = no_agreement;
+  searches = 0;
+  records = 0;
+  sets = [];
+  waiting = None;
+}
 
 -- what the answers have left with the client
 abbrev pub client_of : SessionState → ClientState
-client_of s = record { agreed = s.agreed; searches = s.searches; records = s.records; sets = map stored s.sets }
+client_of s = record {
+  agreed = s.agreed;
+  searches = s.searches;
+  records = s.records;
+  sets = map stored s.sets;
+}
 
 -- how far its units have come, where the next one is at this offset
 abbrev pub progress_of : ℕ → SessionState → Progress
@@ -42,12 +56,14 @@ progress_of at s = record { at = at; accepted = s.accepted; units = s.units }
 
 -- what it has used of the limits
 abbrev pub spent_of : SessionState → Spent
-spent_of s = record { units = s.units; searches = s.searches; records = s.records; sets = length s.sets }
+spent_of s =
+    record { units = s.units; searches = s.searches; records = s.records; sets = length s.sets }
 
 -- ---- what a session keeps
 
--- A set has hits of each of its legs, which are not too many. Targets may be asked for its query: no operand is a result
--- set, its numbers are within their range, and it is within the bounds of queries.
+-- A set has hits of each of its legs, which are not too many. Targets may be asked for its query:
+-- no operand is a result set, its numbers are within their range, and it is within the bounds of
+-- queries.
 pub record IsKeptSet (set : KnownSet) : Type 0 where
   pub few : length set.legs ≤ most_legs
   pub each : length set.hits ≡ length set.legs
@@ -55,19 +71,23 @@ pub record IsKeptSet (set : KnownSet) : Type 0 where
 
 -- after `records` records, those of a work can be counted by a number of 32 bits
 abbrev pub HasRoomFor : ℕ → Work → Type 0
-HasRoomFor records (work.Search login legs query small large medium small_element medium_element syntax room) =
+HasRoomFor records
+    (work.Search login legs query small large medium small_element medium_element syntax room) =
     records + room < 2 ^ 32
-HasRoomFor records (work.Fetch login legs query hits first count syntax element) = records + count < 2 ^ 32
+HasRoomFor records (work.Fetch login legs query hits first count syntax element) =
+    records + count < 2 ^ 32
 HasRoomFor records (work.Scan login leg ask) = Unit {0}
 
--- a work that waits can begin, its legs may be asked for it, a Search that waits can be counted, and so can the records
+-- a work that waits can begin, its legs may be asked for it, a Search that waits can be counted,
+-- and so can the records
 pub record CanWait (s : SessionState) (waiting : Waiting) : Type 0 where
   pub begins : CanBegin waiting.work
   pub asks : IsAskable waiting.work
   pub searches : s.searches < s.units
   pub records : HasRoomFor s.records waiting.work
 
--- each search took a unit, and each set a search; units and records are numbers of 32 bits; the login is one
+-- each search took a unit, and each set a search; units and records are numbers of 32 bits; the
+-- login is one
 pub record IsKept (s : SessionState) : Type 0 where
   pub sets : All IsKeptSet s.sets
   pub of_searches : length s.sets ≤ s.searches

@@ -39,20 +39,32 @@ IsSettledBy (Some waiting) old new outcome reply = IsSettled old new waiting out
 
 -- the parts of an outcome that is none but why the request fails
 abbrev pub only_why : Option Diag → OutcomeParts
-only_why why = record { why = why; hits = []; fetched = fetched.None; scanned = record { position = None; entries = [] } }
+only_why why =
+    record {
+      why = why;
+      hits = [];
+      fetched = fetched.None;
+      scanned = record { position = None; entries = [] };
+    }
 
--- the reply to a request that did not fail, by the parts of its outcome, with what is given of `all` records
+-- the reply to a request that did not fail, by the parts of its outcome, with what is given of
+-- `all` records
 abbrev pub good_reply_by : Request → Work → List ℕ → (all : ℕ) → Fetched → ScanAnswer → Reply
 good_reply_by (request.Init init) work hits all records scanned = init_reply init
-good_reply_by (request.Search search) work hits all records scanned = search_reply search.ref_id hits all records
-good_reply_by (request.Present present) work hits all records scanned = present_reply present (fetched_from work) all records
-good_reply_by (request.Scan scan) work hits all records scanned = reply.Scan scan.ref_id scan_success scanned []
-good_reply_by (request.Close close) work hits all records scanned = close_reply close.ref_id finished
+good_reply_by (request.Search search) work hits all records scanned =
+    search_reply search.ref_id hits all records
+good_reply_by (request.Present present) work hits all records scanned =
+    present_reply present (fetched_from work) all records
+good_reply_by (request.Scan scan) work hits all records scanned =
+    reply.Scan scan.ref_id scan_success scanned []
+good_reply_by (request.Close close) work hits all records scanned =
+    close_reply close.ref_id finished
 
 -- the reply to a request, by the parts of its outcome
 abbrev pub reply_of : Option Diag → Request → Work → (all : ℕ) → OutcomeParts → Reply
 reply_of (Some diag) request work all parts = failed request diag
-reply_of None request work all parts = good_reply_by request work parts.hits all parts.fetched parts.scanned
+reply_of None request work all parts =
+    good_reply_by request work parts.hits all parts.fetched parts.scanned
 
 -- the reply to a request that waits
 abbrev pub reply_by_parts : Pending → (all : ℕ) → OutcomeParts → Reply
@@ -60,10 +72,12 @@ reply_by_parts pending all parts = reply_of parts.why pending.request pending.wo
 
 -- the reply to a request that waits and did not fail
 abbrev pub good_reply_to : Pending → List ℕ → (all : ℕ) → Fetched → ScanAnswer → Reply
-good_reply_to pending hits all records scanned = good_reply_by pending.request pending.work hits all records scanned
+good_reply_to pending hits all records scanned =
+    good_reply_by pending.request pending.work hits all records scanned
 
 -- the parts of an outcome, with what is given of its records
-pub record IsCutOf (sizes : Sizes) (work : Work) (parts : OutcomeParts) (cut : CutParts) : Type 0 where
+pub record IsCutOf (sizes : Sizes) (work : Work) (parts : OutcomeParts)
+    (cut : CutParts) : Type 0 where
   pub all : cut.all ≡ returned parts.fetched
   pub why : cut.parts.why ≡ parts.why
   pub hits : cut.parts.hits ≡ parts.hits
@@ -78,9 +92,11 @@ pub record ArePartsOf (outcome : Outcome) (parts : OutcomeParts) : Type 0 where
   pub fetched : parts.fetched ≡ fetched_of outcome
   pub scanned : parts.scanned ≡ scanned_of outcome
 
--- the sets after a Search with the hits that it found: a good one sets its name, and one that failed removes it
+-- the sets after a Search with the hits that it found: a good one sets its name, and one that
+-- failed removes it
 abbrev pub known_after : (is_good : Bool) → List ℕ → Work → List ℕ → List KnownSet → List KnownSet
-known_after true name (work.Search login legs query small large medium small_element medium_element syntax room) hits sets =
+known_after true name (work.Search login legs query small large medium small_element medium_element
+    syntax room) hits sets =
     others_than name sets ++ (record { name = name; legs = legs; query = query; hits = hits }) ∷ []
 known_after true name other hits sets = sets
 known_after false name work hits sets = others_than name sets
@@ -91,7 +107,8 @@ set_name_of (request.Search search) = Some search.set_name
 set_name_of other = None
 
 -- the sets behind a request that sets this name, if any
-abbrev pub sets_under : Option (List ℕ) → Work → (is_good : Bool) → List ℕ → List KnownSet → List KnownSet
+abbrev pub sets_under : Option (List ℕ) → Work → (is_good : Bool) → List ℕ → List KnownSet
+    → List KnownSet
 sets_under (Some name) work is_good hits sets = known_after is_good name work hits sets
 sets_under None work is_good hits sets = sets
 
@@ -116,14 +133,18 @@ ended s pending is_good hits given = record s {
 }
 
 -- what is answered to a request that waited, and what is kept of its outcome
-pub record IsAnswered (sizes : Sizes) (pending : Pending) (outcome : Outcome) (answer : Answer) : Type 0 where
-  pub reply : answer.reply ≡ reply_by sizes (why_failed outcome) pending.request pending.work outcome
+pub record IsAnswered (sizes : Sizes) (pending : Pending) (outcome : Outcome)
+    (answer : Answer) : Type 0 where
+  pub reply : answer.reply
+      ≡ reply_by sizes (why_failed outcome) pending.request pending.work outcome
   pub is_good : answer.is_good ≡ is_none (why_failed outcome)
   pub hits : answer.hits ≡ found_hits outcome
   pub given : answer.given ≡ returned (given_of sizes pending.work outcome)
 
 -- the reply to a request that waited, and what is kept behind it
-pub record IsSettledWith (old new : SessionState) (pending : Pending) (outcome : Outcome) (reply : Reply) : Type 0 where
-  pub reply-is : reply ≡ reply_by old.agreed.sizes (why_failed outcome) pending.request pending.work outcome
+pub record IsSettledWith (old new : SessionState) (pending : Pending) (outcome : Outcome)
+    (reply : Reply) : Type 0 where
+  pub reply-is : reply
+      ≡ reply_by old.agreed.sizes (why_failed outcome) pending.request pending.work outcome
   pub new-is : new ≡ ended old pending (is_none (why_failed outcome)) (found_hits outcome)
       (returned (given_of old.agreed.sizes pending.work outcome))

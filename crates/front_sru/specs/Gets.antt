@@ -1,5 +1,5 @@
--- How a GET is begun, and each of its works ended (SRU 1.2, searchRetrieve): one request in, the octets
--- of its answer out
+-- How a GET is begun, and each of its works ended (SRU 1.2, searchRetrieve): one request in, the
+-- octets of its answer out
 use Rattle.std.specs.Prelude.{◌≡◌, ℕ, List, ◌++◌, Option, None, Some, IfSome, Result, Ok, Err}
 use Rattle.z_types.specs.MergedOrder.{total}
 use Rattle.z_types.specs.declared.marks.End.TheVariants.{Closed}
@@ -53,14 +53,16 @@ Awaits route stage other = Unit {0}
 
 -- ---- what is written
 
--- a message was written under a mark, if it has one, and the connection was closed; want of memory has no cause, and
--- nothing is written then
+-- a message was written under a mark, if it has one, and the connection was closed; want of memory
+-- has no cause, and nothing is written then
 abbrev pub IsPut : (message : List ℕ) → Option Mark → (old new : List ℕ) → Begun → Type 0
 IsPut message mark old new begun.Memory = new ≡ old
-IsPut message mark old new answer = (answer ≡ begun.Write mark (Some Closed)) × (new ≡ old ++ message)
+IsPut message mark old new answer =
+    (answer ≡ begun.Write mark (Some Closed)) × (new ≡ old ++ message)
 
 -- the same of a message that there is, or not for want of memory
-abbrev pub IsMessagePut : Result (List ℕ) NoMemory → Option Mark → (old new : List ℕ) → Begun → Type 0
+abbrev pub IsMessagePut : Result (List ℕ) NoMemory → Option Mark → (old new : List ℕ)
+    → Begun → Type 0
 IsMessagePut (Ok message) mark old new answer = IsPut message mark old new answer
 IsMessagePut (Err memory) mark old new answer = (answer ≡ begun.Memory) × (new ≡ old)
 
@@ -77,23 +79,28 @@ IsRefusalPut (Err memory) mark old new answer = (answer ≡ begun.Memory) × (ne
 -- ---- what a GET comes to
 
 -- this answer was written under a mark, and the connection was closed
-pub record IsAnswered (given : SruAnswer) (mark : Mark) (old new : Served) (answer : Begun) : Type 0 where
+pub record IsAnswered (given : SruAnswer) (mark : Mark) (old new : Served)
+    (answer : Begun) : Type 0 where
   pub closed : answer ≡ begun.Write (Some mark) (Some Closed)
   pub written : new.out ≡ old.out ++ reply given
 
 -- this work was handed out, and the GET stands so; nothing was written
-pub record IsHandedOut (work : Work) (stage : SruStage) (old new : Served) (answer : Begun) : Type 0 where
+pub record IsHandedOut (work : Work) (stage : SruStage) (old new : Served)
+    (answer : Begun) : Type 0 where
   pub handed : answer ≡ begun.Work work
   pub waits : new.stage ≡ stage
   pub written : new.out ≡ old.out
 
 -- what a GET is due was done: it was answered under the mark Plain, or waits for its search
 abbrev pub IsDueDone : Due → Served → Served → Begun → Type 0
-IsDueDone (at_once given) old new answer = IsAnswered given Plain old new answer × (new.stage ≡ old.stage)
-IsDueDone (searches retrieval) old new answer = IsHandedOut (search_work retrieval) (Searching retrieval) old new answer
+IsDueDone (at_once given) old new answer =
+    IsAnswered given Plain old new answer × (new.stage ≡ old.stage)
+IsDueDone (searches retrieval) old new answer =
+    IsHandedOut (search_work retrieval) (Searching retrieval) old new answer
 
 -- what a GET of a virtual database is read as, and what was done
-pub record IsReadDone (route : Route) (database : Database) (get : Get) (old new : Served) (answer : Begun) : Type 0 where
+pub record IsReadDone (route : Route) (database : Database) (get : Get) (old new : Served)
+    (answer : Begun) : Type 0 where
   pub reading : Reading
   pub is_reading : IsReading route.schemas get reading
   pub is_done : IsDueDone (due route database reading) old new answer
@@ -128,15 +135,18 @@ next_behind route (Fetching retrieval hits) got =
 
 -- what follows was done: the GET was answered under this mark, or waits for its fetch
 abbrev pub IsGoneOn : Next → Mark → Served → Served → Begun → Type 0
-IsGoneOn (answered given) mark old new answer = IsAnswered given mark old new answer × (new.stage ≡ Idle)
-IsGoneOn (fetches hits work) mark old new answer = IsHandedOut work (fetching old.stage hits) old new answer
+IsGoneOn (answered given) mark old new answer =
+    IsAnswered given mark old new answer × (new.stage ≡ Idle)
+IsGoneOn (fetches hits work) mark old new answer =
+    IsHandedOut work (fetching old.stage hits) old new answer
 
 -- want of memory has no cause, and nothing is written then
 abbrev pub IsNextDone : Next → Mark → Served → Served → Begun → Type 0
 IsNextDone next mark old new begun.Memory = new.out ≡ old.out
 IsNextDone next mark old new answer = IsGoneOn next mark old new answer
 
--- the work that a GET waited for was ended; the GET is answered under the mark of the last of its works alone
+-- the work that a GET waited for was ended; the GET is answered under the mark of the last of its
+-- works alone
 abbrev pub IsEnded : Route → Outcome → Served → Served → Begun → Type 0
 IsEnded route got old new answer =
     IfSome (next_behind route old.stage got) (λ next. IsNextDone next (mark_of got) old new answer)

@@ -1,4 +1,5 @@
--- For contracts alone: what is kept of a GET between its works, and the parts of what came of one (this project's own)
+-- For contracts alone: what is kept of a GET between its works, and the parts of what came of one
+-- (this project's own)
 use Rattle.std.specs.Prelude.{◌≡◌, ℕ, Bool, true, false, List, [], None, Some, if◌then◌else◌}
 use Rattle.z_types.specs.declared.outcome.Fetched.TheVariants as fetched
 use Rattle.z_types.specs.declared.outcome.Outcome.{Outcome}

@@ -1,4 +1,5 @@
--- For contracts alone: what the parameters and the query of a GET are read as (SRU 1.2, Request Parameters; CQL 1.2)
+-- For contracts alone: what the parameters and the query of a GET are read as (SRU 1.2, Request
+-- Parameters; CQL 1.2)
 use Rattle.std.specs.Prelude.{◌≡◌, ℕ, List, Result, Ok, Err, if◌then◌else◌}
 use Rattle.z_types.specs.declared.query.RpnQuery.{RpnQuery}
 use Rattle.z_types.specs.declared.sru.SruDiag.{SruDiag}
@@ -34,9 +35,11 @@ IsOrMemory wanted answer = answer ≡ wanted
 
 -- a query of type 1 within the limits
 abbrev pub limited : (version : List ℕ) → RpnQuery → Result RpnQuery SruDiag
-limited version query = if is_too_large query.root then Err (query_feature_unsupported version) else Ok query
+limited version query =
+    if is_too_large query.root then Err (query_feature_unsupported version) else Ok query
 
--- why a text has no tokens, tokens no tree, and a tree no mapping, as a diagnostic; want of memory stays what it is
+-- why a text has no tokens, tokens no tree, and a tree no mapping, as a diagnostic; want of memory
+-- stays what it is
 abbrev pub tokens_fault : (version : List ℕ) → LexFault → QueryFault
 tokens_fault version (lex.OpenQuote place) = Diag (query_syntax_error version place)
 tokens_fault version (lex.NotUtf8 place) = Diag (query_syntax_error version place)
@@ -52,14 +55,16 @@ mapping_fault version map.Memory = Memory
 mapping_fault version fault = Diag (not_mapped version fault)
 
 -- what a text is as CQL, and the query of type 1 that it is
-pub record IsReadText (version : List ℕ) (indexes : List Index) (text : List ℕ) (answer : Result RpnQuery QueryFault)
+pub record IsReadText (version : List ℕ) (indexes : List Index) (text : List ℕ)
+    (answer : Result RpnQuery QueryFault)
     : Type 0 where
   pub read : CqlText
   pub is : IsCqlText text read
   pub answered : answer ≡ as_fault (rpn_of version indexes read)
 
 -- the query of type 1 that a text is, or why it is none; want of memory has no cause
-abbrev pub IsReadQuery : (version : List ℕ) → List Index → (text : List ℕ) → Result RpnQuery QueryFault → Type 0
+abbrev pub IsReadQuery : (version : List ℕ) → List Index → (text : List ℕ)
+    → Result RpnQuery QueryFault → Type 0
 IsReadQuery version indexes text (Err Memory) = Unit {0}
 IsReadQuery version indexes text answer = IsReadText version indexes text answer
 
@@ -70,19 +75,22 @@ IsDueAs (searches retrieval) (Ok search) = retrieval ≡ search
 IsDueAs other answer = ⊥
 
 -- what the query of a request is as CQL, and what is due by it
-pub record IsReadFor (route : Route) (database : Database) (asked : SruQuery) (answer : Result Retrieval QueryFault)
+pub record IsReadFor (route : Route) (database : Database) (asked : SruQuery)
+    (answer : Result Retrieval QueryFault)
     : Type 0 where
   pub read : CqlText
   pub is : IsCqlText asked.query read
   pub answered : IsDueAs (due_by database asked (rpn_of asked.version route.indexes read)) answer
 
--- what a request whose parameters are taken asks for, or why it asks nothing; want of memory has no cause
+-- what a request whose parameters are taken asks for, or why it asks nothing; want of memory has no
+-- cause
 abbrev pub IsReadRequest : Route → Database → SruQuery → Result Retrieval QueryFault → Type 0
 IsReadRequest route database asked (Err Memory) = Unit {0}
 IsReadRequest route database asked answer = IsReadFor route database asked answer
 
 -- what a GET is read as, and what is due by it
-pub record IsReadAs (route : Route) (database : Database) (get : Get) (answer : Result Retrieval QueryFault) : Type 0 where
+pub record IsReadAs (route : Route) (database : Database) (get : Get)
+    (answer : Result Retrieval QueryFault) : Type 0 where
   pub reading : Reading
   pub is_reading : IsReading route.schemas get reading
   pub answered : IsDueAs (due route database reading) answer

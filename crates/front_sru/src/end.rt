@@ -14,10 +14,10 @@ use crate::diagnostics::out_of_range;
 use crate::outcomes::{Came, came_of};
 use crate::works::{fetch_work, fetched_count, is_out_of_range};
 use crate::{Begun, SruStage, SruState};
-use sru_rules::gateway_rules::mark_of;
 use multi_merge::total;
 use route_config::Route;
 use sru_rules::Retrieval;
+use sru_rules::gateway_rules::mark_of;
 use std::alloc::Global;
 use z_types::{List, Memory, Outcome, Schema, SruAnswer, Text, Work};
 

@@ -38,18 +38,22 @@ IsDueBegun (at_once reply) request old new answer =
     (answer ≡ begun.Write (Some Plain) None) × Writes old new reply (counted old.session request)
 IsDueBegun (works work) request old new answer =
     (answer ≡ begun.Work work) × CanBegin work × IsAskable work × (new.out ≡ old.out)
-    × (new.session ≡ record (counted old.session request) { waiting = Some (record { request = request; work = work }) })
+    × (new.session ≡ record (counted old.session request)
+    { waiting = Some (record { request = request; work = work }) })
 
--- what was written and kept of a unit at an offset that is met so; a bad unit, and one beyond the last, have no mark
+-- what was written and kept of a unit at an offset that is met so; a bad unit, and one beyond the
+-- last, have no mark
 abbrev pub IsMetBegun : Meeting → Route → ℕ → Option Request → Served → Served → Begun → Type 0
 IsMetBegun bad route at read old new answer =
     (answer ≡ begun.Write None (Some (Malformed at))) × Writes old new bad_unit_reply old.session
 IsMetBegun (beyond request) route at read old new answer =
     (answer ≡ begun.Write None (Some Limited)) × Writes old new (limit_reply request) old.session
 IsMetBegun (closing close) route at read old new answer =
-    (answer ≡ begun.Write (Some Plain) (Some Closed)) × (new.out ≡ old.out ++ spell_reply (close_reply close.ref_id finished))
+    (answer ≡ begun.Write (Some Plain) (Some Closed))
+    × (new.out ≡ old.out ++ spell_reply (close_reply close.ref_id finished))
 IsMetBegun (due request) route at read old new answer =
-    IsDueBegun (asked_with (hits_named old.session.sets) route (client_of old.session) request) request old new answer
+    IsDueBegun (asked_with (hits_named old.session.sets) route (client_of old.session) request)
+    request old new answer
 
 -- how the connection ends behind a request that was answered: a Close closes it
 abbrev pub end_behind : Request → Option End
@@ -60,21 +64,24 @@ end_behind other = None
 abbrev pub IsRequestBegun : Route → ℕ → Request → Served → Served → Begun → Type 0
 IsRequestBegun route at request old new begun.Memory = new.out ≡ old.out
 IsRequestBegun route at request old new answer =
-    IsMetBegun (met route (progress_of at old.session) (Some request)) route at (Some request) old new answer
+    IsMetBegun (met route (progress_of at old.session) (Some request)) route at
+    (Some request) old new answer
 
 -- a reply was put, or not for want of memory
 abbrev pub IsPut : Result Unit NoMemory → Option Mark → Option End → Begun → Type 0
 IsPut (Ok done) mark end answer = answer ≡ begun.Write mark end
 IsPut (Err memory) mark end answer = answer ≡ begun.Memory
 
--- a reply was written under a mark, and the connection has ended so; want of memory has no cause, and nothing is written
--- then
+-- a reply was written under a mark, and the connection has ended so; want of memory has no cause,
+-- and nothing is written then
 abbrev pub IsWritten : Reply → Option Mark → Option End → List ℕ → List ℕ → Begun → Type 0
 IsWritten reply mark end old new begun.Memory = new ≡ old
-IsWritten reply mark end old new answer = (answer ≡ begun.Write mark end) × (new ≡ old ++ spell_reply reply)
+IsWritten reply mark end old new answer =
+    (answer ≡ begun.Write mark end) × (new ≡ old ++ spell_reply reply)
 
 -- what a unit is read as, and what is written and kept of it
-pub record IsRead (route : Route) (at : ℕ) (unit : List ℕ) (old new : Served) (answer : Begun) : Type 0 where
+pub record IsRead (route : Route) (at : ℕ) (unit : List ℕ) (old new : Served)
+    (answer : Begun) : Type 0 where
   pub read : Option Request
   pub reading : IsReading unit read
   pub begun : IsMetBegun (met route (progress_of at old.session) read) route at read old new answer

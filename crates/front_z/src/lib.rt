@@ -6,6 +6,5 @@ mod units;
 pub use units::{Begun, begin_unit, end_unit};
 
 // Handed on: crates above name these through this one.
-pub use front_session::gateway_rules;
-pub use front_session::z_write;
 pub use front_session;
+pub use front_session::{gateway_rules, z_write};

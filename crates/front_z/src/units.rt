@@ -9,13 +9,13 @@ ghost use Rattle.front_session.specs.gateway_rules.Replies.{bad_unit_reply, limi
 ghost use Rattle.front_session.specs.gateway_rules.Works.{FitsWork};
 ghost use Rattle.front_z.specs.Units.{IsBegun, IsEnded, IsRequestBegun, IsWritten, IsPut, end_behind};
 
-use front_session::{Admitted, FrontSession};
 use front_session::gateway_rules::{bad_unit_reply, limit_reply};
+use front_session::z_write::put_reply;
+use front_session::{Admitted, FrontSession};
 use route_config::Route;
 use std::alloc::Global;
 use z_read::read_unit;
 use z_types::{End, Mark, Memory, Outcome, Reply, Request, Text, Work};
-use front_session::z_write::put_reply;
 
 /// What became of a unit.
 #[derive(Drop)]

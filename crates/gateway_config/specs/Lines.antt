@@ -14,7 +14,8 @@ line_of words = words ++ 10 ∷ []
 -- how the program is used
 abbrev pub usage_line : List ℕ
 usage_line =
-    line_of (codes "usage: check CONFIG | replay CONFIG SCRIPT | load N | serve CONFIG PORT WORKERS")
+    line_of
+    (codes "usage: check CONFIG | replay CONFIG SCRIPT | load N | serve CONFIG PORT WORKERS")
 
 -- a configuration is refused: the number of the refusal, and what it is about
 abbrev pub config_line : RouteFault → List ℕ

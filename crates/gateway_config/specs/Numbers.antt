@@ -1,4 +1,5 @@
--- Numbers among the words of a command (this project's own): decimal digits, of which a leading zero stands alone
+-- Numbers among the words of a command (this project's own): decimal digits, of which a leading
+-- zero stands alone
 use Rattle.std.specs.Prelude.{ℕ, Bool, false, List, [], ◌∷◌, length, if◌then◌else◌, ◌==◌, ◌&&◌, nat_le, Option, None, Some}
 use Rattle.std.specs.Char.{is_ascii_digit}
 use Rattle.std.specs.List.{list_all}

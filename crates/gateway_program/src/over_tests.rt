@@ -6,8 +6,8 @@ ghost use Rattle.gateway_top.specs.OverTests.{IsReplayedOverTests};
 use gateway_top::{Status, command};
 use gw_outside::{Files, Sink};
 use std::alloc::Global;
-use test_target::TestWorld;
 use tcp_edge::test_wire::TestWire;
+use test_target::TestWorld;
 use z_types::{Text, World};
 
 /// Does one command but `serve`, over a new wire to the built-in test targets. So what is printed of a replay

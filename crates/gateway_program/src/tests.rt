@@ -10,9 +10,9 @@ use std::fs::OpenOptions;
 use std::net::{IpAddr, Ipv4Addr, Ipv6Addr};
 use std::rt::Env;
 use std::test::Fail;
+use tcp_edge::test_wire::TestWire;
 use tcp_edge::{SystemFiles, WriterSink};
 use test_target::TestWorld;
-use tcp_edge::test_wire::TestWire;
 use z_types::{List, Memory, Text};
 
 /// The words of a line.

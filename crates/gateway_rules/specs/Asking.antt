@@ -1,5 +1,5 @@
--- What a request in its place asks of the targets, or is answered at once (ANSI/NISO Z39.50-2003, 3.2.1.1, 3.2.2.1,
--- 3.2.3.1, 3.2.8.1 and 3.2.11.1)
+-- What a request in its place asks of the targets, or is answered at once (ANSI/NISO Z39.50-2003,
+-- 3.2.1.1, 3.2.2.1, 3.2.3.1, 3.2.8.1 and 3.2.11.1)
 use Rattle.std.specs.Prelude.{ℕ, ◌==◌, List, [], Option, None, Some, Result, Ok, Err, if◌then◌else◌, nat_abs, slice_get}
 use Rattle.z_types.specs.declared.diagnostic.Diag.{Diag}
 use Rattle.z_types.specs.declared.query.RpnQuery.{RpnQuery}
@@ -45,10 +45,13 @@ unless_refused request (Ok due) = due
 -- ---- Search
 
 -- what a Search asks, once its query stands without operand sets
-abbrev pub search_work : Route → ClientState → Search → Result RpnQuery ExpandFault → Result Asking Diag
+abbrev pub search_work : Route → ClientState → Search → Result RpnQuery ExpandFault
+    → Result Asking Diag
 search_work route client search (Err fault) = Err (no_expansion fault)
 search_work route client search (Ok query) =
-    Ok (works (work.Search client.agreed.login (legs_of route search.dbs) query search.small search.large search.medium
+    Ok
+    (works (work.Search client.agreed.login
+    (legs_of route search.dbs) query search.small search.large search.medium
     search.small_element search.medium_element search.syntax (room route.limits client.records)))
 
 -- the query of a Search without operand sets
@@ -79,18 +82,22 @@ abbrev pub element_of : Asked (Option (List ℕ)) → Option (List ℕ)
 element_of (Good element) = element
 element_of (Bad diag) = None
 
--- what a Present of a client with this login asks of a set; where it asks for no record it is answered at once
+-- what a Present of a client with this login asks of a set; where it asks for no record it is
+-- answered at once
 abbrev pub fetch_work : Option (List ℕ) → Present → List ℕ → Option StoredSet → Asking
 fetch_work login present hits None = at_once (present_reply present hits 0 fetched.None)
 fetch_work login present hits (Some set) =
     if present.number == 0 then at_once (present_reply present hits 0 fetched.None)
-    else works (work.Fetch login set.legs set.query hits (nat_abs present.start) present.number present.syntax
+    else works
+    (work.Fetch login set.legs set.query hits (nat_abs present.start) present.number present.syntax
     (element_of present.element))
 
 -- a Present: its checks
-abbrev pub present_due : Route → ClientState → Present → Option StoredSet → List ℕ → Result Asking Diag
+abbrev pub present_due : Route → ClientState → Present → Option StoredSet → List ℕ
+    → Result Asking Diag
 present_due route client present set hits =
-    checked (present_checks route client present hits) (Ok (fetch_work client.agreed.login present hits set))
+    checked (present_checks route client present hits)
+    (Ok (fetch_work client.agreed.login present hits set))
 
 -- ---- Scan
 
@@ -107,22 +114,27 @@ scan_work login (Good ask) leg = leg_work login ask leg
 -- a Scan of a client whose Init settled this: its checks
 abbrev pub scan_due : Route → Agreement → Scan → Result Asking Diag
 scan_due route agreed scan =
-    checked (scan_checks route scan) (scan_work agreed.login scan.ask (slice_get (legs_of route scan.dbs) 0))
+    checked (scan_checks route scan)
+    (scan_work agreed.login scan.ask (slice_get (legs_of route scan.dbs) 0))
 
 -- ---- any request
 
--- what a request in its place is due, where the client's set of a name has these hits; a Work has the client's login
+-- what a request in its place is due, where the client's set of a name has these hits; a Work has
+-- the client's login
 abbrev pub asked_with : (hits_of_set : List ℕ → List ℕ) → Route → ClientState → Request → Asking
 asked_with hits_of_set route client (request.Init init) = at_once (init_reply init)
 asked_with hits_of_set route client (request.Search search) =
     unless_refused (request.Search search) (search_due route client search)
 asked_with hits_of_set route client (request.Present present) =
     unless_refused (request.Present present)
-    (present_due route client present (set_named present.set_name client.sets) (hits_of_set present.set_name))
+    (present_due route client present (set_named present.set_name client.sets)
+    (hits_of_set present.set_name))
 asked_with hits_of_set route client (request.Scan scan) =
     unless_refused (request.Scan scan) (scan_due route client.agreed scan)
-asked_with hits_of_set route client (request.Close close) = at_once (close_reply close.ref_id finished)
+asked_with hits_of_set route client (request.Close close) =
+    at_once (close_reply close.ref_id finished)
 
 -- what a request in its place is due, where each set has the hits that the targets mean
 abbrev pub asked : {W : Type 0} → world.Ghosts W → Route → ClientState → Request → Asking
-asked w route client = asked_with (λ name. hits_meant w route (set_named name client.sets)) route client
+asked w route client =
+    asked_with (λ name. hits_meant w route (set_named name client.sets)) route client

@@ -1,5 +1,5 @@
--- What a request is refused for before any target is asked, in order (ANSI/NISO Z39.50-2003, Appendix 4 ERR; the order
--- and the bounds are this project's own)
+-- What a request is refused for before any target is asked, in order (ANSI/NISO Z39.50-2003,
+-- Appendix 4 ERR; the order and the bounds are this project's own)
 use Rattle.std.specs.Prelude.{ℕ, pos, ◌+◌, ◌-◌, ◌==◌, ◌&&◌, ◌||◌, Bool, false, not, List, [], ◌∷◌, length}
 use Rattle.std.specs.Prelude.{codes, Option, None, Some, is_some, is_none, Result, Ok, Err, if◌then◌else◌}
 use Rattle.std.specs.Prelude.{nat_lt, nat_abs, int_lt}
@@ -65,7 +65,8 @@ not_found (Err fault) = no_legs fault
 -- no Search may be asked after `searches` others
 abbrev pub searches_check : Limits → ℕ → Option Diag
 searches_check limits searches =
-    refused_where (are_searches_spent limits searches) (bib1 condition.ResourcesExhausted (codes "searches"))
+    refused_where (are_searches_spent limits searches)
+    (bib1 condition.ResourcesExhausted (codes "searches"))
 
 -- an element set name of a Search is too long
 abbrev pub elements_check : Search → Option Diag
@@ -73,11 +74,14 @@ elements_check search =
     refused_where (is_too_long search.small_element || is_too_long search.medium_element)
     (bib1 condition.ElementSetNameNotValid (codes "long"))
 
--- the result set's name is in use and is not to be replaced, or is new and one too many beside `count` others
+-- the result set's name is in use and is not to be replaced, or is new and one too many beside
+-- `count` others
 abbrev pub name_checks : Limits → Option StoredSet → ℕ → Search → List (Option Diag)
 name_checks limits named count search =
-    refused_where (is_some named && not search.replace) (bib1 condition.ResultSetExists search.set_name)
-    ∷ refused_where (not (is_some named) && are_sets_full limits count) (bib1 condition.TooManyResultSets [])
+    refused_where (is_some named && not search.replace)
+    (bib1 condition.ResultSetExists search.set_name)
+    ∷ refused_where (not (is_some named) && are_sets_full limits count)
+    (bib1 condition.TooManyResultSets [])
     ∷ []
 
 -- a Search, up to its query
@@ -97,14 +101,16 @@ no_expansion too_much = bib1 condition.ResourcesExhausted (codes "query")
 
 -- the element set name of a Present is too long
 abbrev pub element_check : Asked (Option (List ℕ)) → Option Diag
-element_check (Good element) = refused_where (is_too_long element) (bib1 condition.ElementSetNameNotValid (codes "long"))
+element_check (Good element) =
+    refused_where (is_too_long element) (bib1 condition.ElementSetNameNotValid (codes "long"))
 element_check (Bad diag) = None
 
 -- there is no result set of a name
 abbrev pub set_check : Option StoredSet → List ℕ → Option Diag
 set_check named name = refused_where (is_none named) (bib1 condition.ResultSetDoesNotExist name)
 
--- a Present does not lie within a result set of this count: its start is below 1, or its last record beyond the count
+-- a Present does not lie within a result set of this count: its start is below 1, or its last
+-- record beyond the count
 abbrev pub is_out_of_range : Present → ℕ → Bool
 is_out_of_range present count =
     int_lt present.start (pos 1) || nat_lt count (nat_abs present.start + present.number - 1)
@@ -116,7 +122,8 @@ range_check present count =
 -- records are too many for one request, or after `given` others
 abbrev pub number_check : Limits → ℕ → Present → Option Diag
 number_check limits given present =
-    refused_where (are_too_many limits given present.number) (bib1 condition.TooManyRecordsRetrieved [])
+    refused_where (are_too_many limits given present.number)
+    (bib1 condition.TooManyRecordsRetrieved [])
 
 -- a Present, where its set has these hits
 abbrev pub present_checks : Route → ClientState → Present → List ℕ → List (Option Diag)
@@ -130,12 +137,14 @@ present_checks route client present hits =
 
 -- a Scan asks for too many terms
 abbrev pub terms_check : ScanAsk → Option Diag
-terms_check ask = refused_where (nat_lt most_terms ask.number) (bib1 condition.ResourcesExhausted (codes "terms"))
+terms_check ask =
+    refused_where (nat_lt most_terms ask.number) (bib1 condition.ResourcesExhausted (codes "terms"))
 
 -- the attributes and the term of a Scan cost too much as an operand
 abbrev pub cost_check : ScanAsk → Option Diag
 cost_check ask =
-    refused_where (nat_lt most_query_cost (leaf_cost ask.attrs ask.term)) (bib1 condition.ResourcesExhausted (codes "query"))
+    refused_where (nat_lt most_query_cost (leaf_cost ask.attrs ask.term))
+    (bib1 condition.ResourcesExhausted (codes "query"))
 
 abbrev pub ask_checks : Asked ScanAsk → List (Option Diag)
 ask_checks (Bad diag) = []
@@ -146,5 +155,6 @@ abbrev pub scan_checks : Route → Scan → List (Option Diag)
 scan_checks route scan =
     not_served scan.ask
     ∷ not_found (found_legs route scan.dbs)
-    ∷ refused_where (not (length (legs_of route scan.dbs) == 1)) (bib1 condition.CombinationOfDatabasesNotSupported [])
+    ∷ refused_where (not (length (legs_of route scan.dbs) == 1))
+    (bib1 condition.CombinationOfDatabasesNotSupported [])
     ∷ ask_checks scan.ask

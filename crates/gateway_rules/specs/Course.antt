@@ -1,5 +1,6 @@
--- The course of a client's session (ANSI/NISO Z39.50-2003, 4.2, 3.2.1 and 3.2.11): which requests are to be answered,
--- one after another, and how it ends. It follows from the units alone, whatever the targets answer and under any marks.
+-- The course of a client's session (ANSI/NISO Z39.50-2003, 4.2, 3.2.1 and 3.2.11): which requests
+-- are to be answered, one after another, and how it ends. It follows from the units alone, whatever
+-- the targets answer and under any marks.
 use Rattle.std.specs.Prelude.{ℕ, ◌+◌, ◌||◌, Bool, false, not, List, [], ◌∷◌, length, flat_map, Option, None, Some}
 use Rattle.std.specs.Prelude.{if◌then◌else◌}
 use Rattle.z_types.specs.declared.marks.End.{End}
@@ -23,8 +24,8 @@ pub record Received : Type 0 where
 abbrev pub octets_of : List Received → List ℕ
 octets_of units = flat_map (λ unit. unit.octets) units
 
--- how a unit is met: it is bad; it comes after the last that the connection may send; it closes the session; or it is
--- due to be answered
+-- how a unit is met: it is bad; it comes after the last that the connection may send; it closes the
+-- session; or it is due to be answered
 pub data Meeting : Type 0 where
   bad : Meeting
   beyond : Request → Meeting
@@ -62,15 +63,16 @@ after here unit = record {
   units = here.units + 1;
 }
 
--- what is still to come of a session: all units are taken, and it stands here; or it is over, with a last reply or
--- none; or a request is answered under the next cause, and then there is more to come
+-- what is still to come of a session: all units are taken, and it stands here; or it is over, with
+-- a last reply or none; or a request is answered under the next cause, and then there is more to
+-- come
 pub data Course : Type 0 where
   stands : (here : Progress) → Course
   ends : (last : Option Reply) (end : End) → Course
   answers : Request → (more : Course) → Course
 
--- what a unit that begins at this offset leads to, in front of what comes behind it; an offset past its type's end is
--- told as that end
+-- what a unit that begins at this offset leads to, in front of what comes behind it; an offset past
+-- its type's end is told as that end
 abbrev pub leads_to : Meeting → ℕ → Course → Course
 leads_to bad at more = ends (Some bad_unit_reply) (Malformed (within64 at))
 leads_to (beyond request) at more = ends (Some (limit_reply request)) Limited
@@ -80,7 +82,8 @@ leads_to (due asked) at more = answers asked more
 -- the course of the units that come where a session stands
 abbrev pub course : Route → Progress → List Received → Course
 course route here [] = stands here
-course route here (unit ∷ units) = leads_to (met route here unit.request) here.at (course route (after here unit) units)
+course route here (unit ∷ units) =
+    leads_to (met route here unit.request) here.at (course route (after here unit) units)
 
 -- a course that goes on from where it stands
 abbrev pub followed : Course → (Progress → Course) → Course

@@ -1,4 +1,5 @@
--- Where the answers of a route's targets are known, whichever member of a group is asked (this project's own)
+-- Where the answers of a route's targets are known, whichever member of a group is asked
+-- (this project's own)
 use Rattle.std.specs.Prelude.{◌≡◌, ℕ, List, Option, Some, Contains}
 use Rattle.z_types.specs.declared.address.Address.{Address}
 use Rattle.z_types.specs.declared.key.SetKey.{SetKey}
@@ -15,23 +16,27 @@ pub record MeansAs {W : Type 0} (w : world.Ghosts W) (one other : Address) : Typ
       → w.record_ one key position syntax element ≡ w.record_ other key position syntax element
   pub scan : (dbs : List (List ℕ)) (ask : ScanAsk) → w.scan one dbs ask ≡ w.scan other dbs ask
 
--- every member of a class is told, and the members mean the same; a class is a target, or the targets of a group
+-- every member of a class is told, and the members mean the same; a class is a target, or the
+-- targets of a group
 pub record IsFairClass {W : Type 0} (w : world.Ghosts W) (class : Class) : Type 0 where
   pub told : (address : Address) → Contains class.addresses address → w.told address
   pub same : (one other : Address) → Contains class.addresses one → Contains class.addresses other
       → MeansAs w one other
 
--- a fair route: each class that its legs go to is; a target that no leg goes to is asked for nothing
+-- a fair route: each class that its legs go to is; a target that no leg goes to is asked for
+-- nothing
 abbrev pub IsFair : {W : Type 0} → world.Ghosts W → Route → Type 0
 IsFair w route = (class : Class) → Contains route.classes class → IsFairClass w class
 
 -- what an address means is what a leg means, and it is told
-pub record AnswersFor {W : Type 0} (w : world.Ghosts W) (leg : LegAt) (address : Address) : Type 0 where
+pub record AnswersFor {W : Type 0} (w : world.Ghosts W) (leg : LegAt)
+    (address : Address) : Type 0 where
   pub told : w.told address
   pub means : MeansAs w address leg.address
 
 -- on a fair route every member of the class that a leg goes to answers for the leg
 abbrev pub MembersAnswer : {W : Type 0} → world.Ghosts W → Type 0
 MembersAnswer w =
-    (route : Route) (place : ℕ) (leg : LegAt) (address : Address) → IsFair w route → leg_at route place ≡ Some leg
-    → Contains leg.class.addresses address → AnswersFor w leg address
+    (route : Route) (place : ℕ) (leg : LegAt) (address : Address) → IsFair w route
+    → leg_at route place ≡ Some leg → Contains leg.class.addresses address
+    → AnswersFor w leg address

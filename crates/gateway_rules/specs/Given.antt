@@ -21,7 +21,8 @@ returned (fetched.Whole diag) = 0
 abbrev pub place_or_zero : ℕ → ℕ → ℕ
 place_or_zero count place = if nat_le place count then place else 0
 
--- the place behind the last record given, where they are given from a place on; 0 where they could not be
+-- the place behind the last record given, where they are given from a place on; 0 where they could
+-- not be
 abbrev pub next_position : (count from : ℕ) → Fetched → ℕ
 next_position count from (fetched.Whole diag) = 0
 next_position count from records = place_or_zero count (from + returned records)
@@ -29,7 +30,8 @@ next_position count from records = place_or_zero count (from + returned records)
 -- whether the records that were fetched, so many, are given: all of them, some, or none
 abbrev pub present_status : (all : ℕ) → Fetched → ℕ
 present_status all fetched.None = present_success
-present_status all (fetched.Records records) = if length records == all then present_success else present_partial_2
+present_status all (fetched.Records records) =
+    if length records == all then present_success else present_partial_2
 present_status all (fetched.Whole diag) = present_failure
 
 -- the same of a Search, which has no such status where no record was to be shown
@@ -43,7 +45,8 @@ body_of fetched.None = body.None
 body_of (fetched.Records records) = body.Records records
 body_of (fetched.Whole diag) = body.Diag diag
 
--- the answer to a Search with these hits that gives these of `all` records; what it shows begins at place 1
+-- the answer to a Search with these hits that gives these of `all` records; what it shows begins at
+-- place 1
 abbrev pub search_reply : Option (List ℕ) → List ℕ → (all : ℕ) → Fetched → Reply
 search_reply ref_id hits all records =
     reply.Search ref_id (total hits) (returned records) (next_position (total hits) 1 records) true
@@ -52,5 +55,6 @@ search_reply ref_id hits all records =
 -- the answer to a Present of a set with these hits that gives these of `all` records
 abbrev pub present_reply : Present → List ℕ → (all : ℕ) → Fetched → Reply
 present_reply present hits all records =
-    reply.Present present.ref_id (returned records) (next_position (total hits) (nat_abs present.start) records)
+    reply.Present present.ref_id (returned records)
+    (next_position (total hits) (nat_abs present.start) records)
     (present_status all records) (body_of records)

@@ -23,18 +23,23 @@ AreMarksPlain marks = AllByRecursion (λ mark. mark ≡ Plain) marks
 abbrev pub HasSomeAnswer : {W : Type 0} → world.Ghosts W → Type 0
 HasSomeAnswer w =
     (route : Route) (bytes : List ℕ)
-    → ¬ ((marks : List Mark) (out : List ℕ) (end : End) → AreMarksPlain marks → ¬ Answers w route bytes marks out end)
+    → ¬ ((marks : List Mark) (out : List ℕ) (end : End) → AreMarksPlain marks
+    → ¬ Answers w route bytes marks out end)
 
--- the same octets, twice answered with every mark Plain, have the same marks, the same octets written and the same end
+-- the same octets, twice answered with every mark Plain, have the same marks, the same octets
+-- written and the same end
 abbrev pub HasOneAnswer : {W : Type 0} → world.Ghosts W → Type 0
 HasOneAnswer w =
-    (route : Route) (bytes : List ℕ) (marks others : List Mark) (out other_out : List ℕ) (end other_end : End)
+    (route : Route) (bytes : List ℕ) (marks others : List Mark) (out other_out : List ℕ)
+    (end other_end : End)
     → Answers w route bytes marks out end → Answers w route bytes others other_out other_end
-    → AreMarksPlain marks → AreMarksPlain others → (marks ≡ others) × (out ≡ other_out) × (end ≡ other_end)
+    → AreMarksPlain marks → AreMarksPlain others
+    → (marks ≡ others) × (out ≡ other_out) × (end ≡ other_end)
 
 -- the same octets, twice answered, have the same end, whatever the targets and the marks
 abbrev pub HasOneEnd : {V W : Type 0} → world.Ghosts V → world.Ghosts W → Type 0
 HasOneEnd v w =
-    (route : Route) (bytes : List ℕ) (marks others : List Mark) (out other_out : List ℕ) (end other_end : End)
+    (route : Route) (bytes : List ℕ) (marks others : List Mark) (out other_out : List ℕ)
+    (end other_end : End)
     → Answers v route bytes marks out end → Answers w route bytes others other_out other_end
     → end ≡ other_end

@@ -50,14 +50,17 @@ scanned (Err diag) = outcome.Refused diag
 
 -- what comes of a work where no leg is marked
 abbrev pub plain_outcome : {W : Type 0} → world.Ghosts W → Route → Work → Outcome
-plain_outcome w route (work.Search login legs query small large medium small_element medium_element syntax room) =
+plain_outcome w route
+    (work.Search login legs query small large medium small_element medium_element syntax room) =
     found (hits_of w route legs query)
     (λ hits.
     let count = shown (total hits) small large medium in
     let element = if nat_le (total hits) small then small_element else medium_element in
-    within_room room count (whole (records_at w route legs query syntax element (places_from hits 1 count))))
+    within_room room count
+    (whole (records_at w route legs query syntax element (places_from hits 1 count))))
 plain_outcome w route (work.Fetch login legs query hits first count syntax element) =
-    outcome.Fetched (whole (records_at w route legs query syntax element (places_from hits first count)))
+    outcome.Fetched
+    (whole (records_at w route legs query syntax element (places_from hits first count)))
 plain_outcome w route (work.Scan login leg ask) = scanned (scan_at w ask (leg_at route leg))
 
 -- a mark decides, or else the targets do
@@ -69,9 +72,11 @@ under_mark mark class plainly = outcome.Marked mark class
 abbrev pub outcome_of : {W : Type 0} → world.Ghosts W → Route → Work → Cause → Outcome
 outcome_of w route work cause = under_mark cause.mark cause.class (plain_outcome w route work)
 
--- the legs that a work asks, by their places in the route: a fetch asks those that have a record to give
+-- the legs that a work asks, by their places in the route: a fetch asks those that have a record to
+-- give
 abbrev pub legs_asked : Work → List ℕ
-legs_asked (work.Search login legs query small large medium small_element medium_element syntax room) = legs
+legs_asked (work.Search login legs query small large medium small_element medium_element syntax
+    room) = legs
 legs_asked (work.Fetch login legs query hits first count syntax element) =
     flat_map (λ place. option_to_list (slice_get legs place.leg)) (places_from hits first count)
 legs_asked (work.Scan login leg ask) = leg ∷ []

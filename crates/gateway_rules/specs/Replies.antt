@@ -1,4 +1,5 @@
--- Replies that the gateway gives by itself (ANSI/NISO Z39.50-2003, 3.2.1.1, 3.2.2.1, 3.2.3.1, 3.2.8.1 and 3.2.11.1)
+-- Replies that the gateway gives by itself (ANSI/NISO Z39.50-2003, 3.2.1.1, 3.2.2.1, 3.2.3.1,
+-- 3.2.8.1 and 3.2.11.1)
 use Rattle.z_types.specs.Services.{own_versions, own_options}
 use Rattle.std.specs.Prelude.{ℕ, ◌==◌, Bool, false, not, bit_and, min, List, [], ◌∷◌, Option, None}
 use Rattle.z_types.specs.declared.diagnostic.Diag.{Diag}
@@ -37,9 +38,11 @@ agreed init = record {
 
 -- the sizes among that
 abbrev pub agreed_sizes : Init → Sizes
-agreed_sizes init = record { preferred = (agreed init).preferred; exceptional = (agreed init).exceptional }
+agreed_sizes init =
+    record { preferred = (agreed init).preferred; exceptional = (agreed init).exceptional }
 
--- an Init is accepted where a version is common; here will stand also that the route does not refuse its login
+-- an Init is accepted where a version is common; here will stand also that the route does not
+-- refuse its login
 abbrev pub is_accepted : Init → Bool
 is_accepted init = not ((agreed init).versions == 0)
 
@@ -55,9 +58,11 @@ close_reply ref_id reason = reply.Close (record { ref_id = ref_id; reason = reas
 abbrev pub failed : Request → Diag → Reply
 failed (request.Init init) diag = init_reply init
 failed (request.Search search) diag = reply.Search search.ref_id 0 0 0 false None (body.Diag diag)
-failed (request.Present present) diag = reply.Present present.ref_id 0 0 status.present_failure (body.Diag diag)
+failed (request.Present present) diag =
+    reply.Present present.ref_id 0 0 status.present_failure (body.Diag diag)
 failed (request.Scan scan) diag =
-    reply.Scan scan.ref_id status.scan_failure (record { position = None; entries = [] }) (diag ∷ [])
+    reply.Scan scan.ref_id status.scan_failure
+    (record { position = None; entries = [] }) (diag ∷ [])
 failed (request.Close close) diag = close_reply close.ref_id status.finished
 
 -- a unit that is none, or out of its place: a protocol error, which no request asked for

@@ -1,5 +1,5 @@
--- What an outcome leaves: the reply, and what is kept of the client (ANSI/NISO Z39.50-2003, 3.2.2.1, 3.2.3.1 and
--- 3.2.8.1)
+-- What an outcome leaves: the reply, and what is kept of the client (ANSI/NISO Z39.50-2003,
+-- 3.2.2.1, 3.2.3.1 and 3.2.8.1)
 use Rattle.std.specs.Prelude.{ℕ, ◌+◌, List, [], Option, None, Some, unwrap_or, if◌then◌else◌}
 use Rattle.z_types.specs.declared.diagnostic.Diag.{Diag}
 use Rattle.z_types.specs.declared.scan.ScanAnswer.{ScanAnswer}
@@ -58,12 +58,14 @@ fetched_from other = []
 
 -- how many records a work asked for, of a Search with these hits those that are shown
 abbrev pub asked_of : Work → (hits : List ℕ) → ℕ
-asked_of (work.Search login legs query small large medium small_element medium_element syntax room) hits =
+asked_of (work.Search login legs query small large medium small_element medium_element syntax
+    room) hits =
     shown (total hits) small large medium
 asked_of (work.Fetch login legs query known first count syntax element) hits = count
 asked_of (work.Scan login leg ask) hits = 0
 
--- the records that are given of those that were fetched, by the sizes that the client's Init agreed on
+-- the records that are given of those that were fetched, by the sizes that the client's Init agreed
+-- on
 abbrev pub given_of : Sizes → Work → Outcome → Fetched
 given_of sizes work got = cut_of sizes (asked_of work (found_hits got)) (fetched_of got)
 
@@ -73,10 +75,12 @@ given_of sizes work got = cut_of sizes (asked_of work (found_hits got)) (fetched
 abbrev pub good_reply : Sizes → Request → Work → Outcome → Reply
 good_reply sizes (request.Init init) work got = init_reply init
 good_reply sizes (request.Search search) work got =
-    search_reply search.ref_id (found_hits got) (returned (fetched_of got)) (given_of sizes work got)
+    search_reply search.ref_id (found_hits got) (returned (fetched_of got))
+    (given_of sizes work got)
 good_reply sizes (request.Present present) work got =
     present_reply present (fetched_from work) (returned (fetched_of got)) (given_of sizes work got)
-good_reply sizes (request.Scan scan) work got = reply.Scan scan.ref_id scan_success (scanned_of got) []
+good_reply sizes (request.Scan scan) work got =
+    reply.Scan scan.ref_id scan_success (scanned_of got) []
 good_reply sizes (request.Close close) work got = close_reply close.ref_id finished
 
 -- the reply to a request
@@ -88,7 +92,8 @@ reply_by sizes None request work got = good_reply sizes request work got
 
 -- the sets after a Search: a good one sets its name, and one that failed removes it
 abbrev pub sets_after : Option Diag → List ℕ → Work → List StoredSet → List StoredSet
-sets_after None name (work.Search login legs query small large medium small_element medium_element syntax room) sets =
+sets_after None name (work.Search login legs query small large medium small_element medium_element
+    syntax room) sets =
     with_set (record { name = name; legs = legs; query = query }) sets
 sets_after None name other sets = sets
 sets_after (Some diag) name work sets = without_set name sets
@@ -106,7 +111,8 @@ client_after client request work got =
 -- what an Init that is accepted settles: the sizes that it is answered with, and its login
 abbrev pub agreed_by : Request → Option Agreement
 agreed_by (request.Init init) =
-    if is_accepted init then Some (record { sizes = agreed_sizes init; login = init.login }) else None
+    if is_accepted init
+    then Some (record { sizes = agreed_sizes init; login = init.login }) else None
 agreed_by other = None
 
 -- what is settled behind a request
@@ -134,4 +140,5 @@ settled client request work got =
 
 -- what a reply at once leaves
 abbrev pub settled_at_once : ClientState → Request → Reply → Settled
-settled_at_once client request given = record { reply = given; client = client_at_once client request }
+settled_at_once client request given =
+    record { reply = given; client = client_at_once client request }

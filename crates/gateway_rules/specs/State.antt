@@ -1,10 +1,11 @@
--- What the gateway keeps of a client (this project's own): nothing of its sessions with targets, or of other clients
+-- What the gateway keeps of a client (this project's own): nothing of its sessions with targets, or
+-- of other clients
 use Rattle.std.specs.Prelude.{ℕ, List, [], Bool, false, None}
 use Rattle.z_sets.specs.Sets.{StoredSet}
 use Rattle.gateway_rules.specs.declared.agreement.Agreement.{Agreement}
 
--- How far a client's units have come: the offset of the next one, whether an Init was accepted, and how many were
--- taken. The units alone decide it: no target's answer and no mark changes it.
+-- How far a client's units have come: the offset of the next one, whether an Init was accepted, and
+-- how many were taken. The units alone decide it: no target's answer and no mark changes it.
 pub record Progress : Type 0 where
   pub at : ℕ
   pub accepted : Bool
@@ -14,8 +15,8 @@ pub record Progress : Type 0 where
 abbrev pub at_the_start : Progress
 at_the_start = record { at = 0; accepted = false; units = 0 }
 
--- What is kept of a client beside that: what its Init settled, the searches and records that it has spent, and its result
--- sets
+-- What is kept of a client beside that: what its Init settled, the searches and records that it has
+-- spent, and its result sets
 pub record ClientState : Type 0 where
   pub agreed : Agreement
   pub searches : ℕ

@@ -36,7 +36,8 @@ hits_at w query (Some leg) =
     hidden leg.database.hide_errors (w.search leg.address (record { dbs = leg.dbs; query = query }))
 
 -- the hits of each leg, or the first diagnostic that is not hidden, in the order of the legs
-abbrev pub hits_of : {W : Type 0} → world.Ghosts W → Route → List ℕ → RpnQuery → Result (List ℕ) Diag
+abbrev pub hits_of : {W : Type 0} → world.Ghosts W → Route → List ℕ → RpnQuery
+    → Result (List ℕ) Diag
 hits_of w route legs query = all_or_first (map (λ leg. hits_at w query (leg_at route leg)) legs)
 
 -- the record of a rank of a leg, under its virtual database's name
@@ -45,16 +46,17 @@ named leg (Err diag) = Err diag
 named leg (Ok item) = Ok (record { name = Some leg.database.name; item = item })
 
 -- the record at a place of a result set of these legs
-abbrev pub record_at : {W : Type 0} → world.Ghosts W → Route → List ℕ → RpnQuery → (syntax element : Option (List ℕ))
-    → Place → Option (Result NamedRecord Diag)
+abbrev pub record_at : {W : Type 0} → world.Ghosts W → Route → List ℕ → RpnQuery
+    → (syntax element : Option (List ℕ)) → Place → Option (Result NamedRecord Diag)
 record_at w route legs query syntax element place =
     option_map
-    (λ leg. named leg (w.record_ leg.address (record { dbs = leg.dbs; query = query }) place.rank syntax element))
+    (λ leg. named leg
+    (w.record_ leg.address (record { dbs = leg.dbs; query = query }) place.rank syntax element))
     (option_and_then (leg_at route) (slice_get legs place.leg))
 
 -- the records at these places, or the first diagnostic of a whole present among them
-abbrev pub records_at : {W : Type 0} → world.Ghosts W → Route → List ℕ → RpnQuery → (syntax element : Option (List ℕ))
-    → List Place → Result (List NamedRecord) Diag
+abbrev pub records_at : {W : Type 0} → world.Ghosts W → Route → List ℕ → RpnQuery
+    → (syntax element : Option (List ℕ)) → List Place → Result (List NamedRecord) Diag
 records_at w route legs query syntax element places =
     all_or_first (filter_map (record_at w route legs query syntax element) places)
 

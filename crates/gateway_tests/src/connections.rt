@@ -1,10 +1,10 @@
 //! The laws of connections, over targets in memory.
 
+use gw_memory::FakeSession;
 use replay::front_conn::{
     ends_answered, stands_at_start, stands_when_ended, stands_when_fed, stands_when_written,
     stays_of_route,
 };
-use gw_memory::FakeSession;
 use std::test::Fail;
 use test_target::TestWorld;
 

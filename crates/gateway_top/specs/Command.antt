@@ -1,5 +1,5 @@
--- The commands (this project's own): `check` with the name of a configuration, `replay` with those of
--- a configuration and of a script, and `load` with a number of clients
+-- The commands (this project's own): `check` with the name of a configuration, `replay` with those
+-- of a configuration and of a script, and `load` with a number of clients
 use Rattle.z_types.specs.Same.{is_same}
 use Rattle.std.specs.Prelude.{ℕ, List, [], ◌∷◌, Option, None, Some, if◌then◌else◌, codes}
 use Rattle.script.specs.Events.{most_clients}

@@ -13,12 +13,18 @@ use Rattle.replay_top.specs.Outside.{WireCalls}
 abbrev pub help_text : List ℕ
 help_text =
     line_of (codes "Zaklumen, a gateway for Z39.50 and SRU.") ++ line_of []
-    ++ line_of (codes "check CONFIG               reads a configuration, and prints how many databases and classes it has")
-    ++ line_of (codes "replay CONFIG SCRIPT       plays what a script says of clients, time and targets, and prints what clients are answered")
-    ++ line_of (codes "load N                     plays N clients of four requests each, and prints how many octets, searches and links that took")
-    ++ line_of (codes "serve CONFIG PORT WORKERS  serves clients at a port of this machine, as many at once as there are workers (1 to 64)")
-    ++ line_of (codes "serve .. --listen ADDRESS  the same, at another address of this machine than 127.0.0.1")
-    ++ line_of (codes "serve .. --quiet           the same, and logs no connection that begins or ends")
+    ++ line_of (codes "check CONFIG               reads a configuration, and prints how many "
+    ++ codes "databases and classes it has")
+    ++ line_of (codes "replay CONFIG SCRIPT       plays what a script says of clients, time "
+    ++ codes "and targets, and prints what clients are answered")
+    ++ line_of (codes "load N                     plays N clients of four requests each, and "
+    ++ codes "prints how many octets, searches and links that took")
+    ++ line_of (codes "serve CONFIG PORT WORKERS  serves clients at a port of this machine, "
+    ++ codes "as many at once as there are workers (1 to 64)")
+    ++ line_of (codes "serve .. --listen ADDRESS  the same, at another address of this "
+    ++ codes "machine than 127.0.0.1")
+    ++ line_of
+    (codes "serve .. --quiet           the same, and logs no connection that begins or ends")
     ++ line_of (codes "--help                     prints this")
     ++ line_of (codes "--version                  prints the version")
 
@@ -38,12 +44,13 @@ own_text (word ∷ []) = text_of_word word
 own_text words = None
 
 -- a text of the program's own was asked for, or else a command
-abbrev pub ToldOrDone : {W S : Type 0} → world.Ghosts W → WireCalls W S → Option (List ℕ) → List (List ℕ) → FileReads
-    → SinkWrites → Status → Type 0
+abbrev pub ToldOrDone : {W S : Type 0} → world.Ghosts W → WireCalls W S → Option (List ℕ)
+    → List (List ℕ) → FileReads → SinkWrites → Status → Type 0
 ToldOrDone w calls (Some text) words reads writes ended = IsTold text writes ended
 ToldOrDone w calls None words reads writes ended = IsDone w calls words reads writes ended
 
 -- what the program did at these words
-abbrev pub IsProgramDone : {W S : Type 0} → world.Ghosts W → WireCalls W S → List (List ℕ) → FileReads → SinkWrites
-    → Status → Type 0
-IsProgramDone w calls words reads writes ended = ToldOrDone w calls (own_text words) words reads writes ended
+abbrev pub IsProgramDone : {W S : Type 0} → world.Ghosts W → WireCalls W S → List (List ℕ)
+    → FileReads → SinkWrites → Status → Type 0
+IsProgramDone w calls words reads writes ended =
+    ToldOrDone w calls (own_text words) words reads writes ended

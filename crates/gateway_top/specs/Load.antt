@@ -55,38 +55,47 @@ load_line clients report =
     ++ codes " dials " ++ decimal (links_made report.classes)
     )
 
--- Of a load no request was marked, and each client was written the answers to the requests of its letter; a search was sent for each
--- of five letters, and one each time where the target refuses a letter; and one link was made.
-pub record IsPlainLoad {W : Type 0} (w : world.Ghosts W) (clients : ℕ) (report : Report) : Type 0 where
+-- Of a load no request was marked, and each client was written the answers to the requests of its
+-- letter; a search was sent for each of five letters, and one each time where the target refuses a
+-- letter; and one link was made.
+pub record IsPlainLoad {W : Type 0} (w : world.Ghosts W) (clients : ℕ)
+    (report : Report) : Type 0 where
   pub plain : plain_requests report.clients ≡ 4 * clients
-  pub written : octets_written report.clients ≡ sum_by (λ client. length (answers_for w (letter_of client))) (range_with_len 1 clients)
+  pub written : octets_written report.clients
+      ≡ sum_by (λ client. length (answers_for w (letter_of client))) (range_with_len 1 clients)
   pub searched : searches_sent report.classes ≡ load_searches w clients
   pub dialled : links_made report.classes ≡ load_dials clients
 
--- the sums of a load where the target tells what it answers: each client was answered four requests, whatever befell the links; and
--- over a wire that counts exactly, was quiet and without links before, the load is plain
-pub record HasLoadSums {W S : Type 0} (w : world.Ghosts W) (calls : WireCalls W S) (clients : ℕ) (report : Report) : Type 0 where
+-- the sums of a load where the target tells what it answers: each client was answered four
+-- requests, whatever befell the links; and over a wire that counts exactly, was quiet and without
+-- links before, the load is plain
+pub record HasLoadSums {W S : Type 0} (w : world.Ghosts W) (calls : WireCalls W S) (clients : ℕ)
+    (report : Report) : Type 0 where
   pub asked : IsFair w smallest_route → requests report.clients ≡ 4 * clients
-  pub plain : calls.exact ≡ true → IsFair w smallest_route → IsQuietWire calls.before calls.happened → IsPlainLoad w clients report
+  pub plain : calls.exact ≡ true → IsFair w smallest_route → IsQuietWire calls.before calls.happened
+      → IsPlainLoad w clients report
 
--- the load of so many clients was played by the route of the smallest configuration, and the line of
--- one report of it was printed, and nothing else
-pub record HasLoaded {W S : Type 0} (w : world.Ghosts W) (calls : WireCalls W S) (clients : ℕ) (writes : SinkWrites) : Type 0 where
+-- the load of so many clients was played by the route of the smallest configuration, and the line
+-- of one report of it was printed, and nothing else
+pub record HasLoaded {W S : Type 0} (w : world.Ghosts W) (calls : WireCalls W S) (clients : ℕ)
+    (writes : SinkWrites) : Type 0 where
   pub report : Report
   pub played : IsPlayedReport w calls smallest_route (load_events clients) report
   pub sums : HasLoadSums w calls clients report
   pub printed : Received writes (load_line clients report)
 
 -- the same, of which a front of the line was printed, and nothing else, since a write failed
-pub record HasLoadedPart {W S : Type 0} (w : world.Ghosts W) (calls : WireCalls W S) (clients : ℕ) (writes : SinkWrites) : Type 0 where
+pub record HasLoadedPart {W S : Type 0} (w : world.Ghosts W) (calls : WireCalls W S) (clients : ℕ)
+    (writes : SinkWrites) : Type 0 where
   pub report : Report
   pub played : IsPlayedReport w calls smallest_route (load_events clients) report
   pub sums : HasLoadSums w calls clients report
   pub printed : FailedWithin writes (load_line clients report)
 
--- the load of so many clients was played: its line is printed, or a front of it where the sink failed,
--- or nothing for want of memory
-abbrev pub LoadDone : {W S : Type 0} → world.Ghosts W → WireCalls W S → (clients : ℕ) → SinkWrites → Status → Type 0
+-- the load of so many clients was played: its line is printed, or a front of it where the sink
+-- failed, or nothing for want of memory
+abbrev pub LoadDone : {W S : Type 0} → world.Ghosts W → WireCalls W S → (clients : ℕ) → SinkWrites
+    → Status → Type 0
 LoadDone w calls clients writes status.Ok = HasLoaded w calls clients writes
 LoadDone w calls clients writes status.WriteFault = HasLoadedPart w calls clients writes
 LoadDone w calls clients writes status.Memory = ReceivedNothing writes

@@ -22,23 +22,24 @@ use Rattle.replay_top.specs.Outside.{WireCalls}
 use Rattle.replay_top.specs.Reported.{IsPlayedReport}
 
 -- the page of one report of the events was printed, and nothing else
-pub record HasPrinted {W S : Type 0} (w : world.Ghosts W) (calls : WireCalls W S) (route : Route) (events : List Event)
-    (writes : SinkWrites) : Type 0 where
+pub record HasPrinted {W S : Type 0} (w : world.Ghosts W) (calls : WireCalls W S) (route : Route)
+    (events : List Event) (writes : SinkWrites) : Type 0 where
   pub report : Report
   pub played : IsPlayedReport w calls route events report
   pub printed : Received writes (page report)
 
--- a front of the page of one report of the events was printed, and nothing else, since a write failed
-pub record HasPrintedPart {W S : Type 0} (w : world.Ghosts W) (calls : WireCalls W S) (route : Route) (events : List Event)
-    (writes : SinkWrites) : Type 0 where
+-- a front of the page of one report of the events was printed, and nothing else, since a write
+-- failed
+pub record HasPrintedPart {W S : Type 0} (w : world.Ghosts W) (calls : WireCalls W S)
+    (route : Route) (events : List Event) (writes : SinkWrites) : Type 0 where
   pub report : Report
   pub played : IsPlayedReport w calls route events report
   pub printed : FailedWithin writes (page report)
 
 -- the events were played: their page is printed, or a front of it where the sink failed, or nothing
 -- for want of memory
-abbrev pub Played : {W S : Type 0} → world.Ghosts W → WireCalls W S → Route → List Event → SinkWrites → Status
-    → Type 0
+abbrev pub Played : {W S : Type 0} → world.Ghosts W → WireCalls W S → Route → List Event
+    → SinkWrites → Status → Type 0
 Played w calls route events writes status.Ok = HasPrinted w calls route events writes
 Played w calls route events writes status.WriteFault = HasPrintedPart w calls route events writes
 Played w calls route events writes status.Memory = ReceivedNothing writes
@@ -66,17 +67,18 @@ IsNoScript route number text =
     ⊎ ((length text ≤ script_limit) × IsRefusedAt route number text)
 
 -- a script of these octets, where they are told, was played
-abbrev pub EventsPlayed : {W S : Type 0} → world.Ghosts W → WireCalls W S → Route → Option (List ℕ) → SinkWrites
-    → Status → Type 0
+abbrev pub EventsPlayed : {W S : Type 0} → world.Ghosts W → WireCalls W S → Route → Option (List ℕ)
+    → SinkWrites → Status → Type 0
 EventsPlayed w calls route contents writes status =
     (events : List Event) × IfSome contents (IsPlayable route events)
     × Played w calls route events writes status
 
 -- a script of these octets, where they are told, was played; or it is refused, at the line that is
 -- printed
-abbrev pub ScriptPlayed : {W S : Type 0} → world.Ghosts W → WireCalls W S → Route → Option (List ℕ) → SinkWrites
-    → Status → Type 0
-ScriptPlayed w calls route contents writes status.Ok = EventsPlayed w calls route contents writes status.Ok
+abbrev pub ScriptPlayed : {W S : Type 0} → world.Ghosts W → WireCalls W S → Route → Option (List ℕ)
+    → SinkWrites → Status → Type 0
+ScriptPlayed w calls route contents writes status.Ok =
+    EventsPlayed w calls route contents writes status.Ok
 ScriptPlayed w calls route contents writes status.WriteFault =
     EventsPlayed w calls route contents writes status.WriteFault
 ScriptPlayed w calls route contents writes status.Script =
@@ -85,35 +87,38 @@ ScriptPlayed w calls route contents writes status.Memory = ReceivedNothing write
 ScriptPlayed w calls route contents writes other = ⊥
 
 -- the script of a name was played, or could not be read
-abbrev pub ScriptDone : {W S : Type 0} → world.Ghosts W → WireCalls W S → Route → List ℕ → FileReads → SinkWrites
-    → Status → Type 0
+abbrev pub ScriptDone : {W S : Type 0} → world.Ghosts W → WireCalls W S → Route → List ℕ → FileReads
+    → SinkWrites → Status → Type 0
 ScriptDone w calls route script reads writes status.ReadFault = IsUnread script reads writes
 ScriptDone w calls route script reads writes other =
     ScriptPlayed w calls route (reads.contents script) writes other
 
 -- a route with test targets alone is played with the script; another is refused by its first other
 -- target
-abbrev pub RoutePlayed : {W S : Type 0} → world.Ghosts W → WireCalls W S → Option (List ℕ) → Route → List ℕ
-    → FileReads → SinkWrites → Status → Type 0
+abbrev pub RoutePlayed : {W S : Type 0} → world.Ghosts W → WireCalls W S → Option (List ℕ)
+    → Route → List ℕ → FileReads → SinkWrites → Status → Type 0
 RoutePlayed w calls (Some name) route script reads writes ended =
     (ended ≡ status.RealTarget) × Says writes (real_target_line name)
-RoutePlayed w calls None route script reads writes ended = ScriptDone w calls route script reads writes ended
+RoutePlayed w calls None route script reads writes ended =
+    ScriptDone w calls route script reads writes ended
 
 -- a configuration was taken, and its route played
-abbrev pub TakenAndPlayed : {W S : Type 0} → world.Ghosts W → WireCalls W S → List ℕ → List ℕ → FileReads → SinkWrites
-    → Status → Type 0
+abbrev pub TakenAndPlayed : {W S : Type 0} → world.Ghosts W → WireCalls W S → List ℕ → List ℕ
+    → FileReads → SinkWrites → Status → Type 0
 TakenAndPlayed w calls config script reads writes ended =
     (route : Route) × IsTaken config reads route
     × RoutePlayed w calls (first_real route) route script reads writes ended
 
 -- Config exactly where the configuration is refused; and else its route and the script decide
-abbrev pub ReplayDone : {W S : Type 0} → world.Ghosts W → WireCalls W S → List ℕ → List ℕ → FileReads → SinkWrites
-    → Status → Type 0
+abbrev pub ReplayDone : {W S : Type 0} → world.Ghosts W → WireCalls W S → List ℕ → List ℕ
+    → FileReads → SinkWrites → Status → Type 0
 ReplayDone w calls config script reads writes status.Config = IsRefusedConfig config reads writes
 ReplayDone w calls config script reads writes status.Memory = ReceivedNothing writes
 ReplayDone w calls config script reads writes status.ReadFault =
-    IsUnread config reads writes ⊎ TakenAndPlayed w calls config script reads writes status.ReadFault
-ReplayDone w calls config script reads writes ended = TakenAndPlayed w calls config script reads writes ended
+    IsUnread config reads writes
+    ⊎ TakenAndPlayed w calls config script reads writes status.ReadFault
+ReplayDone w calls config script reads writes ended =
+    TakenAndPlayed w calls config script reads writes ended
 
 -- a configuration was checked: it is good, or refused, or could not be read
 abbrev pub CheckDone : List ℕ → FileReads → SinkWrites → Status → Type 0
@@ -127,17 +132,20 @@ CheckDone config reads writes status.Memory = ReceivedNothing writes
 CheckDone config reads writes other = ⊥
 
 -- Words exactly where the words are no command
-abbrev pub CommandDone : {W S : Type 0} → world.Ghosts W → WireCalls W S → Option (List ℕ) → Option (List ℕ × List ℕ)
-    → Option ℕ → FileReads → SinkWrites → Status → Type 0
-CommandDone w calls (Some config) replayed loaded reads writes ended = CheckDone config reads writes ended
+abbrev pub CommandDone : {W S : Type 0} → world.Ghosts W → WireCalls W S → Option (List ℕ)
+    → Option (List ℕ × List ℕ) → Option ℕ → FileReads → SinkWrites → Status → Type 0
+CommandDone w calls (Some config) replayed loaded reads writes ended =
+    CheckDone config reads writes ended
 CommandDone w calls None (Some (config, script)) loaded reads writes ended =
     ReplayDone w calls config script reads writes ended
-CommandDone w calls None None (Some clients) reads writes ended = LoadDone w calls clients writes ended
-CommandDone w calls None None None reads writes ended = (ended ≡ status.Words) × Says writes usage_line
+CommandDone w calls None None (Some clients) reads writes ended =
+    LoadDone w calls clients writes ended
+CommandDone w calls None None None reads writes ended =
+    (ended ≡ status.Words) × Says writes usage_line
 
 -- what these words did
-abbrev pub IsDone : {W S : Type 0} → world.Ghosts W → WireCalls W S → List (List ℕ) → FileReads → SinkWrites → Status
-    → Type 0
+abbrev pub IsDone : {W S : Type 0} → world.Ghosts W → WireCalls W S → List (List ℕ) → FileReads
+    → SinkWrites → Status → Type 0
 IsDone w calls words reads writes ended =
     CommandDone w calls (check_of words) (replay_of words) (load_of words) reads writes ended
 

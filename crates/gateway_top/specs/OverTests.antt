@@ -1,5 +1,6 @@
--- What a replay prints where its world tells what test targets answer, and its wire was just made (this project's own). The program replays
--- test targets alone: so of what the main theorem asks of targets that tell their answers, and of the wire, nothing is left to ask here
+-- What a replay prints where its world tells what test targets answer, and its wire was just made
+-- (this project's own). The program replays test targets alone: so of what the main theorem asks of
+-- targets that tell their answers, and of the wire, nothing is left to ask here
 use Rattle.std.specs.Prelude.{◌≡◌, ℕ, true, List, [], ◌∷◌, Some, Contains, codes, map}
 use Rattle.std.specs.List.{AllByRecursion}
 use Rattle.z_types.specs.declared.address.Address.{Address}
@@ -33,7 +34,8 @@ use Rattle.gateway_top.specs.Outcome.{IsPlayable}
 abbrev pub TellsTests : {W : Type 0} → world.Ghosts W → Type 0
 TellsTests w = (number : ℕ) → w.told (Test number)
 
--- the wire counts exactly, had counted nothing, was without links, and nothing was made to happen to it
+-- the wire counts exactly, had counted nothing, was without links, and nothing was made to happen
+-- to it
 pub record IsNewWire {W S : Type 0} (calls : WireCalls W S) : Type 0 where
   pub exact : calls.exact ≡ true
   pub uncounted : calls.before ≡ no_counts
@@ -42,14 +44,16 @@ pub record IsNewWire {W S : Type 0} (calls : WireCalls W S) : Type 0 where
 -- all members of a class mean the same, as where it has but one
 abbrev pub MembersAreAlike : {W : Type 0} → world.Ghosts W → Route → Type 0
 MembersAreAlike w route =
-    (class : Class) → Contains route.classes class → (one other : Address) → Contains class.addresses one
-    → Contains class.addresses other → MeansAs w one other
+    (class : Class) → Contains route.classes class → (one other : Address)
+    → Contains class.addresses one → Contains class.addresses other → MeansAs w one other
 
--- The page of one report was printed, and nothing else. It is of the clients that the script names; where the members of each class are
--- alike, each was written the answers to what it was fed. The sums are what the wire counted behind it, and each mark but Plain has its
--- counted cause. Where nothing befalls links nothing goes wrong, and no more than is borne marks no request but where the pool was full; and
--- orderly clients share what they search.
-pub record IsReplayOverTests {W : Type 0} (w : world.Ghosts W) (config script : List ℕ) (writes : SinkWrites) : Type 0 where
+-- The page of one report was printed, and nothing else. It is of the clients that the script names;
+-- where the members of each class are alike, each was written the answers to what it was fed. The
+-- sums are what the wire counted behind it, and each mark but Plain has its counted cause. Where
+-- nothing befalls links nothing goes wrong, and no more than is borne marks no request but where
+-- the pool was full; and orderly clients share what they search.
+pub record IsReplayOverTests {W : Type 0} (w : world.Ghosts W) (config script : List ℕ)
+    (writes : SinkWrites) : Type 0 where
   pub route : Route
   pub configured : IsConfigurationOf route config
   pub events : List Event
@@ -63,11 +67,13 @@ pub record IsReplayOverTests {W : Type 0} (w : world.Ghosts W) (config script : 
   pub causes : HaveWireCauses true route.pool report 0 no_counts behind
   pub fulls : IsFullCaused route.pool report 0 behind
   pub untroubled : AllByRecursion BefallsNothing events → IsUntroubled route report
-  pub borne : AllByRecursion (HasBorneNumber route.pool) events → IsQuiet events → DialsGoOn behind → AreBorneMarks route report
+  pub borne : AllByRecursion (HasBorneNumber route.pool) events → IsQuiet events → DialsGoOn behind
+      → AreBorneMarks route report
   pub shared : MembersAreAlike w route → SharesIfOrderly w route events report
 
 -- `replay` at Ok: the files that it names were replayed so, where they are told
-abbrev pub IsReplayedOverTests : {W : Type 0} → world.Ghosts W → List (List ℕ) → FileReads → SinkWrites → Status → Type 0
+abbrev pub IsReplayedOverTests : {W : Type 0} → world.Ghosts W → List (List ℕ) → FileReads
+    → SinkWrites → Status → Type 0
 IsReplayedOverTests w words reads writes ended =
     (config script config_text script_text : List ℕ)
     → ended ≡ Ok → words ≡ codes "replay" ∷ config ∷ script ∷ []

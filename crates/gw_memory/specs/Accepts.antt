@@ -9,7 +9,8 @@ use Rattle.gw_outside.specs.Accepts.{IsUntouched}
 
 -- nothing of these connections was read or written yet
 abbrev pub AreUntouched : {I O : Type 0} → source.Ghosts I → sink.Ghosts O → List (I × O) → Type 0
-AreUntouched i o connections = AllByRecursion (λ connection. IsUntouched i o connection.0 connection.1) connections
+AreUntouched i o connections =
+    AllByRecursion (λ connection. IsUntouched i o connection.0 connection.1) connections
 
 -- the first of those that wait is handed out; at the end none waits
 abbrev pub HandsOut : {I O : Type 0} → List (I × O) → List (I × O) → Accepted I O → Type 0

@@ -29,7 +29,8 @@ made_in [] name = None
 made_in (answer ∷ earlier) name = if is_same answer.0 name then answer.1 else made_in earlier name
 
 -- some of the records asked for, from the first on
-pub record AreHeard (record_at : ℕ → Result Item Diag) (first count : ℕ) (items : List Item) : Type 0 where
+pub record AreHeard (record_at : ℕ → Result Item Diag) (first count : ℕ)
+    (items : List Item) : Type 0 where
   pub some : 1 ≤ length items
   pub few : length items ≤ count
   pub records : AreRecords record_at first items
@@ -58,4 +59,5 @@ IsAnswer answer = Unit {0}
 -- an answer to an ask that fits, and is the world's; or want of memory
 abbrev pub Answers : {W : Type 0} → world.Ghosts W → Address → Made → Ask → Heard → Type 0
 Answers w address made ask Memory = Unit {0}
-Answers w address made ask answer = IsAnswer answer × AnswerFits ask answer × IsWorlds w address made (asked ask) answer
+Answers w address made ask answer =
+    IsAnswer answer × AnswerFits ask answer × IsWorlds w address made (asked ask) answer

@@ -1,4 +1,5 @@
--- The next call of an object in memory, and what it answers where it is to fail (this project's own)
+-- The next call of an object in memory, and what it answers where it is to fail
+-- (this project's own)
 use Rattle.std.specs.Prelude.{◌≡◌, ℕ, Bool, true, false, List, Option, None, Some, length, min}
 use Rattle.gw_outside.specs.declared.files.FileGot.{FileGot}
 use Rattle.gw_outside.specs.declared.files.FileGot.TheVariants as got

@@ -13,14 +13,16 @@ AcceptFits (Some left) new Ended = (left ≡ 0) × (new ≡ Some left)
 AcceptFits (Some left) new Failed = new ≡ Some left
 
 -- nothing of a connection was read or written yet, and nothing on it has failed
-pub record IsUntouched {I O : Type 0} (i : source.Ghosts I) (o : sink.Ghosts O) (input : I) (output : O) : Type 0 where
+pub record IsUntouched {I O : Type 0} (i : source.Ghosts I) (o : sink.Ghosts O) (input : I)
+    (output : O) : Type 0 where
   pub given : i.given input ≡ Some []
   pub received : o.received output ≡ Some []
   pub source_faults : i.faults input ≡ 0
   pub sink_faults : o.faults output ≡ 0
 
 -- so is each connection of an acceptor that tells how many are left
-abbrev pub IsNewConnection : {I O : Type 0} → source.Ghosts I → sink.Ghosts O → Option ℕ → Accepted I O → Type 0
+abbrev pub IsNewConnection : {I O : Type 0} → source.Ghosts I → sink.Ghosts O → Option ℕ
+    → Accepted I O → Type 0
 IsNewConnection i o None answer = Unit {0}
 IsNewConnection i o (Some left) (Connection input output) = IsUntouched i o input output
 IsNewConnection i o (Some left) Ended = Unit {0}

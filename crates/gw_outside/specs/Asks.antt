@@ -1,4 +1,5 @@
--- What a session may be asked for (this project's own): an ask whose unit, and the reply to it, are within the bounds of units
+-- What a session may be asked for (this project's own): an ask whose unit, and the reply to it, are
+-- within the bounds of units
 use Rattle.std.specs.Prelude.{◌≡◌, ℕ, ◌+◌, ◌≤◌, List, length, Option, Some, IfSome}
 use Rattle.std.specs.List.{AllByRecursion}
 use Rattle.z_types.specs.Bounds.{most_databases, most_name_octets, most_query_depth, most_query_nodes, most_query_cost}
@@ -37,7 +38,8 @@ pub record MaySearch (name : List ℕ) (key : SetKey) : Type 0 where
   pub cheap : tree_cost key.query.root ≤ most_query_cost
 
 -- the records are some of a set that was made
-pub record MayPresent (made : List ℕ → Option (SetKey × ℕ)) (name : List ℕ) (first count : ℕ) (element : Option (List ℕ)) : Type 0 where
+pub record MayPresent (made : List ℕ → Option (SetKey × ℕ)) (name : List ℕ) (first count : ℕ)
+    (element : Option (List ℕ)) : Type 0 where
   pub key : SetKey
   pub hits : ℕ
   pub is_made : made name ≡ Some (key, hits)

@@ -1,8 +1,11 @@
--- What wires count, and sessions with targets over them (this project's own). No count falls, and each stands still at the last value of 64 bits.
+-- What wires count, and sessions with targets over them (this project's own). No count falls, and
+-- each stands still at the last value of 64 bits.
 use Rattle.std.specs.Prelude.{◌≡◌, ℕ, ◌≤◌, Bool, true, false}
 use Rattle.z_types.specs.Counts.{Rose, one_more}
 
--- the counts: calls that failed; of these, replies that were none to what was asked, of which a wire counts none; looks that found nothing; links that were made; Searches that were sent; replies to Presents that said that the result set is gone
+-- the counts: calls that failed; of these, replies that were none to what was asked, of which a
+-- wire counts none; looks that found nothing; links that were made; Searches that were sent;
+-- replies to Presents that said that the result set is gone
 pub record Counts : Type 0 where
   pub faults : ℕ
   pub breaches : ℕ
@@ -37,15 +40,18 @@ after call old = record {
   gones = one_more call.gone old.gones;
 }
 
--- a wire counts a call: each look in vain and at least each failure; where it is exact that is all, and the rest as well
+-- a wire counts a call: each look in vain and at least each failure; where it is exact that is all,
+-- and the rest as well
 pub record WireCounts (exact : Bool) (call : Counted) (old new : Counts) : Type 0 where
   pub waits : new.waits ≡ one_more call.wait old.waits
   pub faults : old.faults ≤ new.faults
   pub failed : call.fault ≡ true → Rose old.faults new.faults
   pub exactly : exact ≡ true → new ≡ after call old
 
--- sessions with targets count a call: all but the faults exactly, and where they are exact these too; a breach is a fault, and none comes of a target that is told
-pub record BackendCounts (exact : Bool) (told : Type 0) (call : Counted) (old new : Counts) : Type 0 where
+-- sessions with targets count a call: all but the faults exactly, and where they are exact these
+-- too; a breach is a fault, and none comes of a target that is told
+pub record BackendCounts (exact : Bool) (told : Type 0) (call : Counted)
+    (old new : Counts) : Type 0 where
   pub others : new ≡ record (after call old) { faults = new.faults; breaches = new.breaches }
   pub faults : old.faults ≤ new.faults
   pub failed : call.fault ≡ true → Rose old.faults new.faults

@@ -10,7 +10,10 @@ use Rattle.gw_outside.specs.declared.happenings.Happening.{Happening}
 use Rattle.gw_outside.specs.Counts.{Counts}
 use Rattle.gw_outside.specs.Peers.{NamedSet, Peer}
 
--- what was made to happen, by the number of the target; whether nothing else does (links fail where they are cut alone, sets are deleted by Presents that are left alone, and replies come after the stated looks); and by which reference a wire is lent, where it is another's, so that its owner finds what became of it
+-- what was made to happen, by the number of the target; whether nothing else does (links fail where
+-- they are cut alone, sets are deleted by Presents that are left alone, and replies come after the
+-- stated looks); and by which reference a wire is lent, where it is another's, so that its owner
+-- finds what became of it
 pub record Happened : Type 0 where
   pub steady : Bool
   pub lent : ℕ
@@ -35,7 +38,8 @@ pub record IsMade (target : ℕ) (change : Happening → Happening) (old new : H
   pub own : new.of_target target ≡ change (old.of_target target)
   pub others : (other : ℕ) → other ≢ target → new.of_target other ≡ old.of_target other
 
--- the links with a target are cut, up to the last one; where dials are counted exactly its number is theirs
+-- the links with a target are cut, up to the last one; where dials are counted exactly its number
+-- is theirs
 pub record AreCut (exact : Bool) (target dials : ℕ) (old new : Happened) : Type 0 where
   pub last : ℕ
   pub is_last : exact ≡ true → last ≡ dials
@@ -56,7 +60,8 @@ abbrev pub at_site : Happened → Site → Happening
 at_site h (site.Test target) = h.of_target target
 at_site h (site.Tcp host port) = nothing_happens
 
--- what was made to happen at an address, which inside a login is that at its site; and to the peer of a link
+-- what was made to happen at an address, which inside a login is that at its site; and to the peer
+-- of a link
 abbrev pub at_address : Happened → Address → Happening
 at_address h (Test target) = h.of_target target
 at_address h (Tcp host port) = nothing_happens
@@ -72,7 +77,8 @@ is_cut happening number = nat_le number happening.cut
 
 -- the sets that a request finds: none, where that was made to happen to a Present
 abbrev pub sets_found : Happening → Request → List NamedSet → List NamedSet
-sets_found happening (request.Present present) sets = if nat_lt 0 happening.presents then [] else sets
+sets_found happening (request.Present present) sets =
+    if nat_lt 0 happening.presents then [] else sets
 sets_found happening (request.Init init) sets = sets
 sets_found happening (request.Search search) sets = sets
 sets_found happening (request.Scan scan) sets = sets
@@ -80,7 +86,8 @@ sets_found happening (request.Close close) sets = sets
 
 -- a Present less finds none
 abbrev pub happening_after : Happening → Request → Happening
-happening_after happening (request.Present present) = record happening { presents = happening.presents - 1 }
+happening_after happening (request.Present present) =
+    record happening { presents = happening.presents - 1 }
 happening_after happening (request.Init init) = happening
 happening_after happening (request.Search search) = happening
 happening_after happening (request.Scan scan) = happening
@@ -88,12 +95,14 @@ happening_after happening (request.Close close) = happening
 
 -- what is left to happen after a request at a site
 abbrev pub IsAskedAt : Site → Request → Happened → Happened → Type 0
-IsAskedAt (site.Test target) request old new = IsMade target (λ happening. happening_after happening request) old new
+IsAskedAt (site.Test target) request old new =
+    IsMade target (λ happening. happening_after happening request) old new
 IsAskedAt (site.Tcp host port) request old new = AreSame old new
 
 -- what is left to happen after a request at an address
 abbrev pub IsAsked : Address → Request → Happened → Happened → Type 0
-IsAsked (Test target) request old new = IsMade target (λ happening. happening_after happening request) old new
+IsAsked (Test target) request old new =
+    IsMade target (λ happening. happening_after happening request) old new
 IsAsked (Tcp host port) request old new = AreSame old new
 IsAsked (Login at login) request old new = IsAskedAt at request old new
 

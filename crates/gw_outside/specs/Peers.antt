@@ -1,4 +1,5 @@
--- The target's end of a link: the result sets that it holds, and how it answers requests (ANSI/NISO Z39.50-2003, 3.2.1 to 3.2.3 and 3.2.8), where it answers as its world says
+-- The target's end of a link: the result sets that it holds, and how it answers requests (ANSI/NISO
+-- Z39.50-2003, 3.2.1 to 3.2.3 and 3.2.8), where it answers as its world says
 use Rattle.z_types.specs.Same.{is_same}
 use Rattle.std.specs.Prelude.{◌≡◌, Bool, ◌⊎◌, ℕ, ◌+◌, ◌≤◌, pos, true, false, List, [], ◌∷◌, ◌++◌, length, Option, None, Some, IfSome, Result, Ok, Err, if◌then◌else◌}
 use Rattle.std.specs.List.{AllByRecursion}
@@ -39,7 +40,8 @@ StayHeld before after = (name : List ℕ) → held after name ≡ held before na
 
 -- each set stays or is gone
 abbrev pub AreLeft : List NamedSet → List NamedSet → Type 0
-AreLeft before after = (name : List ℕ) → (held after name ≡ held before name) ⊎ (held after name ≡ None)
+AreLeft before after =
+    (name : List ℕ) → (held after name ≡ held before name) ⊎ (held after name ≡ None)
 
 -- one name has this set now, or none; the others stay
 abbrev pub ArePut : List ℕ → Option SetKey → List NamedSet → List NamedSet → Type 0
@@ -48,7 +50,8 @@ ArePut own set before after =
 
 -- the sets of all names but one stay
 abbrev pub OthersStay : List ℕ → List NamedSet → List NamedSet → Type 0
-OthersStay own before after = (name : List ℕ) → is_same own name ≡ false → held after name ≡ held before name
+OthersStay own before after =
+    (name : List ℕ) → is_same own name ≡ false → held after name ≡ held before name
 
 -- what stands under the name of a search after its answer
 abbrev pub set_of : SetKey → Result ℕ Diag → Option SetKey
@@ -66,9 +69,11 @@ HasNoOperand (and_not l r) = HasNoOperand l × HasNoOperand r
 -- these are the records from a position on
 abbrev pub AreRecords : (ℕ → Result Item Diag) → ℕ → List Item → Type 0
 AreRecords record_at first [] = Unit {0}
-AreRecords record_at first (item ∷ items) = (record_at first ≡ Ok item) × AreRecords record_at (first + 1) items
+AreRecords record_at first (item ∷ items) =
+    (record_at first ≡ Ok item) × AreRecords record_at (first + 1) items
 
--- some of the records that were asked for, from the first on; or the diagnostic in place of the first
+-- some of the records that were asked for, from the first on; or the diagnostic in place of the
+-- first
 abbrev pub IsPresented : (ℕ → Result Item Diag) → ℕ → ℕ → Option (Result (List Item) Diag) → Type 0
 IsPresented record_at first count None = ⊥
 IsPresented record_at first count (Some (Ok items)) =
@@ -81,14 +86,18 @@ IsNotHeld said = (addinfo : List ℕ) × (said ≡ Some (Err (bib1 ResultSetDoes
 
 module _ {W : Type 0} (w : world.Ghosts W) (address : Address) where
   -- a search is answered as the world says, and puts or removes its name
-  pub record IsSearched (name : List ℕ) (key : SetKey) (before after : List NamedSet) (answer : Reply) : Type 0 where
+  pub record IsSearched (name : List ℕ) (key : SetKey) (before after : List NamedSet)
+      (answer : Reply) : Type 0 where
     pub said : search_said answer ≡ Some (w.search address key)
     pub put : ArePut name (set_of key (w.search address key)) before after
 
-  -- what is answered to a Search: one that replaces what its name has, and has no operands that are result sets, as the world says
-  abbrev pub SearchAnswered : Search → Asked RpnQuery → List NamedSet → List NamedSet → Reply → Type 0
+  -- what is answered to a Search: one that replaces what its name has, and has no operands that are
+  -- result sets, as the world says
+  abbrev pub SearchAnswered : Search → Asked RpnQuery → List NamedSet → List NamedSet
+      → Reply → Type 0
   SearchAnswered search (Good query) before after answer =
-      search.replace ≡ true → HasNoOperand query.root → IsSearched search.set_name (record { dbs = search.dbs; query = query }) before after answer
+      search.replace ≡ true → HasNoOperand query.root
+      → IsSearched search.set_name (record { dbs = search.dbs; query = query }) before after answer
   SearchAnswered search (Bad diag) before after answer = Unit {0}
 
   -- what is answered to a Present of a set, where all that is asked for is within its hits
@@ -96,7 +105,8 @@ module _ {W : Type 0} (w : world.Ghosts W) (address : Address) where
   SetPresented present element key answer =
       (first hits : ℕ) → present.start ≡ pos first → w.search address key ≡ Ok hits →
       1 ≤ first → 1 ≤ present.number → first + present.number ≤ hits + 1 →
-      IsPresented (λ position. w.record_ address key position present.syntax element) first present.number (present_said answer)
+      IsPresented (λ position. w.record_ address key position present.syntax element) first
+      present.number (present_said answer)
 
   -- what is answered to a Present of a name
   abbrev pub PresentAnswered : Present → Asked (Option (List ℕ)) → Option SetKey → Reply → Type 0
@@ -114,16 +124,19 @@ module _ {W : Type 0} (w : world.Ghosts W) (address : Address) where
   IsPeerStep (request.Init init) before after answer =
       StayHeld before after × (has_named_result_sets init.options ≡ true → accepts answer ≡ true)
   IsPeerStep (request.Search search) before after answer =
-      OthersStay search.set_name before after × SearchAnswered search search.query before after answer
+      OthersStay search.set_name before after
+      × SearchAnswered search search.query before after answer
   IsPeerStep (request.Present present) before after answer =
-      StayHeld before after × PresentAnswered present present.element (held before present.set_name) answer
+      StayHeld before after
+      × PresentAnswered present present.element (held before present.set_name) answer
   IsPeerStep (request.Scan scan) before after answer =
       StayHeld before after × ScanAnswered scan.dbs scan.ask answer
   IsPeerStep (request.Close close) before after answer = StayHeld before after
 
 -- ---- the end of a link
 
--- the address that was dialled, the login of the last Init that was accepted, if that had one, the sets that are held, and the replies that have not arrived, in their order
+-- the address that was dialled, the login of the last Init that was accepted, if that had one, the
+-- sets that are held, and the replies that have not arrived, in their order
 pub record Peer : Type 0 where
   pub address : Address
   pub login : Option (List ℕ)
@@ -143,8 +156,10 @@ abbrev pub login_after : Option (List ℕ) → Request → Reply → Option (Lis
 login_after login (request.Init init) answer = if is_accepted answer then init.login else login
 login_after login other answer = login
 
--- a peer takes a request: some of its sets are left when it comes, in a steady world those that it is to find, and the reply is owed
-pub record TakesRequest {W : Type 0} (w : world.Ghosts W) (steady : Bool) (found : List NamedSet) (request : Request) (old new : Peer) : Type 0 where
+-- a peer takes a request: some of its sets are left when it comes, in a steady world those that it
+-- is to find, and the reply is owed
+pub record TakesRequest {W : Type 0} (w : world.Ghosts W) (steady : Bool) (found : List NamedSet)
+    (request : Request) (old new : Peer) : Type 0 where
   pub left : List NamedSet
   pub answer : Reply
   pub are_left : AreLeft old.sets left
@@ -188,6 +203,7 @@ pub record IsShortSearch (search : Search) : Type 0 where
 abbrev pub IsShortRequest : Request → Type 0
 IsShortRequest (request.Init init) = IsShortIf init.ref_id
 IsShortRequest (request.Search search) = IsShortSearch search
-IsShortRequest (request.Present present) = IsShortIf present.ref_id × IsShort present.set_name × HasShortName present.element
+IsShortRequest (request.Present present) =
+    IsShortIf present.ref_id × IsShort present.set_name × HasShortName present.element
 IsShortRequest (request.Scan scan) = IsShortIf scan.ref_id × AllByRecursion IsShort scan.dbs
 IsShortRequest (request.Close close) = IsShortIf close.ref_id × IsShortIf close.info

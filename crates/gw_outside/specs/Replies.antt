@@ -1,4 +1,5 @@
--- What replies of a target say (ANSI/NISO Z39.50-2003, InitializeResponse, SearchResponse, PresentResponse and ScanResponse); where they contradict themselves they say nothing
+-- What replies of a target say (ANSI/NISO Z39.50-2003, InitializeResponse, SearchResponse,
+-- PresentResponse and ScanResponse); where they contradict themselves they say nothing
 use Rattle.std.specs.Prelude.{ℕ, ◌&&◌, Bool, true, false, List, [], ◌∷◌, map, Option, Some, None, Result, Ok, Err}
 use Rattle.z_types.specs.Bib1.{is_gone}
 use Rattle.z_types.specs.Services.{has_named_result_sets}
@@ -47,7 +48,8 @@ hits_said false count None = None
 
 -- what a reply to a Search says
 abbrev pub search_said : Reply → Option (Result ℕ Diag)
-search_said (reply.Search ref_id count returned next ok status body) = hits_said ok count (diag_of body)
+search_said (reply.Search ref_id count returned next ok status body) =
+    hits_said ok count (diag_of body)
 search_said (reply.Init init result) = None
 search_said (reply.Present ref_id returned next status body) = None
 search_said (reply.Scan ref_id status answer diags) = None

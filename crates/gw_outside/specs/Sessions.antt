@@ -19,17 +19,20 @@ use Rattle.gw_outside.specs.Happened.{Happened, AreSame, AreLess}
 use Rattle.z_types.specs.Same.{is_same}
 use Rattle.gw_outside.specs.Peers.{AreRecords}
 
--- the result sets of a session: for each name the key and the hits of the last search under it that was answered, where it succeeded
+-- the result sets of a session: for each name the key and the hits of the last search under it that
+-- was answered, where it succeeded
 abbrev pub Made : Type 0
 Made = List ℕ → Option (SetKey × ℕ)
 
 -- ---- what fits
 
--- a good answer to an ask: hits that are a count, at least one record and no more than asked for, or entries
+-- a good answer to an ask: hits that are a count, at least one record and no more than asked for,
+-- or entries
 abbrev pub AnswerFits : Ask → Heard → Type 0
 AnswerFits (Search name key) (Hits hits) = hits ≤ most_number
 AnswerFits (Search name key) (Refused diag) = Unit {0}
-AnswerFits (Present name first count syntax element) (Items items) = (1 ≤ length items) × (length items ≤ count)
+AnswerFits (Present name first count syntax element) (Items items) =
+    (1 ≤ length items) × (length items ≤ count)
 AnswerFits (Present name first count syntax element) (Refused diag) = Unit {0}
 AnswerFits (Present name first count syntax element) Gone = Unit {0}
 AnswerFits (Scan dbs ask) (Scanned answer) = Unit {0}
@@ -49,18 +52,21 @@ Fits p answer = ⊥
 
 module _ {W : Type 0} (w : world.Ghosts W) (address : Address) where
   -- the records of a set that was made, from the first that was asked for
-  abbrev pub RecordsOf : Option (SetKey × ℕ) → Option (List ℕ) → Option (List ℕ) → ℕ → Heard → Type 0
+  abbrev pub RecordsOf : Option (SetKey × ℕ) → Option (List ℕ) → Option (List ℕ) → ℕ
+      → Heard → Type 0
   RecordsOf None syntax element first answer = Unit {0}
   RecordsOf (Some set) syntax element first (Items items) =
       AreRecords (λ position. w.record_ address set.0 position syntax element) first items
-  RecordsOf (Some set) syntax element first (Refused diag) = w.record_ address set.0 first syntax element ≡ Err diag
+  RecordsOf (Some set) syntax element first (Refused diag) =
+      w.record_ address set.0 first syntax element ≡ Err diag
   RecordsOf (Some set) syntax element first answer = Unit {0}
 
   -- the answer is the world's
   abbrev pub IsWorlds : Made → Pending → Heard → Type 0
   IsWorlds made (asked (Search name key)) (Hits hits) = w.search address key ≡ Ok hits
   IsWorlds made (asked (Search name key)) (Refused diag) = w.search address key ≡ Err diag
-  IsWorlds made (asked (Present name first count syntax element)) answer = RecordsOf (made name) syntax element first answer
+  IsWorlds made (asked (Present name first count syntax element)) answer =
+      RecordsOf (made name) syntax element first answer
   IsWorlds made (asked (Scan dbs ask)) (Scanned answer) = w.scan address dbs ask ≡ Ok answer
   IsWorlds made (asked (Scan dbs ask)) (Refused diag) = w.scan address dbs ask ≡ Err diag
   IsWorlds made p answer = Unit {0}
@@ -101,7 +107,8 @@ IfSession (opened.Failed linked) P = Unit {0}
 IfSession opened.Memory P = Unit {0}
 
 -- it waits for the reply to its Init, and made no set
-pub record IsNewSession {S W : Type 0} (t : sitting.Ghosts S W) (address : Address) (session : S) : Type 0 where
+pub record IsNewSession {S W : Type 0} (t : sitting.Ghosts S W) (address : Address)
+    (session : S) : Type 0 where
   pub same_address : t.address session ≡ address
   pub pending : t.pending session ≡ opening
   pub made : (name : List ℕ) → t.made session name ≡ None
@@ -117,7 +124,8 @@ open_counted opened.Memory = nothing
 -- of one that found no memory it is not said whether it got a link
 abbrev pub OpenCounts : {S : Type 0} → Bool → Opening S → Counts → Counts → Type 0
 OpenCounts exact opened.Memory old new =
-    BackendCounts exact (Unit {0}) nothing old new ⊎ BackendCounts exact (Unit {0}) (record nothing { dial = true }) old new
+    BackendCounts exact (Unit {0}) nothing old new
+    ⊎ BackendCounts exact (Unit {0}) (record nothing { dial = true }) old new
 OpenCounts exact answer old new = BackendCounts exact (Unit {0}) (open_counted answer) old new
 
 -- what is made to happen stays, where memory sufficed
@@ -146,5 +154,6 @@ heard_counted answer = nothing
 -- of one that found no memory it is not said whether a reply had come that says that a set is gone
 abbrev pub LookCounts : Bool → Type 0 → Heard → Counts → Counts → Type 0
 LookCounts exact told Memory old new =
-    BackendCounts exact told nothing old new ⊎ BackendCounts exact told (record nothing { gone = true }) old new
+    BackendCounts exact told nothing old new
+    ⊎ BackendCounts exact told (record nothing { gone = true }) old new
 LookCounts exact told answer old new = BackendCounts exact told (heard_counted answer) old new

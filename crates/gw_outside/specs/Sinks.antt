@@ -16,5 +16,6 @@ pub record ReceivedPrefix (old new : Option (List ℕ)) (bytes : List ℕ) : Typ
 
 -- the answer to a write: the first octets of the piece were received, or none
 abbrev pub TookFits : Option (List ℕ) → Option (List ℕ) → List ℕ → Took → Type 0
-TookFits old new piece (Bytes count) = (1 ≤ count) × (count ≤ length piece) × (new ≡ appended old (take count piece))
+TookFits old new piece (Bytes count) =
+    (1 ≤ count) × (count ≤ length piece) × (new ≡ appended old (take count piece))
 TookFits old new piece Failed = new ≡ old

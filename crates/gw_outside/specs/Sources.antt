@@ -13,10 +13,12 @@ abbrev pub HasEnded : Option (List ℕ) → Type 0
 HasEnded None = Unit {0}
 HasEnded (Some left) = left ≡ []
 
--- the answer to a read: the next octets stand at the buffer's front, or nothing was left, or nothing was read
+-- the answer to a read: the next octets stand at the buffer's front, or nothing was left, or
+-- nothing was read
 abbrev pub GotFits : Option (List ℕ) → Option (List ℕ) → List ℕ → List ℕ → Got → Type 0
 GotFits old new before after (Bytes count) =
-    (1 ≤ count) × (count ≤ length before) × (drop count after ≡ drop count before) × Gave old (take count after) new
+    (1 ≤ count) × (count ≤ length before) × (drop count after ≡ drop count before)
+    × Gave old (take count after) new
 GotFits old new before after End = HasEnded old × (new ≡ old) × (after ≡ before)
 GotFits old new before after Failed = (new ≡ old) × (after ≡ before)
 

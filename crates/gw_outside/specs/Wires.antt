@@ -52,8 +52,10 @@ pub record IsNewPeer (told : Type 0) (address : Address) (peer : Option Peer) : 
 abbrev pub IsToldInside : {W : Type 0} → world.Ghosts W → Address → Type 0
 IsToldInside w address = (login : Option (List ℕ)) → w.told (inside login address)
 
--- a new link: no address inside a login is dialled; one that is exact is of an address that is told, inside any login too, and an exact wire numbers its links by its dials
-pub record IsNewLink {W L : Type 0} (w : world.Ghosts W) (l : linked.Ghosts L) (exact : Bool) (address : Address) (counts : Counts) (link : L) : Type 0 where
+-- a new link: no address inside a login is dialled; one that is exact is of an address that is
+-- told, inside any login too, and an exact wire numbers its links by its dials
+pub record IsNewLink {W L : Type 0} (w : world.Ghosts W) (l : linked.Ghosts L) (exact : Bool)
+    (address : Address) (counts : Counts) (link : L) : Type 0 where
   pub by_itself : login_of address ≡ None
   pub arrived : l.arrived link ≡ []
   pub peer : IsNewPeer (w.told address) address (l.peer link)
@@ -62,7 +64,8 @@ pub record IsNewLink {W L : Type 0} (w : world.Ghosts W) (l : linked.Ghosts L) (
   pub delays : l.delays link ≡ []
 
 -- a peer that is told takes the request that a unit is
-abbrev pub PeerTakes : {W : Type 0} → world.Ghosts W → List ℕ → Happened → Option Peer → Option Peer → Type 0
+abbrev pub PeerTakes : {W : Type 0} → world.Ghosts W → List ℕ → Happened → Option Peer
+    → Option Peer → Type 0
 PeerTakes w unit h None new = new ≡ None
 PeerTakes w unit h (Some old) None = ⊥
 PeerTakes w unit h (Some old) (Some new) =
@@ -70,7 +73,8 @@ PeerTakes w unit h (Some old) (Some new) =
     TakesRequest w h.steady (sets_found (at_address h old.address) request old.sets) request old new
 
 -- a unit was sent, or the link is of no more use
-abbrev pub SendFits : {W : Type 0} → world.Ghosts W → List ℕ → Happened → Option Peer → Option Peer → Sent → Type 0
+abbrev pub SendFits : {W : Type 0} → world.Ghosts W → List ℕ → Happened → Option Peer → Option Peer
+    → Sent → Type 0
 SendFits w unit h old new sent.Sent = PeerTakes w unit h old new
 SendFits w unit h old new sent.Failed = Unit {0}
 SendFits w unit h old new sent.Memory = Unit {0}
@@ -89,7 +93,8 @@ ArrivesFrom None new octets = (1 ≤ length octets) × (new ≡ None)
 ArrivesFrom (Some old) None octets = ⊥
 ArrivesFrom (Some old) (Some new) octets = HandsOver old new octets
 
--- what a look finds: more octets behind those that had arrived; or nothing; or the link is of no more use
+-- what a look finds: more octets behind those that had arrived; or nothing; or the link is of no
+-- more use
 abbrev pub LookFits : Option Peer → Option Peer → List ℕ → List ℕ → Looked → Type 0
 LookFits old new before after looked.Arrived =
     (octets : List ℕ) × (after ≡ before ++ octets) × ArrivesFrom old new octets
@@ -113,17 +118,21 @@ IsSentTo None request old new = AreSame old new
 IsSentTo (Some peer) request old new = IsAsked peer.address request old new
 
 abbrev pub SendHappens : List ℕ → Option Peer → Happened → Happened → Sent → Type 0
-SendHappens unit peer old new sent.Sent = (request : Request) → IsRequestUnit unit request → IsSentTo peer request old new
+SendHappens unit peer old new sent.Sent =
+    (request : Request) → IsRequestUnit unit request → IsSentTo peer request old new
 SendHappens unit peer old new sent.Failed = AreSame old new
 SendHappens unit peer old new sent.Memory = Unit {0}
 
--- a unit is sent on a steady wire: it fails where the link is cut, and its reply comes after as many looks as is stated now
-pub record SendsSteadily {L : Type 0} (l : linked.Ghosts L) (unit : List ℕ) (old new : L) (before after : Happened) (answer : Sent) : Type 0 where
+-- a unit is sent on a steady wire: it fails where the link is cut, and its reply comes after as
+-- many looks as is stated now
+pub record SendsSteadily {L : Type 0} (l : linked.Ghosts L) (unit : List ℕ) (old new : L)
+    (before after : Happened) (answer : Sent) : Type 0 where
   pub fails : answer ≡ sent.Failed → FailsCut l before old
   pub happened : SendHappens unit (l.peer old) before after answer
   pub less : AreLess before after
   pub number : l.number new ≡ l.number old
-  pub delays : before.steady ≡ true → answer ≡ sent.Sent → (request : Request) → IsRequestUnit unit request
+  pub delays : before.steady ≡ true → answer ≡ sent.Sent → (request : Request)
+      → IsRequestUnit unit request
       → l.delays new ≡ l.delays old ++ (to_peer before (l.peer old)).delay ∷ []
 
 -- what a look leaves of the looks that are to find nothing before each reply that is owed
@@ -134,8 +143,10 @@ DelaysLooked (first ∷ rest) new looked.NotYet = (0 < first) × (new ≡ (first
 DelaysLooked old new looked.Failed = new ≡ old
 DelaysLooked old new looked.Memory = Unit {0}
 
--- a look on a steady wire: it fails where the link is cut, finds something over no such link, and finds nothing as often as was stated
-pub record LooksSteadily {L : Type 0} (l : linked.Ghosts L) (old new : L) (before after : Happened) (answer : Looked) : Type 0 where
+-- a look on a steady wire: it fails where the link is cut, finds something over no such link, and
+-- finds nothing as often as was stated
+pub record LooksSteadily {L : Type 0} (l : linked.Ghosts L) (old new : L) (before after : Happened)
+    (answer : Looked) : Type 0 where
   pub fails : answer ≡ looked.Failed → FailsCut l before old
   pub arrives : answer ≡ looked.Arrived → ArrivesUncut l before old
   pub happened : AreSame before after
@@ -186,6 +197,8 @@ look_counted peer looked.Failed = record nothing { fault = true }
 look_counted peer looked.Memory = nothing
 
 -- what a send counts, whatever its unit is, and where it is a request
-pub record SendCounts (exact : Bool) (unit : List ℕ) (answer : Sent) (old new : Counts) : Type 0 where
+pub record SendCounts (exact : Bool) (unit : List ℕ) (answer : Sent)
+    (old new : Counts) : Type 0 where
   pub some : (request : Request) → WireCounts false (send_counted request answer) old new
-  pub exactly : (request : Request) → IsRequestUnit unit request → exact ≡ true → new ≡ after (send_counted request answer) old
+  pub exactly : (request : Request) → IsRequestUnit unit request → exact ≡ true
+      → new ≡ after (send_counted request answer) old

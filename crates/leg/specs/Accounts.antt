@@ -38,10 +38,13 @@ no_rises = record {
 
 -- what a call counts of its backend
 abbrev pub rises_by : Counted → Rises
-rises_by call = record no_rises { dials = call.dial; searches = call.search; gones = call.gone; faults = call.fault }
+rises_by call =
+    record no_rises
+    { dials = call.dial; searches = call.search; gones = call.gone; faults = call.fault }
 
--- the account after a turn for a class: each count rises where that of the backend or the door did; a fault is spent where the
--- session did not come from the pool, or had replied; `looks` have heard nothing of the ask now
+-- the account after a turn for a class: each count rises where that of the backend or the door did;
+-- a fault is spent where the session did not come from the pool, or had replied; `looks` have heard
+-- nothing of the ask now
 abbrev pub counted : (class : ℕ) → Rises → (given : Bool) → (looks : ℕ) → Account → Account
 counted class rises given looks a = record {
   class = class;
@@ -56,9 +59,9 @@ counted class rises given looks a = record {
   looks = max a.looks looks;
 }
 
--- what every account keeps, whatever its door and its backend answer: each search was booked, or followed a Gone or a fault; each
--- address that was named was dialled, or failed, or is due; one address at most is named and dialled, two calls at most fail, and
--- one session at most is taken
+-- what every account keeps, whatever its door and its backend answer: each search was booked, or
+-- followed a Gone or a fault; each address that was named was dialled, or failed, or is due; one
+-- address at most is named and dialled, two calls at most fail, and one session at most is taken
 pub record AccountFits (a : Account) : Type 0 where
   pub searches : a.searches ≤ a.booked + a.gones + a.faults
   pub opens : a.opens ≤ a.dials + a.faults + 1

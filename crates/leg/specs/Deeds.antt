@@ -1,4 +1,5 @@
--- What a leg does in one turn (this project's own): one call of its door or its backend, with what came of it
+-- What a leg does in one turn (this project's own): one call of its door or its backend, with what
+-- came of it
 use Rattle.std.specs.Prelude.{◌≡◌, ℕ, ◌+◌, Bool, true, false, Option}
 use Rattle.z_types.specs.declared.ask.Ask.{Ask}
 use Rattle.z_types.specs.declared.key.SetKey.{SetKey}
@@ -16,8 +17,8 @@ use Rattle.pool_sets.specs.declared.doors.Taken.{Taken}
 use Rattle.leg.specs.declared.accounts.Rises.{Rises}
 use Rattle.leg.specs.Accounts.{no_rises, rises_by}
 
--- a session taken, opened, asked or looked at, put back, given up, or dialled again; no call for want of memory; or none since the
--- leg is done. An ask and a look go with the session after them
+-- a session taken, opened, asked or looked at, put back, given up, or dialled again; no call for
+-- want of memory; or none since the leg is done. An ask and a look go with the session after them
 pub data Deed (S : Type 0) : Type 0 where
   took : Taken S → Deed S
   opened : Opening S → Deed S
@@ -37,7 +38,9 @@ looks_then looks reply = 0
 module _ {S : Type 0} where
   -- what the account of a leg that wants a set counts of a deed
   abbrev pub rises_of : Option SetKey → Deed S → Rises
-  rises_of want (took taken) = record no_rises { fulls = is_full taken; opens = is_dial taken; booked = is_booked want taken }
+  rises_of want (took taken) =
+      record no_rises
+      { fulls = is_full taken; opens = is_dial taken; booked = is_booked want taken }
   rises_of want (opened answer) = rises_by (open_counted answer)
   rises_of want (began ask answer session) = rises_by (start_counted ask answer)
   rises_of want (heard reply session) = rises_by (heard_counted reply)
@@ -68,8 +71,10 @@ module _ {W S : Type 0} (w : world.Ghosts W) (t : sitting.Ghosts S W) (exact : B
   -- the counts of the backend move so
   abbrev pub CountsMove : Deed S → Counts → Counts → Type 0
   CountsMove (opened made) old new = OpenCounts exact made old new
-  CountsMove (began ask answer session) old new = BackendCounts exact (Unit {0}) (start_counted ask answer) old new
-  CountsMove (heard reply session) old new = LookCounts exact (w.told (t.address session)) reply old new
+  CountsMove (began ask answer session) old new =
+      BackendCounts exact (Unit {0}) (start_counted ask answer) old new
+  CountsMove (heard reply session) old new =
+      LookCounts exact (w.told (t.address session)) reply old new
   CountsMove deed old new = new ≡ old
 
   -- and what is made to happen to its links

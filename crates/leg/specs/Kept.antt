@@ -33,11 +33,14 @@ module _ {W S : Type 0} (w : world.Ghosts W) (t : sitting.Ghosts S W) where
     pub waits : t.pending held.parts.session ≡ pending
     pub kept : TableKept w t held.parts
 
-  -- fewer records than were asked for, which are the world's from the first on where the address is told; no task but that has any
+  -- fewer records than were asked for, which are the world's from the first on where the address is
+  -- told; no task but that has any
   abbrev pub ItemsKept : Task → Held S → List Item → Type 0
   ItemsKept (Records key first count syntax element) held items =
       (length items < count)
-      × (w.told held.parts.address → AreRecords (λ position. w.record_ held.parts.address key position syntax element) first items)
+      × (w.told held.parts.address
+      → AreRecords
+      (λ position. w.record_ held.parts.address key position syntax element) first items)
   ItemsKept task held items = items ≡ []
 
   -- the set that is wanted is to be searched for: the session does not hold it
@@ -68,11 +71,13 @@ module _ {W S : Type 0} (w : world.Ghosts W) (t : sitting.Ghosts S W) where
   abbrev pub SessionKept : Task → Phase S → Type 0
   SessionKept task (Dialled held looks) = IsBefore opening task held
   SessionKept task (Ready held items) = IsBefore resting task held × ItemsKept task held items
-  SessionKept task (Searching held items slot looks) = IsSearching task held slot × ItemsKept task held items
+  SessionKept task (Searching held items slot looks) =
+      IsSearching task held slot × ItemsKept task held items
   SessionKept task (Presenting held items slot hits) =
       IsHeld resting held × ItemsKept task held items × HasOwnSet task held slot hits
   SessionKept task (Fetching held items slot hits looks) =
-      IsFetching (next_ask task items slot) held × ItemsKept task held items × HasOwnSet task held slot hits
+      IsFetching (next_ask task items slot) held × ItemsKept task held items
+      × HasOwnSet task held slot hits
   SessionKept task (Scanning held looks) = TableKept w t held.parts
   SessionKept task (Returning held answer) = IsHeld resting held × AnswerFits task answer
   SessionKept task (Losing seat answer) = AnswerFits task answer
@@ -81,8 +86,9 @@ module _ {W S : Type 0} (w : world.Ghosts W) (t : sitting.Ghosts S W) where
 
 -- ---- what its type keeps of its account
 
--- what may still be counted: searches that were booked or follow a Gone or a fault; addresses that were named and not dialled, and of
--- these the one that is dialled next; faults; addresses that are named; and takes
+-- what may still be counted: searches that were booked or follow a Gone or a fault; addresses that
+-- were named and not dialled, and of these the one that is dialled next; faults; addresses that are
+-- named; and takes
 pub record Ahead : Type 0 where
   pub searches : ℕ
   pub unused : ℕ
@@ -101,26 +107,31 @@ one_if false = 0
 
 -- with a session: one from the pool that has not replied may fail and be dialled again
 abbrev pub ahead_with : (searches : ℕ) → (given : Bool) → Ahead
-ahead_with searches given = record nothing_ahead { searches = searches; faults = if given then 2 else 1; opens = if given then 1 else 0 }
+ahead_with searches given =
+    record nothing_ahead
+    { searches = searches; faults = if given then 2 else 1; opens = if given then 1 else 0 }
 
 module _ {S : Type 0} where
   abbrev pub ahead_of : Option SetKey → Phase S → Ahead
   ahead_of want Begin = record nothing_ahead { faults = 2; opens = 1; takes = 1 }
-  ahead_of want (Dialling seat member) = record nothing_ahead { searches = one_if (is_some want); unused = 1; dials = 1; faults = 1 }
+  ahead_of want (Dialling seat member) =
+      record nothing_ahead { searches = one_if (is_some want); unused = 1; dials = 1; faults = 1 }
   ahead_of want (Dialled held looks) = ahead_with (one_if (is_some want)) held.given
   ahead_of want (Ready held items) = ahead_with (one_if (is_some want)) held.given
   ahead_of want (Searching held items slot looks) = ahead_with 0 held.given
   ahead_of want (Presenting held items slot hits) = ahead_with 0 held.given
   ahead_of want (Fetching held items slot hits looks) = ahead_with 0 held.given
   ahead_of want (Scanning held looks) = ahead_with 0 held.given
-  ahead_of want (Redialling seat) = record nothing_ahead { searches = one_if (is_some want); faults = 1; opens = 1 }
+  ahead_of want (Redialling seat) =
+      record nothing_ahead { searches = one_if (is_some want); faults = 1; opens = 1 }
   ahead_of want (Returning held answer) = nothing_ahead
   ahead_of want (Losing seat answer) = nothing_ahead
   ahead_of want (Done answer) = nothing_ahead
   ahead_of want (Spoiled seat) = record nothing_ahead { unused = 1 }
   ahead_of want Ended = record nothing_ahead { unused = 1 }
 
--- the account with what may still be counted is within its bounds, and it knows of the looks that have heard nothing
+-- the account with what may still be counted is within its bounds, and it knows of the looks that
+-- have heard nothing
 pub record AccountKept (ahead : Ahead) (looks : ℕ) (a : Account) : Type 0 where
   pub searches : a.searches + ahead.searches ≤ a.booked + a.gones + a.faults
   pub opens : a.opens ≤ a.dials + a.faults + ahead.unused
@@ -133,7 +144,8 @@ pub record AccountKept (ahead : Ahead) (looks : ℕ) (a : Account) : Type 0 wher
   pub most_looks : looks ≤ a.looks
 
 -- what the type of a leg keeps
-pub record LegKept {W S : Type 0} (w : world.Ghosts W) (t : sitting.Ghosts S W) (task : Task) (phase : Phase S) (a : Account) : Type 0 where
+pub record LegKept {W S : Type 0} (w : world.Ghosts W) (t : sitting.Ghosts S W) (task : Task)
+    (phase : Phase S) (a : Account) : Type 0 where
   pub may : MayDo task
   pub session : SessionKept w t task phase
   pub account : AccountKept (ahead_of (want_of task) phase) (looks_of phase) a
@@ -182,7 +194,10 @@ module _ {W S : Type 0} (w : world.Ghosts W) (t : sitting.Ghosts S W) (terms : T
   StandsAt most task (Fetching held items slot hits looks) a = IsAmong held
   StandsAt most task (Scanning held looks) a = IsAmong held × IsScanning task held
   StandsAt most task (Returning held answer) a =
-      IsAmong held × IsRightAt w terms.dbs task held.parts.address answer × IsCaused terms.pool most a answer
-  StandsAt most task (Losing seat answer) a = IsRight w terms task answer × IsCaused terms.pool most a answer
-  StandsAt most task (Done answer) a = IsRight w terms task answer × IsCaused terms.pool most a answer × (a.class ≡ terms.class)
+      IsAmong held × IsRightAt w terms.dbs task held.parts.address answer
+      × IsCaused terms.pool most a answer
+  StandsAt most task (Losing seat answer) a =
+      IsRight w terms task answer × IsCaused terms.pool most a answer
+  StandsAt most task (Done answer) a =
+      IsRight w terms task answer × IsCaused terms.pool most a answer × (a.class ≡ terms.class)
   StandsAt most task phase a = Unit {0}

@@ -17,12 +17,17 @@ module _ {S : Type 0} where
   -- the session went on
   abbrev pub with_session : S → Held S → Held S
   with_session session held =
-      hold held.seat (record { session = session; table = held.parts.table; address = held.parts.address }) held.given
+      hold held.seat (record {
+        session = session;
+        table = held.parts.table;
+        address = held.parts.address;
+      }) held.given
 
   -- it went on and replied
   abbrev pub replied : S → Held S → Held S
   replied session held =
-      hold held.seat (record { session = session; table = held.parts.table; address = held.parts.address }) false
+      hold held.seat
+      (record { session = session; table = held.parts.table; address = held.parts.address }) false
 
   -- with other sets
   abbrev pub with_sets : Table → Held S → Held S

@@ -1,4 +1,5 @@
--- The rules of a leg (this project's own): what it asks for in each phase, and where it stands after each deed
+-- The rules of a leg (this project's own): what it asks for in each phase, and where it stands
+-- after each deed
 use Rattle.std.specs.Prelude.{◌≡◌, ℕ, ◌+◌, ◌-◌, true, false, nat_le, nat_lt, List, [], ◌∷◌, ◌++◌, length, if◌then◌else◌, Option, None, Some}
 use Rattle.z_types.specs.Bib1.{bib1}
 use Rattle.z_types.specs.declared.conditions.Condition.TheVariants.{PresentRequestOutOfRange}
@@ -43,7 +44,8 @@ module _ {S : Type 0} where
   -- first its search, under the name of a slot that has room, or its scan
   abbrev pub first_ask : List (List ℕ) → Task → Held S → Ask
   first_ask dbs (Hits key) held = ask.Search (slot_name (room held.parts.table)) key
-  first_ask dbs (Records key first count syntax element) held = ask.Search (slot_name (room held.parts.table)) key
+  first_ask dbs (Records key first count syntax element) held =
+      ask.Search (slot_name (room held.parts.table)) key
   first_ask dbs (Scan scan) held = ask.Scan dbs scan
 
 -- then the records that are left, from the slot's set
@@ -66,11 +68,14 @@ stopped [] diag = answer.Refused diag
 stopped (item ∷ items) diag = answer.Broken (item ∷ items) diag
 
 module _ {S : Type 0} where
-  -- after a fault a session that came from the pool and had not replied is dialled again, and any other is given up
+  -- after a fault a session that came from the pool and had not replied is dialled again, and any
+  -- other is given up
   abbrev pub after_fault : Held S → Phase S
-  after_fault held = if held.given then Redialling held.seat else Losing held.seat (answer.Marked mark.Link)
+  after_fault held =
+      if held.given then Redialling held.seat else Losing held.seat (answer.Marked mark.Link)
 
-  -- with a set that is held: its hits are the answer, or records of it are asked for, as far as there are so many
+  -- with a set that is held: its hits are the answer, or records of it are asked for, as far as
+  -- there are so many
   abbrev pub with_set : Task → Held S → List Item → (slot hits : ℕ) → Phase S
   with_set (Hits key) held items slot hits = Returning held (answer.Hits hits)
   with_set (Records key first count syntax element) held items slot hits =
@@ -80,7 +85,8 @@ module _ {S : Type 0} where
 
   -- a session is taken
   abbrev pub after_take : Task → Taken S → Phase S
-  after_take task (taken.Reuse seat parts slot hits) = with_set task (hold seat parts true) [] slot hits
+  after_take task (taken.Reuse seat parts slot hits) =
+      with_set task (hold seat parts true) [] slot hits
   after_take task (taken.Fresh seat parts) = Ready (hold seat parts true) []
   after_take task (taken.Dial seat member) = Dialling seat member
   after_take task (taken.Full open_) = Done (answer.Marked (mark.Full open_))
@@ -89,7 +95,12 @@ module _ {S : Type 0} where
   -- one is dialled: it has no sets, and room for those of the pool's numbers
   abbrev pub after_open : Terms → Seat → (member : ℕ) → Opening S → Phase S
   after_open terms seat member (opening.Session session) =
-      Dialled (hold seat (record { session = session; table = empty_table terms.pool.sets_max; address = opened_at terms member }) false) 0
+      Dialled
+      (hold seat (record {
+        session = session;
+        table = empty_table terms.pool.sets_max;
+        address = opened_at terms member;
+      }) false) 0
   after_open terms seat member (opening.Failed linked) = Losing seat (answer.Marked mark.Link)
   after_open terms seat member opening.Memory = Spoiled seat
 
@@ -99,17 +110,20 @@ module _ {S : Type 0} where
   after_first task held items start.Memory session = Spoiled held.seat
   after_first (Scan scan) held items start.Started session = Scanning (with_session session held) 0
   after_first task held items start.Started session =
-      Searching (with_sets (after_room held.parts.table) (with_session session held)) items (room held.parts.table) 0
+      Searching (with_sets (after_room held.parts.table) (with_session session held)) items
+      (room held.parts.table) 0
 
   abbrev pub after_next : Held S → List Item → (slot hits : ℕ) → Began → S → Phase S
-  after_next held items slot hits start.Started session = Fetching (with_session session held) items slot hits 0
+  after_next held items slot hits start.Started session =
+      Fetching (with_session session held) items slot hits 0
   after_next held items slot hits start.Failed session = after_fault held
   after_next held items slot hits start.Memory session = Spoiled held.seat
 
   -- nothing is heard: it is looked again, until the patience is at its end
   abbrev pub unless_silent : (patience : ℕ) → Held S → (looks : ℕ) → Phase S → Phase S
   unless_silent patience held looks again =
-      if nat_le patience looks then Losing held.seat (answer.Marked (mark.Silent patience)) else again
+      if nat_le patience looks
+      then Losing held.seat (answer.Marked (mark.Silent patience)) else again
 
   -- the reply to the Init
   abbrev pub after_opened : (patience : ℕ) → Held S → (looks : ℕ) → Heard → S → Phase S
@@ -122,52 +136,63 @@ module _ {S : Type 0} where
   -- the reply to a search: the key and the hits are recorded under the slot
   abbrev pub recorded : Option SetKey → (slot hits now : ℕ) → Held S → Held S
   recorded None slot hits now held = held
-  recorded (Some key) slot hits now held = with_sets (after_record slot key hits now held.parts.table) held
+  recorded (Some key) slot hits now held =
+      with_sets (after_record slot key hits now held.parts.table) held
 
-  abbrev pub after_search : Terms → Task → (now : ℕ) → Held S → List Item → (slot looks : ℕ) → Heard → S → Phase S
+  abbrev pub after_search : Terms → Task → (now : ℕ) → Held S → List Item → (slot looks : ℕ) → Heard
+      → S → Phase S
   after_search terms task now held items slot looks (look.Hits hits) session =
       with_set task (recorded (want_of task) slot hits now (replied session held)) items slot hits
   after_search terms task now held items slot looks (look.Refused diag) session =
       Returning (replied session held) (answer.Refused diag)
   after_search terms task now held items slot looks look.NotYet session =
-      unless_silent terms.pool.patience held (looks + 1) (Searching (with_session session held) items slot (looks + 1))
+      unless_silent terms.pool.patience held (looks + 1)
+      (Searching (with_session session held) items slot (looks + 1))
   after_search terms task now held items slot looks look.Failed session = after_fault held
   after_search terms task now held items slot looks reply session = Spoiled held.seat
 
   -- with some more records: all have come, or the others are asked for
   abbrev pub with_items : Task → Held S → List Item → (slot hits : ℕ) → Phase S
   with_items (Records key first count syntax element) held items slot hits =
-      if nat_lt (length items) count then Presenting held items slot hits else Returning held (answer.Items items)
+      if nat_lt (length items) count then Presenting held items slot hits
+      else Returning held (answer.Items items)
   with_items task held items slot hits = Ended
 
-  -- the set is gone: its slot is forgotten and it is searched for again, until it was gone too often
+  -- the set is gone: its slot is forgotten and it is searched for again, until it was gone too
+  -- often
   abbrev pub gone_again : (repeats gones : ℕ) → Held S → List Item → Phase S
   gone_again repeats gones held items =
       if nat_le gones repeats then Ready held items else Returning held (answer.Marked mark.Gone)
 
   -- records come, or a diagnostic in place of the next
   abbrev pub with_reply : Task → Held S → List Item → (slot hits : ℕ) → Heard → Phase S
-  with_reply task held items slot hits (look.Items others) = with_items task held (items ++ others) slot hits
+  with_reply task held items slot hits (look.Items others) =
+      with_items task held (items ++ others) slot hits
   with_reply task held items slot hits (look.Refused diag) = Returning held (stopped items diag)
   with_reply task held items slot hits reply = Spoiled held.seat
 
   -- the reply to a present
-  abbrev pub after_present : Terms → Task → (gones : ℕ) → Held S → List Item → (slot hits looks : ℕ) → Heard → S → Phase S
+  abbrev pub after_present : Terms → Task → (gones : ℕ) → Held S → List Item → (slot hits looks : ℕ)
+      → Heard → S → Phase S
   after_present terms task gones held items slot hits looks (look.Items others) session =
       with_reply task (replied session held) items slot hits (look.Items others)
   after_present terms task gones held items slot hits looks (look.Refused diag) session =
       with_reply task (replied session held) items slot hits (look.Refused diag)
   after_present terms task gones held items slot hits looks look.Gone session =
-      gone_again terms.pool.repeats gones (with_sets (after_forget slot held.parts.table) (replied session held)) items
+      gone_again terms.pool.repeats gones
+      (with_sets (after_forget slot held.parts.table) (replied session held)) items
   after_present terms task gones held items slot hits looks look.NotYet session =
-      unless_silent terms.pool.patience held (looks + 1) (Fetching (with_session session held) items slot hits (looks + 1))
+      unless_silent terms.pool.patience held (looks + 1)
+      (Fetching (with_session session held) items slot hits (looks + 1))
   after_present terms task gones held items slot hits looks look.Failed session = after_fault held
   after_present terms task gones held items slot hits looks reply session = Spoiled held.seat
 
   -- the reply to a scan
   abbrev pub after_scan : (patience : ℕ) → Held S → (looks : ℕ) → Heard → S → Phase S
-  after_scan patience held looks (look.Scanned entries) session = Returning (replied session held) (answer.Scanned entries)
-  after_scan patience held looks (look.Refused diag) session = Returning (replied session held) (answer.Refused diag)
+  after_scan patience held looks (look.Scanned entries) session =
+      Returning (replied session held) (answer.Scanned entries)
+  after_scan patience held looks (look.Refused diag) session =
+      Returning (replied session held) (answer.Refused diag)
   after_scan patience held looks look.NotYet session =
       unless_silent patience held (looks + 1) (Scanning (with_session session held) (looks + 1))
   after_scan patience held looks look.Failed session = after_fault held
@@ -176,10 +201,12 @@ module _ {S : Type 0} where
   -- where a leg stands after a deed at a moment, where its account then has so many gones
   abbrev pub next : Terms → Task → (now gones : ℕ) → Phase S → Deed S → Phase S
   next terms task now gones Begin (took taken) = after_take task taken
-  next terms task now gones (Dialling seat member) (opened answer) = after_open terms seat member answer
+  next terms task now gones (Dialling seat member) (opened answer) =
+      after_open terms seat member answer
   next terms task now gones (Dialled held looks) (heard reply session) =
       after_opened terms.pool.patience held looks reply session
-  next terms task now gones (Ready held items) (began asked answer session) = after_first task held items answer session
+  next terms task now gones (Ready held items) (began asked answer session) =
+      after_first task held items answer session
   next terms task now gones (Searching held items slot looks) (heard reply session) =
       after_search terms task now held items slot looks reply session
   next terms task now gones (Presenting held items slot hits) (began asked answer session) =
@@ -206,7 +233,8 @@ module _ {S : Type 0} where
   left_by Begin (took (taken.Reuse seat parts slot hits)) = Spoiled seat
   left_by phase deed = spoiled phase
 
-  -- what a turn answers after a deed: that the leg is done, that nothing was heard and the patience is not at its end, or that it went on
+  -- what a turn answers after a deed: that the leg is done, that nothing was heard and the patience
+  -- is not at its end, or that it went on
   abbrev pub unless_lost : Phase S → Turned
   unless_lost (Losing seat answer) = turned.Went
   unless_lost phase = turned.NotYet
@@ -221,7 +249,8 @@ module _ {S : Type 0} where
 
 -- ---- want of memory
 
--- whether a deed lacked memory, or more is wanted behind it: a diagnostic behind a Reuse, the record of a set, the records together
+-- whether a deed lacked memory, or more is wanted behind it: a diagnostic behind a Reuse, the
+-- record of a set, the records together
 pub data Lack : Type 0 where
   never : Lack
   always : Lack
@@ -239,12 +268,15 @@ module _ {S : Type 0} where
   lack_of (heard (look.Items items) session) = perhaps
   lack_of deed = never
 
-  -- where a leg stands then, and what its turn answers: what the rules say, or what is left for want of memory
-  abbrev pub Ends : Lack → (wanted left : Phase S) → (said answer : Turned) → (new : Phase S) → Type 0
+  -- where a leg stands then, and what its turn answers: what the rules say, or what is left for
+  -- want of memory
+  abbrev pub Ends : Lack → (wanted left : Phase S) → (said answer : Turned)
+      → (new : Phase S) → Type 0
   Ends never wanted left said answer new = (new ≡ wanted) × (answer ≡ said)
   Ends always wanted left said answer new = (new ≡ left) × (answer ≡ turned.Memory)
   Ends perhaps wanted left said turned.Memory new = new ≡ left
   Ends perhaps wanted left said answer new = (new ≡ wanted) × (answer ≡ said)
 
   abbrev pub Becomes : Deed S → (wanted left : Phase S) → Turned → Phase S → Type 0
-  Becomes deed wanted left answer new = Ends (lack_of deed) wanted left (answer_of deed new) answer new
+  Becomes deed wanted left answer new =
+      Ends (lack_of deed) wanted left (answer_of deed new) answer new

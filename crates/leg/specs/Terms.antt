@@ -7,7 +7,8 @@ use Rattle.route_config.specs.declared.route.PoolNumbers.{PoolNumbers}
 use Rattle.pool_sets.specs.Plain.{address_at}
 use Rattle.leg.specs.declared.terms.LentTerms.{LentTerms}
 
--- the class that a leg goes to, the addresses of its members, the databases that it is there, and the numbers of the pool
+-- the class that a leg goes to, the addresses of its members, the databases that it is there, and
+-- the numbers of the pool
 pub record Terms : Type 0 where
   pub class : ℕ
   pub at : List Address
@@ -39,4 +40,5 @@ terms_of route leg = record {
 
 -- the same, lent
 abbrev pub lent_terms : LentTerms → Terms
-lent_terms lent = record { class = lent.class; at = lent.at.now; dbs = lent.dbs.now; pool = lent.pool }
+lent_terms lent =
+    record { class = lent.class; at = lent.at.now; dbs = lent.dbs.now; pool = lent.pool }

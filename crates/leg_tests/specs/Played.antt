@@ -21,7 +21,8 @@ pub record AreFew (first count : ℕ) : Type 0 where
   pub near : first ≤ 5000
   pub few : count ≤ 5000
 
-module _ {W S : Type 0} (w : world.Ghosts W) (t : sitting.Ghosts S W) (route : Route) (most : ℕ) where
+module _ {W S : Type 0} (w : world.Ghosts W) (t : sitting.Ghosts S W) (route : Route)
+    (most : ℕ) where
   -- a leg that is played is one of the route
   abbrev pub IsPlayed : Option (LegView S) → Type 0
   IsPlayed None = Unit {0}

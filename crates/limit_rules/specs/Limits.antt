@@ -25,7 +25,8 @@ are_sets_full limits sets = sets == limits.sets
 
 -- this many records are too many for one request, or after those that were given
 abbrev pub are_too_many : Limits → (given number : ℕ) → Bool
-are_too_many limits given number = nat_lt most_records number || nat_lt limits.records (given + number)
+are_too_many limits given number =
+    nat_lt most_records number || nat_lt limits.records (given + number)
 
 -- the most records that are not too many
 abbrev pub room : Limits → (given : ℕ) → ℕ
@@ -33,10 +34,14 @@ room limits given = min most_records (limits.records - given)
 
 -- what a client that has used this much may have of what it wants
 abbrev pub allowed_of : Limits → Spent → Want → Allowed
-allowed_of limits spent AUnit = if are_units_spent limits spent.units then allowed.Units else allowed.Ok
-allowed_of limits spent Search = if are_searches_spent limits spent.searches then allowed.Searches else allowed.Ok
-allowed_of limits spent (Records number) = if are_too_many limits spent.records number then allowed.Records else allowed.Ok
-allowed_of limits spent NewSet = if are_sets_full limits spent.sets then allowed.Sets else allowed.Ok
+allowed_of limits spent AUnit =
+    if are_units_spent limits spent.units then allowed.Units else allowed.Ok
+allowed_of limits spent Search =
+    if are_searches_spent limits spent.searches then allowed.Searches else allowed.Ok
+allowed_of limits spent (Records number) =
+    if are_too_many limits spent.records number then allowed.Records else allowed.Ok
+allowed_of limits spent NewSet =
+    if are_sets_full limits spent.sets then allowed.Sets else allowed.Ok
 
 -- each refusal's number
 abbrev pub allowed_number : Allowed → ℕ

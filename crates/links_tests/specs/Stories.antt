@@ -35,7 +35,8 @@ pub record IsWithin (hits first count : ℕ) : Type 0 where
 -- what may be asked of a session whose set has `hits` records
 abbrev pub MayAskOf : ℕ → Ask → Type 0
 MayAskOf hits (Search name key) = (name ≡ set_name) × MaySearch set_name key
-MayAskOf hits (Present name first count syntax element) = (name ≡ set_name) × IsWithin hits first count × IfSome element IsShort
+MayAskOf hits (Present name first count syntax element) =
+    (name ≡ set_name) × IsWithin hits first count × IfSome element IsShort
 MayAskOf hits (Scan dbs ask) = MayScan dbs ask
 
 -- the set has `hits` records, unless it has none
@@ -67,7 +68,8 @@ abbrev pub awaited : Option Ask → Pending
 awaited None = opening
 awaited (Some ask) = asked ask
 
--- after an answer a session rests; where there is no reply yet it waits on; and it is no more where a call failed
+-- after an answer a session rests; where there is no reply yet it waits on; and it is no more where
+-- a call failed
 abbrev pub stage_after : {S : Type 0} → S → Option Ask → Heard → Stage S
 stage_after session ask NotYet = stage.Waits session ask
 stage_after session ask Failed = stage.None

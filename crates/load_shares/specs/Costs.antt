@@ -1,5 +1,5 @@
--- What a load costs at the one target of the smallest configuration (this project's own): a search for each of five letters, and one
--- each time where the target refuses a letter; and one dial
+-- What a load costs at the one target of the smallest configuration (this project's own): a search
+-- for each of five letters, and one each time where the target refuses a letter; and one dial
 use Rattle.std.specs.Prelude.{ℕ, ◌||◌, Bool, List, [], ◌∷◌, codes, count_by, is_err, min, nat_le}
 use Rattle.std.specs.List.{range_with_len}
 use Rattle.z_types.specs.declared.address.Address.TheVariants.{Test}
@@ -25,7 +25,8 @@ key_for letter = record { dbs = codes "Default" ∷ []; query = query_for letter
 abbrev pub refuses : {W : Type 0} → world.Ghosts W → (letter : ℕ) → Bool
 refuses w letter = is_err (w.search (Test 0) (key_for letter))
 
--- a client's search is sent to the target: it is one of the first five, or the target refuses its letter
+-- a client's search is sent to the target: it is one of the first five, or the target refuses its
+-- letter
 abbrev pub is_sent : {W : Type 0} → world.Ghosts W → (client : ℕ) → Bool
 is_sent w client = refuses w (letter_of client) || nat_le client 5
 

@@ -1,5 +1,5 @@
--- What is true of each load (this project's own): it is orderly, each of its requests is answered, and it needs a search for
--- each of five letters and one dial
+-- What is true of each load (this project's own): it is orderly, each of its requests is answered,
+-- and it needs a search for each of five letters and one dial
 use Rattle.std.specs.Prelude.{◌≡◌, ℕ, ◌≤◌, List, [], ◌∷◌, length, map}
 use Rattle.std.specs.List.{AllByRecursion, range_with_len}
 use Rattle.z_types.specs.declared.marks.End.TheVariants.{Closed}
@@ -25,7 +25,9 @@ RequestsAreReceived = (letter : ℕ) → AllByRecursion IsReceived (units_for le
 
 -- a load is orderly, with the runs of its clients and those that close them
 abbrev pub LoadsAreOrderly : {W : Type 0} → world.Ghosts W → Type 0
-LoadsAreOrderly w = (clients : ℕ) → clients ≤ most_clients → IsOrderly w smallest_route (load_events clients) (load_runs w clients)
+LoadsAreOrderly w =
+    (clients : ℕ) → clients ≤ most_clients
+    → IsOrderly w smallest_route (load_events clients) (load_runs w clients)
 
 -- a client has a mark for each of its four requests, and its Close ended its connection
 pub record WasAnswered (client : ClientReport) : Type 0 where
@@ -43,8 +45,10 @@ LoadsAreAnswered w =
     (clients : ℕ) (report : Report) → clients ≤ most_clients → IsFair w smallest_route
     → IsReportOf w smallest_route (load_events clients) report → AreAnswered clients report.clients
 
--- a client has a Plain mark for each of its four requests, and was written the answers to the requests of its letter
-pub record WasAnsweredPlainly {W : Type 0} (w : world.Ghosts W) (client : ClientReport) : Type 0 where
+-- a client has a Plain mark for each of its four requests, and was written the answers to the
+-- requests of its letter
+pub record WasAnsweredPlainly {W : Type 0} (w : world.Ghosts W)
+    (client : ClientReport) : Type 0 where
   pub marks : client.marks ≡ Plain ∷ Plain ∷ Plain ∷ Plain ∷ []
   pub bytes : client.bytes ≡ answers_for w (letter_of client.number)
 

@@ -1,5 +1,6 @@
--- What the clients of a load ask and are answered, where no request is marked (this project's own): by the route of the smallest
--- configuration and the meaning of its target alone
+-- What the clients of a load ask and are answered, where no request is marked
+-- (this project's own): by the route of the smallest configuration and the meaning of its target
+-- alone
 use Rattle.std.specs.Prelude.{ℕ, List, [], ◌∷◌, ◌++◌, Some, map, flat_map}
 use Rattle.std.specs.List.{range_with_len}
 use Rattle.z_types.specs.declared.requests.Request.{Request}
@@ -48,4 +49,5 @@ four_plain = plain ∷ plain ∷ plain ∷ plain ∷ []
 -- the octets that a client is written that searches for a letter
 abbrev pub answers_for : {W : Type 0} → world.Ghosts W → (letter : ℕ) → List ℕ
 answers_for w letter =
-    flat_map spell_reply (run w smallest_route new_client (course smallest_route at_the_start (units_for letter)) four_plain).replies
+    flat_map spell_reply (run w smallest_route new_client
+    (course smallest_route at_the_start (units_for letter)) four_plain).replies

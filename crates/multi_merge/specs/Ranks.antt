@@ -2,7 +2,8 @@
 use Rattle.std.specs.Prelude.{ℕ, ◌-◌, ◌<◌, ◌≤◌, List, min}
 use Rattle.std.specs.List.{sum_by}
 
--- the records of these ranks, from 1 up to this one: of each leg as many as it has, at most this rank
+-- the records of these ranks, from 1 up to this one: of each leg as many as it has, at most this
+-- rank
 abbrev pub up_to : ℕ → List ℕ → ℕ
 up_to rank hits = sum_by (λ n. min n rank) hits
 

@@ -13,5 +13,5 @@ pub use laws::{
 };
 
 // Handed on: crates above name these through this one.
-pub use package::package_rules;
 pub use package;
+pub use package::package_rules;

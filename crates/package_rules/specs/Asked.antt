@@ -1,5 +1,6 @@
--- What a request asks of its legs (this project's own): first the hits of each, or its scan; and where records are to be
--- given, those at their places of the merged order, of each leg that has any there
+-- What a request asks of its legs (this project's own): first the hits of each, or its scan; and
+-- where records are to be given, those at their places of the merged order, of each leg that has
+-- any there
 use Rattle.std.specs.Prelude.{ℕ, ◌+◌, ◌==◌, nat_le, nat_lt, List, [], ◌∷◌, map, length, Option, filter, flat_map}
 use Rattle.std.specs.Prelude.{if◌then◌else◌, slice_index_or}
 use Rattle.std.specs.List.{range_with_len}
@@ -46,14 +47,16 @@ abbrev pub leg_of : List ℕ → ℕ → ℕ
 leg_of legs place = slice_index_or legs place 0
 
 -- the records of a span
-abbrev pub records_asked : Route → List ℕ → RpnQuery → (syntax element : Option (List ℕ)) → Span → Asked
+abbrev pub records_asked : Route → List ℕ → RpnQuery → (syntax element : Option (List ℕ))
+    → Span → Asked
 records_asked route legs query syntax element span = record {
   leg = leg_of legs span.leg;
   task = Records (key_at route (leg_of legs span.leg) query) span.first span.count syntax element;
 }
 
 -- the records at places, leg by leg
-abbrev pub all_records_asked : Route → List ℕ → RpnQuery → (syntax element : Option (List ℕ)) → List Place → List Asked
+abbrev pub all_records_asked : Route → List ℕ → RpnQuery → (syntax element : Option (List ℕ))
+    → List Place → List Asked
 all_records_asked route legs query syntax element places =
     map (records_asked route legs query syntax element) (spans_of (length legs) places)
 
@@ -66,12 +69,15 @@ places_shown small large medium room hits =
     if nat_lt room count then [] else places_from hits 1 count
 
 -- the element set name under which they are shown
-abbrev pub element_shown : (small : ℕ) → (small_element medium_element : Option (List ℕ)) → List ℕ → Option (List ℕ)
-element_shown small small_element medium_element hits = if nat_le (total hits) small then small_element else medium_element
+abbrev pub element_shown : (small : ℕ) → (small_element medium_element : Option (List ℕ)) → List ℕ
+    → Option (List ℕ)
+element_shown small small_element medium_element hits =
+    if nat_le (total hits) small then small_element else medium_element
 
 -- what is asked first
 abbrev pub first_asked : Route → Work → List Asked
-first_asked route (work.Search login legs query small large medium small_element medium_element syntax room) =
+first_asked route
+    (work.Search login legs query small large medium small_element medium_element syntax room) =
     map (hits_asked route query) legs
 first_asked route (work.Fetch login legs query hits first count syntax element) =
     all_records_asked route legs query syntax element (places_from hits first count)
@@ -79,7 +85,9 @@ first_asked route (work.Scan login leg ask) = record { leg = leg; task = Scan as
 
 -- what is asked then, by the hits of a Search: the records that are shown with it
 abbrev pub then_asked : Route → Work → List ℕ → List Asked
-then_asked route (work.Search login legs query small large medium small_element medium_element syntax room) hits =
-    all_records_asked route legs query syntax (element_shown small small_element medium_element hits)
+then_asked route (work.Search login legs query small large medium small_element medium_element
+    syntax room) hits =
+    all_records_asked route legs query syntax
+    (element_shown small small_element medium_element hits)
     (places_shown small large medium room hits)
 then_asked route other hits = []

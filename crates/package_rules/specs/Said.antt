@@ -1,5 +1,5 @@
--- What comes of a request by what its legs answered (this project's own; ANSI/NISO Z39.50-2003, 3.2.2.1, 3.2.3.1 and
--- 3.2.8.1)
+-- What comes of a request by what its legs answered (this project's own; ANSI/NISO Z39.50-2003,
+-- 3.2.2.1, 3.2.3.1 and 3.2.8.1)
 use Rattle.std.specs.Prelude.{ℕ, ◌-◌, ◌==◌, Bool, true, false, List, [], ◌∷◌, ◌++◌, map, length, Option, None, Some, option_map, slice_get}
 use Rattle.std.specs.Prelude.{Result, Ok, Err, filter_map, find}
 use Rattle.std.specs.Option.{option_and_then, option_map_or}
@@ -44,7 +44,8 @@ cause_or route leg (Some mark) later = record { mark = mark; class = class_name 
 -- the mark of the first leg that is marked, with the name of its class; else Plain
 abbrev pub cause_of : Route → List Answered → Cause
 cause_of route [] = plain
-cause_of route (first ∷ others) = cause_or route first.leg (mark_of first.answer) (cause_of route others)
+cause_of route (first ∷ others) =
+    cause_or route first.leg (mark_of first.answer) (cause_of route others)
 
 -- ---- hits
 
@@ -60,7 +61,8 @@ hides route leg = option_map_or (λ at. at.database.hide_errors) (leg_at route l
 
 -- the hits of each leg, or the first diagnostic that is not hidden
 abbrev pub all_hits : Route → List Answered → Result (List ℕ) Diag
-all_hits route legs = all_or_first (map (λ leg. hidden (hides route leg.leg) (hits_said leg.answer)) legs)
+all_hits route legs =
+    all_or_first (map (λ leg. hidden (hides route leg.leg) (hits_said leg.answer)) legs)
 
 -- ---- records
 
@@ -100,7 +102,8 @@ said_at route fetches place =
     option_and_then (said_by route place.rank) (find (λ fetch. fetch.0.leg == place.leg) fetches)
 
 -- the records at places, or the first diagnostic in place of one
-abbrev pub records_said : Route → List (Span × Answered) → List Place → Result (List NamedRecord) Diag
+abbrev pub records_said : Route → List (Span × Answered) → List Place
+    → Result (List NamedRecord) Diag
 records_said route fetches places = all_or_first (filter_map (said_at route fetches) places)
 
 -- ---- the outcome
@@ -119,10 +122,11 @@ abbrev pub scan_said : List Answered → Outcome
 scan_said [] = outcome.Fetched fetched.None
 scan_said (only ∷ others) = entries_said only.answer
 
--- what a work comes to by its legs' answers, where none is marked: the answers to what was asked first, and to what was asked
--- then
+-- what a work comes to by its legs' answers, where none is marked: the answers to what was asked
+-- first, and to what was asked then
 abbrev pub outcome_said : Route → Work → (first later : List Answered) → Outcome
-outcome_said route (work.Search login legs query small large medium small_element medium_element syntax room) first later =
+outcome_said route (work.Search login legs query small large medium small_element medium_element
+    syntax room) first later =
     found (all_hits route first)
     (λ hits.
     let places = places_shown small large medium room hits in
@@ -133,7 +137,8 @@ outcome_said route (work.Fetch login legs query hits from count syntax element) 
     outcome.Fetched (whole (records_said route (fetches_of (length legs) places first) places))
 outcome_said route (work.Scan login leg ask) first later = scan_said first
 
--- the mark of the first leg that is marked decides, those for records behind those for hits; else what the legs said
+-- the mark of the first leg that is marked decides, those for records behind those for hits; else
+-- what the legs said
 abbrev pub finished : Route → Work → (first later : List Answered) → Outcome
 finished route work first later =
     let cause = cause_of route (first ++ later) in

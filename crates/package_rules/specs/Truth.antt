@@ -1,4 +1,5 @@
--- What comes of a request by its legs' answers is what its targets mean, and its cause is allowed (this project's own)
+-- What comes of a request by its legs' answers is what its targets mean, and its cause is allowed
+-- (this project's own)
 use Rattle.std.specs.Prelude.{◌≡◌, ◌<◌, List, [], ◌∷◌, ◌++◌, length, All, Ok, None, Some}
 use Rattle.z_types.specs.declared.marks.Mark.{Mark}
 use Rattle.z_types.specs.declared.work.Work.{Work}
@@ -20,7 +21,8 @@ use Rattle.package_rules.specs.Said.{cause_of, class_name, finished, mark_of}
 
 -- the hits that a fetch goes by are the world's
 abbrev pub HasWorldsHits : {W : Type 0} → world.Ghosts W → Route → Work → Type 0
-HasWorldsHits w route (work.Fetch login legs query hits first count syntax element) = hits_of w route legs query ≡ Ok hits
+HasWorldsHits w route (work.Fetch login legs query hits first count syntax element) =
+    hits_of w route legs query ≡ Ok hits
 HasWorldsHits w route other = Unit {0}
 
 module _ {W : Type 0} (w : world.Ghosts W) (route : Route) where
@@ -33,7 +35,8 @@ module _ {W : Type 0} (w : world.Ghosts W) (route : Route) where
   -- so did each
   abbrev pub AreAnswersTo : List Asked → List Answered → Type 0
   AreAnswersTo [] [] = Unit {0}
-  AreAnswersTo (asked ∷ others) (answered ∷ answers) = IsAnswerTo asked answered × AreAnswersTo others answers
+  AreAnswersTo (asked ∷ others) (answered ∷ answers) =
+      IsAnswerTo asked answered × AreAnswersTo others answers
   AreAnswersTo asked answers = ⊥
 
   -- the legs of a work answered what they were asked
@@ -41,12 +44,12 @@ module _ {W : Type 0} (w : world.Ghosts W) (route : Route) where
     pub at_first : AreAnswersTo (first_asked route asked) first
     pub then : AreAnswersTo (then_asked_by route asked first) later
 
--- on a fair route, what comes of a work by its legs' answers is what comes of it under the cause: the mark of the first leg that is
--- marked, with its class, or else what the targets mean
+-- on a fair route, what comes of a work by its legs' answers is what comes of it under the cause:
+-- the mark of the first leg that is marked, with its class, or else what the targets mean
 abbrev pub FinishedIsOutcome : {W : Type 0} → world.Ghosts W → Type 0
 FinishedIsOutcome w =
-    (route : Route) (asked : Work) (first later : List Answered) → IsFair w route → IsSound route → AreThere route asked
-    → HasWorldsHits w route asked → AreAnswered w route asked first later
+    (route : Route) (asked : Work) (first later : List Answered) → IsFair w route → IsSound route
+    → AreThere route asked → HasWorldsHits w route asked → AreAnswered w route asked first later
     → finished route asked first later ≡ outcome_of w route asked (cause_of route (first ++ later))
 
 -- it has the mark of its cause
@@ -58,25 +61,30 @@ FinishedHasMark =
 -- on every route it fits the work
 abbrev pub FinishedFits : {W : Type 0} → world.Ghosts W → Type 0
 FinishedFits w =
-    (route : Route) (asked : Work) (first later : List Answered) → AreAnswered w route asked first later
-    → FitsWork asked (finished route asked first later)
+    (route : Route) (asked : Work) (first later : List Answered)
+    → AreAnswered w route asked first later → FitsWork asked (finished route asked first later)
 
 -- every class has a member
 abbrev pub HaveMembers : Route → Type 0
 HaveMembers route = All (λ class. 0 < length class.addresses) route.classes
 
--- the cause of a request is allowed: its mark is Plain, or names the class of a leg that the request asks
+-- the cause of a request is allowed: its mark is Plain, or names the class of a leg that the
+-- request asks
 abbrev pub CauseIsAllowed : {W : Type 0} → world.Ghosts W → Type 0
 CauseIsAllowed w =
-    (route : Route) (asked : Work) (first later : List Answered) → IsSound route → HaveMembers route → AreThere route asked
-    → AreAnswered w route asked first later
-    → IsAllowed (record { classes = classes_asked route asked; cause = cause_of route (first ++ later) })
+    (route : Route) (asked : Work) (first later : List Answered) → IsSound route → HaveMembers route
+    → AreThere route asked → AreAnswered w route asked first later
+    → IsAllowed
+    (record { classes = classes_asked route asked; cause = cause_of route (first ++ later) })
 
 -- the first leg that is marked decides with its class, whatever the others answered
 abbrev pub FirstMarkDecides : Type 0
 FirstMarkDecides =
-    (route : Route) (first : Answered) (others : List Answered) (mark : Mark) → mark_of first.answer ≡ Some mark
-    → cause_of route (first ∷ others) ≡ record { mark = mark; class = class_name route first.leg }
+    (route : Route) (first : Answered) (others : List Answered) (mark : Mark)
+    → mark_of first.answer ≡ Some mark → cause_of route (first ∷ others) ≡ record {
+      mark = mark;
+      class = class_name route first.leg;
+    }
 
 -- and a leg that is not marked leaves it to the others
 abbrev pub OthersDecide : Type 0

@@ -45,7 +45,8 @@ module _ {S : Type 0} where
 
   -- what it counts as a door
   abbrev pub counts_of : PoolView S → DoorCounts
-  counts_of v = record { most = v.pool.max_sessions; fulls = v.fulls; opens = v.opens; booked = v.booked }
+  counts_of v =
+      record { most = v.pool.max_sessions; fulls = v.fulls; opens = v.opens; booked = v.booked }
 
   -- another pool with the same counts
   abbrev pub with_pool : Pool S → PoolView S → PoolView S
@@ -54,7 +55,12 @@ module _ {S : Type 0} where
   -- each redial opens a session
   abbrev pub after_redial : Seat → List Address → PoolView S → PoolView S
   after_redial seat at v =
-      record { pool = redial seat at v.pool; fulls = v.fulls; opens = one_more true v.opens; booked = v.booked }
+      record {
+        pool = redial seat at v.pool;
+        fulls = v.fulls;
+        opens = one_more true v.opens;
+        booked = v.booked;
+      }
 
   -- the place of the first idle session of a class
   abbrev pub idle_place : ℕ → List Address → List (Session S) → Option ℕ
@@ -66,7 +72,8 @@ module _ {S : Type 0} where
 
   -- a session that is out for a member
   abbrev pub at_member : ℕ → Address → Session S → Session S
-  at_member member address o = record { number = o.number; class = o.class; member = member; stand = Out address }
+  at_member member address o =
+      record { number = o.number; class = o.class; member = member; stand = Out address }
 
 -- an idle session rests
 abbrev pub StandRests : {W S : Type 0} → sitting.Ghosts S W → Stand (Parts S) Address → Type 0
@@ -77,7 +84,8 @@ abbrev pub Rests : {W S : Type 0} → sitting.Ghosts S W → Session S → Type 
 Rests t o = StandRests t o.stand
 
 -- what every pool keeps
-pub record IsPool {W S : Type 0} (t : sitting.Ghosts S W) (os : List (Session S)) (given opens : ℕ) : Type 0 where
+pub record IsPool {W S : Type 0} (t : sitting.Ghosts S W) (os : List (Session S))
+    (given opens : ℕ) : Type 0 where
   pub rests : All (Rests t) os
   pub ascends : Ascends 0 given os
   pub bound : length os ≤ opens
@@ -97,4 +105,9 @@ is_new answer = false
 -- it is counted where a set was wanted
 abbrev pub after_book : {S : Type 0} → Taken S → PoolView S → PoolView S
 after_book answer v =
-    record { pool = v.pool; fulls = v.fulls; opens = v.opens; booked = one_more (is_new answer) v.booked }
+    record {
+      pool = v.pool;
+      fulls = v.fulls;
+      opens = v.opens;
+      booked = one_more (is_new answer) v.booked;
+    }

@@ -1,4 +1,5 @@
--- For contracts alone: the sessions of a pool, and how long sessions and sets stay unused (this project's own)
+-- For contracts alone: the sessions of a pool, and how long sessions and sets stay unused
+-- (this project's own)
 use Rattle.std.specs.Prelude.{◌≡◌, ◌⊎◌, ℕ, ◌<◌, ◌^◌, Bool, true, false, List, [], slice_set, slice_index_or, length, is_some, All}
 use Rattle.z_types.specs.declared.key.SetKey.{SetKey}
 use Rattle.z_types.specs.declared.address.Address.{Address}
@@ -21,16 +22,19 @@ module _ {S : Type 0} where
 
   -- none yet
   abbrev pub roster_of : ℕ → ℕ → RosterView S
-  roster_of session_ttl set_ttl = record { sessions = []; session_ttl = session_ttl; set_ttl = set_ttl }
+  roster_of session_ttl set_ttl =
+      record { sessions = []; session_ttl = session_ttl; set_ttl = set_ttl }
 
   -- a session that is out
   abbrev pub out_session : ℕ → ℕ → ℕ → Address → Session S
-  out_session number class member address = record { number = number; class = class; member = member; stand = Out address }
+  out_session number class member address =
+      record { number = number; class = class; member = member; stand = Out address }
 
   -- one session is changed, at its place
   abbrev pub Changes : (Session S → Session S) → ℕ → RosterView S → RosterView S → Type 0
   Changes f place old new =
-      (d : Session S) → new ≡ with_told (slice_set old.sessions place (f (slice_index_or old.sessions place d))) old
+      (d : Session S)
+      → new ≡ with_told (slice_set old.sessions place (f (slice_index_or old.sessions place d))) old
 
   -- the numbers rise
   abbrev pub Rises : List (Berth (Session S)) → Type 0
@@ -45,7 +49,8 @@ module _ {S : Type 0} where
 
   -- the numbers of sessions rise, and are below 2^64
   pub record RiseIn (os : List (Session S)) : Type 0 where
-    pub order : (i j : ℕ) (d : Session S) → i < j → j < length os → (slice_index_or os i d).number < (slice_index_or os j d).number
+    pub order : (i j : ℕ) (d : Session S) → i < j → j < length os
+        → (slice_index_or os i d).number < (slice_index_or os j d).number
     pub small : All (λ o. o.number < 2 ^ 64) os
 
   -- whether a session is idle and of the class, and holds a set of the key
@@ -53,14 +58,16 @@ module _ {S : Type 0} where
   is_holder class at key o = is_some (idle_with class at key o)
 
   -- the session of a number, at its place, is one
-  pub record IsHolder (number class : ℕ) (at : List Address) (key : SetKey) (os : List (Session S)) (place : ℕ) : Type 0 where
+  pub record IsHolder (number class : ℕ) (at : List Address) (key : SetKey) (os : List (Session S))
+      (place : ℕ) : Type 0 where
     pub within : place < length os
     pub number_there : (d : Session S) → (slice_index_or os place d).number ≡ number
     pub holds : (d : Session S) → is_holder class at key (slice_index_or os place d) ≡ true
 
   -- the session of a number is none
   abbrev pub IsNoHolder : ℕ → ℕ → List Address → SetKey → List (Session S) → Type 0
-  IsNoHolder number class at key os = All (λ o. o.number ≡ number → is_holder class at key o ≡ false) os
+  IsNoHolder number class at key os =
+      All (λ o. o.number ≡ number → is_holder class at key o ≡ false) os
 
   -- a session that was left as it was, or as it is told
   abbrev pub MaySettle : Expiries → ℕ → Berth (Session S) → Berth (Session S) → Type 0

@@ -29,14 +29,16 @@ LacksDigest digest wanted es = All (λ e. digest e.key ≢ wanted) es
 abbrev pub Gains : List Pair → List Pair → Type 0
 Gains old new = (p : Pair) → Contains old p → Contains new p
 
--- a moment not before the last, at which no session expires that is idle since the oldest or later, and another after it
+-- a moment not before the last, at which no session expires that is idle since the oldest or later,
+-- and another after it
 pub record IsQuiet (x : Expiries) (oldest now ttl : ℕ) : Type 0 where
   pub forward : x.last ≤ now
   pub more : x.count < 2 ^ 64 - 1
   pub young : now - oldest < ttl
 
 module _ {S : Type 0} where
-  -- a session is told as it was left; where the pool expired since then, as it is after the last time
+  -- a session is told as it was left; where the pool expired since then, as it is after the last
+  -- time
   abbrev pub seen : Expiries → ℕ → Berth (Session S) → Session S
   seen x ttl b = if nat_lt b.stamp x.count then with_fresh_sets x.last ttl b.session else b.session
 
@@ -59,7 +61,8 @@ module _ {S : Type 0} where
 
   -- the sets of a session are found, where it is idle
   abbrev pub IsListed : (ℕ → SetKey → ℕ) → Indexed → Berth (Session S) → Type 0
-  IsListed digest index b = AreListed (digest b.session.class) index b.session.number (sets_of b.session.stand)
+  IsListed digest index b =
+      AreListed (digest b.session.class) index b.session.number (sets_of b.session.stand)
 
   -- no idle session of a pair's number has a set of its digest
   abbrev pub IsSpent : (ℕ → SetKey → ℕ) → Pair → List (Berth (Session S)) → Type 0
@@ -67,13 +70,16 @@ module _ {S : Type 0} where
       All (λ b. b.session.number ≡ one.number →
       LacksDigest (digest b.session.class) one.digest (sets_of b.session.stand)) bs
 
-  -- a session that was left no later than the last expiry, not before that moment where it is idle, and whose sets are found
-  pub record IsBerth (digest : ℕ → SetKey → ℕ) (index : Indexed) (count oldest : ℕ) (b : Berth (Session S)) : Type 0 where
+  -- a session that was left no later than the last expiry, not before that moment where it is idle,
+  -- and whose sets are found
+  pub record IsBerth (digest : ℕ → SetKey → ℕ) (index : Indexed) (count oldest : ℕ)
+      (b : Berth (Session S)) : Type 0 where
     pub stamped : b.stamp ≤ count
     pub since : StandSince oldest b.session.stand
     pub listed : IsListed digest index b
 
   -- sessions in the order of their numbers, each of them such
-  pub record IsRoster (digest : ℕ → SetKey → ℕ) (index : Indexed) (x : Expiries) (oldest ttl : ℕ) (bs : List (Berth (Session S))) : Type 0 where
+  pub record IsRoster (digest : ℕ → SetKey → ℕ) (index : Indexed) (x : Expiries) (oldest ttl : ℕ)
+      (bs : List (Berth (Session S))) : Type 0 where
     pub ascends : Ascends 0 (2 ^ 64 - 1) (told x ttl bs)
     pub each : All (IsBerth digest index x.count oldest) bs

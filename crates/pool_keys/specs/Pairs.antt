@@ -7,7 +7,8 @@ pub record Indexed : Type 0 where
   pub pairs : List Pair
   pub whole : Bool
 
--- the pairs stand in the order of their digests, and those of one digest in the order of their numbers
+-- the pairs stand in the order of their digests, and those of one digest in the order of their
+-- numbers
 abbrev pub rank : Pair → ℕ
 rank p = p.digest * 2 ^ 64 + p.number
 
@@ -39,8 +40,10 @@ abbrev pub IsAtMost : Option ℕ → ℕ → Type 0
 IsAtMost None number = ⊥
 IsAtMost (Some found) number = found ≤ number
 
--- the least number from one on that stands with a digest: it does, and none that does is less than it
+-- the least number from one on that stands with a digest: it does, and none that does is less than
+-- it
 pub record IsNext (index : Indexed) (digest from : ℕ) (found : Option ℕ) : Type 0 where
   pub there : IfSome found (λ n. Contains index.pairs (pair digest n))
   pub from_there : IfSome found (λ n. from ≤ n)
-  pub least : (m : ℕ) → from ≤ m → m < 2 ^ 64 → Contains index.pairs (pair digest m) → IsAtMost found m
+  pub least : (m : ℕ) → from ≤ m → m < 2 ^ 64 → Contains index.pairs (pair digest m)
+      → IsAtMost found m

@@ -1,4 +1,5 @@
--- For contracts alone: what the books of a locked pool and the shares of its doors keep (this project's own)
+-- For contracts alone: what the books of a locked pool and the shares of its doors keep
+-- (this project's own)
 use Rattle.std.specs.Prelude.{◌≡◌, ◌≢◌, ℕ, ◌+◌, ◌-◌, ◌^◌, ◌≤◌, min, Bool, true, false}
 use Rattle.z_types.specs.Counts.{one_more}
 use Rattle.pool_sets.specs.Counts.{DoorCounts}
@@ -19,7 +20,8 @@ plus false n = n
 
 -- an amount is one more where it happened, and so is the count of it
 abbrev pub IsNoted : Bool → ℕ → ℕ → Type 0
-IsNoted happened old new = (new ≡ plus happened old) × (counted new ≡ one_more happened (counted old))
+IsNoted happened old new =
+    (new ≡ plus happened old) × (counted new ≡ one_more happened (counted old))
 
 -- where a pool was full, it had opened as many sessions as there may be
 abbrev pub FullOpens : ℕ → ℕ → ℕ → Type 0

@@ -6,8 +6,8 @@ use Rattle.z_types.specs.declared.key.SetKey.{SetKey}
 use Rattle.pool_sets.specs.declared.doors.Taken.{Taken}
 use Rattle.pool_sets.specs.declared.doors.Taken.TheVariants.{Fresh, Dial, Full}
 
--- how many sessions of a class it opens at most, which never changes; and how often it was full, named an address to dial, and
--- gave a session that holds no set wanted, where one was wanted
+-- how many sessions of a class it opens at most, which never changes; and how often it was full,
+-- named an address to dial, and gave a session that holds no set wanted, where one was wanted
 pub record DoorCounts : Type 0 where
   pub most : ℕ
   pub fulls : ℕ

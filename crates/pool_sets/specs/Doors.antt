@@ -15,7 +15,8 @@ use Rattle.pool_sets.specs.Plain.{Pool, expire, take_of, redial_member, redial}
 
 -- the table has a set of the key under the slot, with these hits
 abbrev pub HasSet : List Entry → ℕ → SetKey → ℕ → Type 0
-HasSet entries slot key hits = (used : ℕ) × Contains entries (record { slot = slot; key = key; hits = hits; used = used })
+HasSet entries slot key hits =
+    (used : ℕ) × Contains entries (record { slot = slot; key = key; hits = hits; used = used })
 
 abbrev pub HasWanted : Option SetKey → List Entry → ℕ → ℕ → Type 0
 HasWanted None entries slot hits = ⊥
@@ -27,14 +28,17 @@ LacksWanted None table = Unit {0}
 LacksWanted (Some key) table = set_of key table ≡ None
 
 -- a session that a door gives rests, at one of the addresses that were named, with its sets
-pub record IsReady {W S : Type 0} (w : world.Ghosts W) (t : sitting.Ghosts S W) (at : List Address) (p : Parts S) : Type 0 where
+pub record IsReady {W S : Type 0} (w : world.Ghosts W) (t : sitting.Ghosts S W) (at : List Address)
+    (p : Parts S) : Type 0 where
   pub rests : t.pending p.session ≡ resting
   pub kept : TableKept w t p
   pub among : Contains at p.address
 
 -- what every door gives, told or not
-abbrev pub TakenFits : {W S : Type 0} → world.Ghosts W → sitting.Ghosts S W → List Address → Option SetKey → ℕ → Taken S → Type 0
-TakenFits w t at want most (Reuse seat p slot hits) = IsReady w t at p × HasWanted want p.table.entries slot hits
+abbrev pub TakenFits : {W S : Type 0} → world.Ghosts W → sitting.Ghosts S W → List Address
+    → Option SetKey → ℕ → Taken S → Type 0
+TakenFits w t at want most (Reuse seat p slot hits) =
+    IsReady w t at p × HasWanted want p.table.entries slot hits
 TakenFits w t at want most (Fresh seat p) = IsReady w t at p × LacksWanted want p.table
 TakenFits w t at want most (Dial seat member) = member < length at
 TakenFits w t at want most (Full open_) = open_ ≡ most
@@ -47,7 +51,8 @@ module _ {S : Type 0} where
   TakesFrom p q class at want now answer = (answer, q) ≡ take_of class at want now p
 
   -- a pool that tells its sessions takes as the plain pool does
-  abbrev pub Takes : Option (Pool S) → Option (Pool S) → ℕ → List Address → Option SetKey → ℕ → Taken S → Type 0
+  abbrev pub Takes : Option (Pool S) → Option (Pool S) → ℕ → List Address → Option SetKey → ℕ
+      → Taken S → Type 0
   Takes None new class at want now answer = new ≡ None
   Takes (Some p) None class at want now answer = ⊥
   Takes (Some p) (Some q) class at want now answer = TakesFrom p q class at want now answer

@@ -29,7 +29,8 @@ after_use slot t = record {
 abbrev pub slots_of : List Entry → List ℕ
 slots_of es = map (λ e. e.slot) es
 
--- there may be at least one set, no two have one slot, and each slot is below the number that there may be
+-- there may be at least one set, no two have one slot, and each slot is below the number that there
+-- may be
 pub record HasSlots (t : Table) : Type 0 where
   pub some : 0 < t.most
   pub below : AllByRecursion (λ slot. slot < t.most) (slots_of t.entries)

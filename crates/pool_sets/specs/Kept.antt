@@ -12,7 +12,8 @@ abbrev pub slot_name : ℕ → List ℕ
 slot_name slot = decimal slot
 
 module _ {W S : Type 0} (w : world.Ghosts W) (t : sitting.Ghosts S W) where
-  -- a set stands in what the session made, its hits are a count, and they are the world's where the address is told
+  -- a set stands in what the session made, its hits are a count, and they are the world's where the
+  -- address is told
   pub record IsKept (session : S) (e : Entry) : Type 0 where
     pub small : e.slot < 2 ^ 32
     pub count : e.hits ≤ most_number

@@ -13,7 +13,8 @@ use Rattle.pool_sets.specs.declared.doors.Taken.TheVariants.{Reuse, Fresh, Dial,
 use Rattle.pool_sets.specs.Table.{Entry, after_find, after_expire}
 use Rattle.pool_sets.specs.Sessions.{Session, Idler, with_table, with_stand, first_some, idle_in, idle_with, is_out, stands_at, open_of, member_for}
 
--- the sessions, in the order of their numbers; the last number that was given, 0 before the first; and the pool's own numbers
+-- the sessions, in the order of their numbers; the last number that was given, 0 before the first;
+-- and the pool's own numbers
 pub record Pool (S : Type 0) : Type 0 where
   pub sessions : List (Session S)
   pub given : ℕ
@@ -38,14 +39,16 @@ module _ {S : Type 0} where
     set_ttl = p.set_ttl;
   }
 
-  -- an idle session is dropped that was put back session_ttl seconds ago or more; where now is before that, no time has passed
+  -- an idle session is dropped that was put back session_ttl seconds ago or more; where now is
+  -- before that, no time has passed
   abbrev pub stays : ℕ → ℕ → Stand (Parts S) Address → Bool
   stays now ttl (Idle parts since) = nat_lt (now - since) ttl
   stays now ttl (Out address) = true
 
   -- an idle session's sets expire; those of a session that is out do not
   abbrev pub without_old_sets : ℕ → ℕ → Stand (Parts S) Address → Stand (Parts S) Address
-  without_old_sets now ttl (Idle parts since) = Idle (with_table (after_expire now ttl parts.table) parts) since
+  without_old_sets now ttl (Idle parts since) =
+      Idle (with_table (after_expire now ttl parts.table) parts) since
   without_old_sets now ttl (Out address) = Out address
 
   abbrev pub stays_open : ℕ → ℕ → Session S → Bool
@@ -56,7 +59,8 @@ module _ {S : Type 0} where
 
   -- the sessions without those and without the sets that were unused for too long
   abbrev pub fresh_sessions : ℕ → ℕ → ℕ → List (Session S) → List (Session S)
-  fresh_sessions now session_ttl set_ttl os = map (with_fresh_sets now set_ttl) (filter (stays_open now session_ttl) os)
+  fresh_sessions now session_ttl set_ttl os =
+      map (with_fresh_sets now set_ttl) (filter (stays_open now session_ttl) os)
 
   abbrev pub expire : ℕ → Pool S → Pool S
   expire now p = with_sessions (fresh_sessions now p.session_ttl p.set_ttl p.sessions) p
@@ -79,7 +83,8 @@ module _ {S : Type 0} where
 
   -- a session of the class that is out for a member
   abbrev pub out_for : ℕ → ℕ → List Address → ℕ → Session S
-  out_for number class at m = record { number = number; class = class; member = m; stand = Out (address_at at m) }
+  out_for number class at m =
+      record { number = number; class = class; member = m; stand = Out (address_at at m) }
 
   -- such a session is added, under the next number
   abbrev pub with_dial : ℕ → List Address → ℕ → Pool S → Pool S
@@ -93,17 +98,20 @@ module _ {S : Type 0} where
   }
 
   abbrev pub dial_for : ℕ → List Address → ℕ → Pool S → Taken S × Pool S
-  dial_for class at m p = (Dial (record { class = class; number = p.given + 1 }) m, with_dial class at m p)
+  dial_for class at m p =
+      (Dial (record { class = class; number = p.given + 1 }) m, with_dial class at m p)
 
   -- the last number is not given out
   abbrev pub has_number : Pool S → Bool
   has_number p = nat_lt p.given (2 ^ 64 - 1)
 
-  -- where none is idle: a session is dialled where fewer are open than there may be and a number is left
+  -- where none is idle: a session is dialled where fewer are open than there may be and a number is
+  -- left
   abbrev pub open_one : ℕ → List Address → Pool S → Taken S × Pool S
   open_one class at p =
       if nat_lt (open_of class at p.sessions) p.max_sessions
-      then (if has_number p then dial_for class at (member_for class at p.sessions) p else (Memory, p))
+      then (if has_number p then dial_for class at (member_for class at p.sessions) p
+      else (Memory, p))
       else (Full p.max_sessions, p)
 
   -- the idle session, where there is one
@@ -116,13 +124,15 @@ module _ {S : Type 0} where
   take_any class at p = any_idle class at p (first_some (idle_in class at) p.sessions)
 
   -- the idle session that holds a set of the key, where there is one
-  abbrev pub one_idle : ℕ → List Address → SetKey → ℕ → Pool S → Option (Idler S × Entry) → Taken S × Pool S
+  abbrev pub one_idle : ℕ → List Address → SetKey → ℕ → Pool S → Option (Idler S × Entry)
+      → Taken S × Pool S
   one_idle class at key now p (Some h) = (reuse_of class key now h.0 h.1, lend_of h.0 p)
   one_idle class at key now p None = take_any class at p
 
   -- the idle session of the least number that holds a set of the key, else any
   abbrev pub take_with : ℕ → List Address → SetKey → ℕ → Pool S → Taken S × Pool S
-  take_with class at key now p = one_idle class at key now p (first_some (idle_with class at key) p.sessions)
+  take_with class at key now p =
+      one_idle class at key now p (first_some (idle_with class at key) p.sessions)
 
   abbrev pub choice : ℕ → List Address → Option SetKey → ℕ → Pool S → Taken S × Pool S
   choice class at (Some key) now p = take_with class at key now p
@@ -155,17 +165,20 @@ module _ {S : Type 0} where
       then with_sessions (map (idle_again seat parts now) p.sessions) p
       else lost seat p
 
-  -- the member to dial in the place of the seat's session, which counts no longer; 0 where none is out
+  -- the member to dial in the place of the seat's session, which counts no longer; 0 where none is
+  -- out
   abbrev pub redial_member : Seat → List Address → Pool S → ℕ
   redial_member seat at p =
-      option_map_or (λ o. member_for seat.class at (without_seat seat p.sessions)) (find (is_seat seat) p.sessions) 0
+      option_map_or (λ o. member_for seat.class at (without_seat seat p.sessions))
+      (find (is_seat seat) p.sessions) 0
 
   -- the session of the seat is dialled anew for a member, under its own number
   abbrev pub redial_at_seat : Seat → List Address → ℕ → Session S → Session S
   redial_at_seat seat at m o = if is_seat seat o then out_for o.number o.class at m else o
 
   abbrev pub redial : Seat → List Address → Pool S → Pool S
-  redial seat at p = with_sessions (map (redial_at_seat seat at (redial_member seat at p)) p.sessions) p
+  redial seat at p =
+      with_sessions (map (redial_at_seat seat at (redial_member seat at p)) p.sessions) p
 
 -- ---- its sessions by their numbers
 

@@ -16,13 +16,16 @@ abbrev pub is_reuse : {S : Type 0} → Taken S → Bool
 is_reuse (Reuse seat parts slot hits) = true
 is_reuse answer = false
 
--- where a session is put back that was out, at an address of its class, a take of that class while the session and its set
--- of a key are fresh is a reuse
+-- where a session is put back that was out, at an address of its class, a take of that class while
+-- the session and its set of a key are fresh is a reuse
 abbrev pub PutIsReused : Type 0 → Type 0
 PutIsReused S =
-    (p : Pool S) (seat : Seat) (parts : Parts S) (at : List Address) (key : SetKey) (since now : ℕ) →
-    IsTrue (list_any (is_seat seat) p.sessions) → parts.table.most ≤ p.sets_max → IsTrue (is_among at parts.address) →
-    now - since < p.session_ttl → IsTrue (is_some (set_of key (after_expire now p.set_ttl parts.table))) →
+    (p : Pool S) (seat : Seat) (parts : Parts S) (at : List Address) (key : SetKey)
+    (since now : ℕ) →
+    IsTrue (list_any (is_seat seat) p.sessions) → parts.table.most ≤ p.sets_max
+    → IsTrue (is_among at parts.address) →
+    now - since < p.session_ttl
+    → IsTrue (is_some (set_of key (after_expire now p.set_ttl parts.table))) →
     IsTrue (is_reuse (take_of seat.class at (Some key) now (put seat parts since p)).0)
 
 -- no session of the class is idle
@@ -31,7 +34,8 @@ is_none_idle class at os = list_all (λ o. not (is_some (idle_in class at o))) o
 
 -- a pool that has expired is full for a class
 abbrev pub is_full_for : {S : Type 0} → ℕ → List Address → Pool S → Bool
-is_full_for class at p = is_none_idle class at p.sessions && nat_le p.max_sessions (open_of class at p.sessions)
+is_full_for class at p =
+    is_none_idle class at p.sessions && nat_le p.max_sessions (open_of class at p.sessions)
 
 -- it answers so exactly where none of the class is idle and as many as there may be are out
 abbrev pub FullExactly : Type 0 → Type 0
@@ -41,4 +45,5 @@ FullExactly S =
 
 -- a seat is out of a pool once at most, where its numbers ascend
 abbrev pub OutOnce : Type 0 → Type 0
-OutOnce S = (pool : Pool S) (seat : Seat) → Ascends 0 pool.given pool.sessions → out_of pool seat ≤ 1
+OutOnce S =
+    (pool : Pool S) (seat : Seat) → Ascends 0 pool.given pool.sessions → out_of pool seat ≤ 1

@@ -37,11 +37,13 @@ pub record Idler (S : Type 0) : Type 0 where
 module _ {S : Type 0} where
   -- a session apart, with another table
   abbrev pub with_table : Table → Parts S → Parts S
-  with_table table parts = record { session = parts.session; table = table; address = parts.address }
+  with_table table parts =
+      record { session = parts.session; table = table; address = parts.address }
 
   -- a session that is elsewhere
   abbrev pub with_stand : Stand (Parts S) Address → Session S → Session S
-  with_stand stand o = record { number = o.number; class = o.class; member = o.member; stand = stand }
+  with_stand stand o =
+      record { number = o.number; class = o.class; member = o.member; stand = stand }
 
   -- where a session was dialled, or where its parts say
   abbrev pub stand_address : Stand (Parts S) Address → Address
@@ -91,7 +93,8 @@ module _ {S : Type 0} where
 
   -- how many open sessions of the class count for each member, in the order of the members
   abbrev pub loads : ℕ → List Address → List (Session S) → List ℕ
-  loads class at os = map (λ m. count_by (is_of_member class at m) os) (range_with_len 0 (length at))
+  loads class at os =
+      map (λ m. count_by (is_of_member class at m) os) (range_with_len 0 (length at))
 
   -- how many sessions of the class are open
   abbrev pub open_of : ℕ → List Address → List (Session S) → ℕ

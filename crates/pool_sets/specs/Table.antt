@@ -4,14 +4,16 @@ use Rattle.std.specs.List.{list_all, range_with_len}
 use Rattle.z_types.specs.declared.key.SetKey.{SetKey}
 use Rattle.z_types.specs.contracts.key.SetKeyPartialEq.TheImpl as key_test
 
--- a set: the slot whose decimal text is its name at the target, its key, its hits, and the moment of its last use
+-- a set: the slot whose decimal text is its name at the target, its key, its hits, and the moment
+-- of its last use
 pub record Entry : Type 0 where
   pub slot : ℕ
   pub key : SetKey
   pub hits : ℕ
   pub used : ℕ
 
--- the sets, the most recently used first, how many there may be, and the greatest moment that was given
+-- the sets, the most recently used first, how many there may be, and the greatest moment that was
+-- given
 pub record Table : Type 0 where
   pub entries : List Entry
   pub most : ℕ
@@ -39,7 +41,8 @@ without slot es = filter (λ e. not (slot == e.slot)) es
 -- the set that is used comes to the front
 abbrev pub to_front : ℕ → Option Entry → List Entry → List Entry
 to_front moment None es = es
-to_front moment (Some e) es = record { slot = e.slot; key = e.key; hits = e.hits; used = moment } ∷ without e.slot es
+to_front moment (Some e) es =
+    record { slot = e.slot; key = e.key; hits = e.hits; used = moment } ∷ without e.slot es
 
 -- the table after a search for a key, which counts as a use
 abbrev pub after_find : SetKey → ℕ → Table → Table

@@ -40,7 +40,8 @@ abbrev pub has_stale : ℕ → ℕ → Option (ℕ × HeldSet) → Bool
 has_stale moment ttl None = false
 has_stale moment ttl (Some p) = nat_le ttl (moment - p.1.used)
 
--- there may be at least one set, each slot is below their number, and they stand in order of last use
+-- there may be at least one set, each slot is below their number, and they stand in order of last
+-- use
 pub record IsTable (c : LruCache ℕ HeldSet) (latest : ℕ) : Type 0 where
   pub some : 0 < c.cap
   pub few : c.cap < 2 ^ 32

@@ -22,12 +22,13 @@ in_class faults class = class.faults
 abbrev pub in_classes : Number → List ClassReport → ℕ
 in_classes number classes = sum_by (in_class number) classes
 
--- links made, Searches sent, sets that were gone, and over an exact backend calls that failed: the backend counted just as many as
--- are reported
+-- links made, Searches sent, sets that were gone, and over an exact backend calls that failed: the
+-- backend counted just as many as are reported
 abbrev pub AreSums : {S : Type 0} → (exact : Bool) → Report → (before behind : Outside S) → Type 0
 AreSums exact report before behind =
     (number : Number) → IsTold exact number
-    → RisesAsMuch 0 (in_classes number report.classes) (outside_counts number before) (outside_counts number behind)
+    → RisesAsMuch 0 (in_classes number report.classes) (outside_counts number before)
+    (outside_counts number behind)
 
 -- ---- marks
 
@@ -35,16 +36,19 @@ AreSums exact report before behind =
 abbrev pub met_for : PoolNumbers → Caused → List ClientReport → ℕ
 met_for pool kind clients = sum_by (λ client. weight pool kind * marks_of kind client.marks) clients
 
--- no mark is invented: for each Link the backend counted a fault, for each Silent as many looks in vain as the pool is patient, for each
--- Gone one Gone more than it repeats; and for each Full the door was full
+-- no mark is invented: for each Link the backend counted a fault, for each Silent as many looks in
+-- vain as the pool is patient, for each Gone one Gone more than it repeats; and for each Full the
+-- door was full
 abbrev pub HaveCauses : {S : Type 0} → PoolNumbers → Report → (before behind : Outside S) → Type 0
 HaveCauses pool report before behind =
     (kind : Caused)
-    → RisesEnough 0 (met_for pool kind report.clients) (outside_meets kind before) (outside_meets kind behind)
+    → RisesEnough 0 (met_for pool kind report.clients) (outside_meets kind before)
+    (outside_meets kind behind)
 
 -- ---- the addresses that the door named
 
--- each was dialled, or failed: as often as the door named one, the backend made a link or a call of it failed, at least
+-- each was dialled, or failed: as often as the door named one, the backend made a link or a call of
+-- it failed, at least
 pub record AreDialled {S : Type 0} (before behind : Outside S) : Type 0 where
   pub opens : ℕ
   pub dials : ℕ

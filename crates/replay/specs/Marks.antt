@@ -1,5 +1,5 @@
--- The numbers of marks (this project's own): each Silent says as many looks as the pool is patient, and each Full as many sessions of a
--- class as the door opens at most
+-- The numbers of marks (this project's own): each Silent says as many looks as the pool is patient,
+-- and each Full as many sessions of a class as the door opens at most
 use Rattle.std.specs.Prelude.{◌≡◌, ℕ, List}
 use Rattle.std.specs.List.{AllByRecursion}
 use Rattle.z_types.specs.declared.marks.Mark.{Mark}

@@ -16,9 +16,10 @@ abbrev pub IsAnswered : {W : Type 0} → world.Ghosts W → Route → List Event
 IsAnswered w route events client =
     Answers w route (fed events client.number) client.marks client.bytes client.end
 
--- The report is of the clients that the events name, once and in ascending order. On a fair route each
--- was answered to what it was fed, whatever steps, ticks and accidents come between: no other client,
--- no session, no pool and no clock is in that answer. The classes are the route's, in its order.
+-- The report is of the clients that the events name, once and in ascending order. On a fair route
+-- each was answered to what it was fed, whatever steps, ticks and accidents come between: no other
+-- client, no session, no pool and no clock is in that answer. The classes are the route's, in its
+-- order.
 pub record IsReportOf {W : Type 0} (w : world.Ghosts W) (route : Route) (events : List Event)
     (report : Report) : Type 0 where
   pub clients : map (λ client. client.number) report.clients ≡ named events

@@ -16,11 +16,12 @@ pub record AreAlike (one two : ClientReport) : Type 0 where
   pub bytes : one.bytes ≡ two.bytes
   pub end : one.end ≡ two.end
 
--- where two replays of a fair route feed a client the same octets, and list it Plain alone, they write it the same and end its connection the
--- same, whatever else they play
+-- where two replays of a fair route feed a client the same octets, and list it Plain alone, they
+-- write it the same and end its connection the same, whatever else they play
 abbrev pub IsReadTwice : {W : Type 0} → world.Ghosts W → Type 0
 IsReadTwice w =
     (route : Route) (events others : List Event) (report other : Report) (one two : ClientReport)
     → IsFair w route → IsReportOf w route events report → IsReportOf w route others other
-    → Contains report.clients one → Contains other.clients two → fed events one.number ≡ fed others two.number
-    → AreMarksPlain one.marks → AreMarksPlain two.marks → AreAlike one two
+    → Contains report.clients one → Contains other.clients two
+    → fed events one.number ≡ fed others two.number → AreMarksPlain one.marks
+    → AreMarksPlain two.marks → AreAlike one two

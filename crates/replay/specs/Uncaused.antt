@@ -16,7 +16,8 @@ use Rattle.replay.specs.declared.reports.Report.{Report}
 abbrev pub AreAllPlain : List ClientReport → Type 0
 AreAllPlain clients = AllByRecursion (λ client. AreMarksPlain client.marks) clients
 
--- no call failed, no look was in vain, no set was gone and the door was never full: none of these counts rose, each below its last value
+-- no call failed, no look was in vain, no set was gone and the door was never full: none of these
+-- counts rose, each below its last value
 pub record IsUncaused {S : Type 0} (before behind : Outside S) : Type 0 where
   pub below : (kind : Caused) → outside_meets kind before < last64
   pub still : (kind : Caused) → outside_meets kind behind ≡ outside_meets kind before
@@ -25,4 +26,5 @@ pub record IsUncaused {S : Type 0} (before behind : Outside S) : Type 0 where
 abbrev pub UncausedIsPlain : Type 0 → Type 0
 UncausedIsPlain S =
     (pool : PoolNumbers) (report : Report) (before behind : Outside S)
-    → ArePoolNumbers pool → HaveCauses pool report before behind → IsUncaused before behind → AreAllPlain report.clients
+    → ArePoolNumbers pool → HaveCauses pool report before behind → IsUncaused before behind
+    → AreAllPlain report.clients

@@ -1,5 +1,5 @@
--- Where nothing befalls the links of a replay (this project's own): no call fails, no set is gone, and each request is answered as it
--- asks or finds the pool full
+-- Where nothing befalls the links of a replay (this project's own): no call fails, no set is gone,
+-- and each request is answered as it asks or finds the pool full
 use Rattle.std.specs.Prelude.{◌≡◌, ◌*◌, ◌<◌, ◌≤◌, Bool, true, List, length}
 use Rattle.std.specs.List.{AllByRecursion}
 use Rattle.z_types.specs.declared.marks.Mark.{Mark}
@@ -24,9 +24,10 @@ BefallsNothing (Cut target) = ⊥
 BefallsNothing (Slow target looks) = ⊥
 BefallsNothing event = Unit {0}
 
--- no event befalls a link, nothing was made to happen to any before, nothing was counted, and each target of the route tells what it
--- answers
-pub record IsUndisturbed {W : Type 0} (w : world.Ghosts W) (route : Route) (events : List Event) (counts : Counts) (happened : Happened)
+-- no event befalls a link, nothing was made to happen to any before, nothing was counted, and each
+-- target of the route tells what it answers
+pub record IsUndisturbed {W : Type 0} (w : world.Ghosts W) (route : Route) (events : List Event)
+    (counts : Counts) (happened : Happened)
     : Type 0 where
   pub nothing : AllByRecursion BefallsNothing events
   pub quiet : AreQuiet happened
@@ -39,17 +40,20 @@ IsPlainOrFull Plain = Unit {0}
 IsPlainOrFull (Full sessions) = Unit {0}
 IsPlainOrFull mark = ⊥
 
--- no call failed, no set was gone, and each mark is Plain or Full. All are Plain where fewer links were made than there may be sessions of
--- a class; or where there may be as many as the clients have legs at once, at most
+-- no call failed, no set was gone, and each mark is Plain or Full. All are Plain where fewer links
+-- were made than there may be sessions of a class; or where there may be as many as the clients
+-- have legs at once, at most
 pub record IsUntroubled (route : Route) (report : Report) : Type 0 where
   pub unfailing : in_classes faults report.classes ≡ 0
   pub none_gone : in_classes gones report.classes ≡ 0
   pub marks : AllByRecursion (λ client. AllByRecursion IsPlainOrFull client.marks) report.clients
-  pub few_links : in_classes dials report.classes < route.pool.max_sessions → AreAllPlain report.clients
-  pub places : length report.clients * most_at_once route ≤ route.pool.max_sessions → AreAllPlain report.clients
+  pub few_links : in_classes dials report.classes < route.pool.max_sessions
+      → AreAllPlain report.clients
+  pub places : length report.clients * most_at_once route ≤ route.pool.max_sessions
+      → AreAllPlain report.clients
 
 -- a wire whose counts are exact leaves a report untroubled where it was played undisturbed
-abbrev pub IsUntroubledIf : {W : Type 0} → world.Ghosts W → (exact : Bool) → Route → List Event → Counts → Happened → Report
-    → Type 0
+abbrev pub IsUntroubledIf : {W : Type 0} → world.Ghosts W → (exact : Bool) → Route → List Event
+    → Counts → Happened → Report → Type 0
 IsUntroubledIf w exact route events counts happened report =
     exact ≡ true → IsUndisturbed w route events counts happened → IsUntroubled route report

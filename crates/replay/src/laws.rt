@@ -8,12 +8,12 @@ use front_conn_costs::front_conn::{
     ends_answered, stands_at_start, stands_when_ended, stands_when_fed, stands_when_written,
     stays_of_route,
 };
+use front_conn_costs::sru_rules::one_answer;
 use front_conn_costs::{
     costs_nothing, costs_on, marks_are_met, starts_costless, stays_costed, steps_cost, sums_at_rest,
 };
 use front_conn_seats::{steps_keep_seats, turns_keep_seats};
 use package_quiet::packages_go_well;
-use front_conn_costs::sru_rules::one_answer;
 use z_types::{Sitting, World};
 
 /// The laws of connections, together. It does nothing; what it ensures are the laws.

@@ -19,8 +19,6 @@ pub use reports::{ClassReport, ClientReport, Report};
 pub use runs::run_over;
 
 // Handed on: crates above name these through this one.
-pub use front_conn_costs::front_conn;
-pub use front_conn_costs::gateway_rules;
-pub use front_conn_costs::sru_rules;
 pub use front_conn_costs;
+pub use front_conn_costs::{front_conn, gateway_rules, sru_rules};
 pub use package_quiet;

@@ -1,4 +1,5 @@
--- What befalls the links of a replay and marks no request but where the pool was full (this project's own)
+-- What befalls the links of a replay and marks no request but where the pool was full
+-- (this project's own)
 use Rattle.std.specs.Prelude.{◌≡◌, ℕ, ◌*◌, ◌<◌, ◌≤◌, Bool, true, false, List, [], Some, length}
 use Rattle.std.specs.List.{AllByRecursion}
 use Rattle.z_types.specs.declared.sitting.Sitting as sitting
@@ -27,8 +28,8 @@ use Rattle.replay.specs.declared.reports.Report.{Report}
 use Rattle.replay_laws.specs.Between.{DisturbsNobody}
 use Rattle.replay_laws.specs.Quiet.{IsQuiet}
 
--- no more Presents find their sets deleted than the pool repeats, replies come within its patience, and no link is cut where sessions keep
--- records
+-- no more Presents find their sets deleted than the pool repeats, replies come within its patience,
+-- and no link is cut where sessions keep records
 abbrev pub HasBorneNumber : (keeps : Bool) → PoolNumbers → Event → Type 0
 HasBorneNumber keeps pool (Gone target presents) = presents ≤ pool.repeats
 HasBorneNumber keeps pool (Cut target) = keeps ≡ false
@@ -37,14 +38,17 @@ HasBorneNumber keeps pool event = Unit {0}
 
 -- each request was answered as it asks, or found the pool full
 abbrev pub AreAllPlainOrFull : List ClientReport → Type 0
-AreAllPlainOrFull clients = AllByRecursion (λ client. AllByRecursion IsPlainOrFull client.marks) clients
+AreAllPlainOrFull clients =
+    AllByRecursion (λ client. AllByRecursion IsPlainOrFull client.marks) clients
 
 -- ---- a replay
 
--- each target of the route tells what it answers, each number of a deletion or a delay is borne, no cut and no deletion falls while a
--- request is in work, none is cut where sessions keep records, no more was made to happen before than is borne, and links that are made go on to be counted
-pub record IsBorneRun {W S : Type 0} (w : world.Ghosts W) (t : sitting.Ghosts S W) (exact : Bool) (route : Route) (events : List Event)
-    (before behind : Outside S) (report : Report) (run : IsRunOf w t exact route events before behind report) : Type 0 where
+-- each target of the route tells what it answers, each number of a deletion or a delay is borne, no
+-- cut and no deletion falls while a request is in work, none is cut where sessions keep records, no
+-- more was made to happen before than is borne, and links that are made go on to be counted
+pub record IsBorneRun {W S : Type 0} (w : world.Ghosts W) (t : sitting.Ghosts S W) (exact : Bool)
+    (route : Route) (events : List Event) (before behind : Outside S) (report : Report)
+    (run : IsRunOf w t exact route events before behind report) : Type 0 where
   pub told : AreTold w route
   pub few : AllByRecursion (HasBorneNumber t.keeps route.pool) events
   pub between : DisturbsNobody w t exact route events before behind report run
@@ -54,9 +58,10 @@ pub record IsBorneRun {W S : Type 0} (w : world.Ghosts W) (t : sitting.Ghosts S 
 -- so each request of it was answered as it asks, or found the pool full
 abbrev pub BorneIsPlainOrFull : {W S : Type 0} → world.Ghosts W → sitting.Ghosts S W → Type 0
 BorneIsPlainOrFull {W} {S} w t =
-    (exact : Bool) (route : Route) (events : List Event) (before behind : Outside S) (report : Report)
-    (run : IsRunOf w t exact route events before behind report)
-    → exact ≡ true → IsBorneRun w t exact route events before behind report run → AreAllPlainOrFull report.clients
+    (exact : Bool) (route : Route) (events : List Event) (before behind : Outside S)
+    (report : Report) (run : IsRunOf w t exact route events before behind report)
+    → exact ≡ true → IsBorneRun w t exact route events before behind report run
+    → AreAllPlainOrFull report.clients
 
 -- the door was never full: the count of that, below its last value, did not rise
 pub record WasNeverFull {S : Type 0} (before behind : Outside S) : Type 0 where
@@ -66,41 +71,49 @@ pub record WasNeverFull {S : Type 0} (before behind : Outside S) : Type 0 where
 -- then each was answered as it asks
 abbrev pub BorneIsPlain : {W S : Type 0} → world.Ghosts W → sitting.Ghosts S W → Type 0
 BorneIsPlain {W} {S} w t =
-    (exact : Bool) (route : Route) (events : List Event) (before behind : Outside S) (report : Report)
-    (run : IsRunOf w t exact route events before behind report)
+    (exact : Bool) (route : Route) (events : List Event) (before behind : Outside S)
+    (report : Report) (run : IsRunOf w t exact route events before behind report)
     → exact ≡ true → IsBorneRun w t exact route events before behind report run
-    → HaveCauses route.pool report before behind → WasNeverFull before behind → AreAllPlain report.clients
+    → HaveCauses route.pool report before behind → WasNeverFull before behind
+    → AreAllPlain report.clients
 
 -- ---- over a wire
 
--- over sessions that keep no records: each number of a deletion or a delay is borne, nothing was made to happen to any target before, and
--- each target of the route tells what it answers
-pub record MayBeBorne {W : Type 0} (w : world.Ghosts W) (route : Route) (events : List Event) (happened : Happened) : Type 0 where
+-- over sessions that keep no records: each number of a deletion or a delay is borne, nothing was
+-- made to happen to any target before, and each target of the route tells what it answers
+pub record MayBeBorne {W : Type 0} (w : world.Ghosts W) (route : Route) (events : List Event)
+    (happened : Happened) : Type 0 where
   pub few : AllByRecursion (HasBorneNumber false route.pool) events
   pub quiet : AreQuiet happened
   pub told : AreTold w route
 
--- each mark is Plain or Full, and all are Plain where there may be as many sessions of a class as the clients have legs at once, at most
+-- each mark is Plain or Full, and all are Plain where there may be as many sessions of a class as
+-- the clients have legs at once, at most
 pub record AreBorneMarks (route : Route) (report : Report) : Type 0 where
   pub marks : AreAllPlainOrFull report.clients
-  pub places : length report.clients * most_at_once route ≤ route.pool.max_sessions → AreAllPlain report.clients
+  pub places : length report.clients * most_at_once route ≤ route.pool.max_sessions
+      → AreAllPlain report.clients
 
--- a wire whose counts are exact, and whose count of links is below its last value behind the replay, leaves such marks where at each cut and
--- each deletion of the script every client that took a step was run since
-abbrev pub IsBorneIf : {W : Type 0} → world.Ghosts W → (exact : Bool) → Route → List Event → Happened → (behind : Counts) → Report
-    → Type 0
+-- a wire whose counts are exact, and whose count of links is below its last value behind the
+-- replay, leaves such marks where at each cut and each deletion of the script every client that
+-- took a step was run since
+abbrev pub IsBorneIf : {W : Type 0} → world.Ghosts W → (exact : Bool) → Route → List Event
+    → Happened → (behind : Counts) → Report → Type 0
 IsBorneIf w exact route events happened behind report =
-    exact ≡ true → MayBeBorne w route events happened → IsQuiet events → DialsGoOn behind → AreBorneMarks route report
+    exact ≡ true → MayBeBorne w route events happened → IsQuiet events → DialsGoOn behind
+    → AreBorneMarks route report
 
 -- a new pool of these numbers: it has no session, gave none a number, and counted nothing
 abbrev pub new_door : {S : Type 0} → PoolNumbers → DoorView S
-new_door {S} numbers = record { pool = Some (pool_of numbers 0 []); counts = counts_of {S} (new_pool numbers) }
+new_door {S} numbers =
+    record { pool = Some (pool_of numbers 0 []); counts = counts_of {S} (new_pool numbers) }
 
--- What the replay went through: it began with a new pool of the route's numbers, and with what was made to happen to the wire's targets,
--- and ended with what the wire counted, beside the breaches. It leaves such marks where no cut and no deletion fell while a request was in
--- work.
-pub record WentThrough {W S : Type 0} (w : world.Ghosts W) (t : sitting.Ghosts S W) (exact : Bool) (route : Route) (events : List Event)
-    (happened : Happened) (counts : Counts) (report : Report) : Type 0 where
+-- What the replay went through: it began with a new pool of the route's numbers, and with what was
+-- made to happen to the wire's targets, and ended with what the wire counted, beside the breaches.
+-- It leaves such marks where no cut and no deletion fell while a request was in work.
+pub record WentThrough {W S : Type 0} (w : world.Ghosts W) (t : sitting.Ghosts S W) (exact : Bool)
+    (route : Route) (events : List Event) (happened : Happened) (counts : Counts)
+    (report : Report) : Type 0 where
   pub before : Outside S
   pub behind : Outside S
   pub run : IsRunOf w t exact route events before behind report
@@ -108,5 +121,6 @@ pub record WentThrough {W S : Type 0} (w : world.Ghosts W) (t : sitting.Ghosts S
   pub begins : (target : ℕ) → before.backend.happened.of_target target ≡ happened.of_target target
   pub own : Own
   pub ends : behind.backend.counts ≡ counts_over exact counts own
-  pub borne : exact ≡ true → MayBeBorne w route events happened → DisturbsNobody w t exact route events before behind report run
-      → DialsGoOn counts → AreBorneMarks route report
+  pub borne : exact ≡ true → MayBeBorne w route events happened
+      → DisturbsNobody w t exact route events before behind report run → DialsGoOn counts
+      → AreBorneMarks route report

@@ -19,8 +19,9 @@ pub record CountsGoOn (before behind : Counts) (report : Report) : Type 0 where
   pub looks_rise : before.waits ≤ behind.waits
   pub looks_in_vain : behind.waits < last64
 
--- a report has a fault for each Link, and one set more that was gone than the pool repeats for each Gone; the wire has as many looks in
--- vain as the pool is patient for each Silent; and where one is Full, as many links were made, or failed, as there may be sessions
+-- a report has a fault for each Link, and one set more that was gone than the pool repeats for each
+-- Gone; the wire has as many looks in vain as the pool is patient for each Silent; and where one is
+-- Full, as many links were made, or failed, as there may be sessions
 pub record HasCauses (pool : PoolNumbers) (before behind : Counts) (report : Report) : Type 0 where
   pub links : met_for pool link report.clients ≤ in_classes faults report.classes
   pub deletions : met_for pool gone report.clients ≤ in_classes gones report.classes
@@ -28,8 +29,8 @@ pub record HasCauses (pool : PoolNumbers) (before behind : Counts) (report : Rep
   pub fulls : 1 ≤ met_for pool full report.clients
       → pool.max_sessions ≤ in_classes dials report.classes + in_classes faults report.classes
 
--- no call failed, no more sets were gone than one request bears, fewer links were made than there may be sessions, and fewer looks were in
--- vain than one request bears
+-- no call failed, no more sets were gone than one request bears, fewer links were made than there
+-- may be sessions, and fewer looks were in vain than one request bears
 pub record IsCalm (pool : PoolNumbers) (before behind : Counts) (report : Report) : Type 0 where
   pub unfailing : in_classes faults report.classes ≡ 0
   pub few_gone : in_classes gones report.classes ≤ pool.repeats
@@ -44,4 +45,5 @@ pub record MarksLeft (pool : PoolNumbers) (before behind : Counts) (report : Rep
 abbrev pub SumsLeaveMarks : {W : Type 0} → world.Ghosts W → Type 0
 SumsLeaveMarks w =
     (route : Route) (before behind : Counts) (report : Report)
-    → IsCountedBy w true route before behind report → CountsGoOn before behind report → MarksLeft route.pool before behind report
+    → IsCountedBy w true route before behind report → CountsGoOn before behind report
+    → MarksLeft route.pool before behind report

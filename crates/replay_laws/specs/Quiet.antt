@@ -28,7 +28,8 @@ may_come clients other = true
 
 abbrev pub may_all_come : (stepped : List ℕ) → List Event → Bool
 may_all_come stepped [] = true
-may_all_come stepped (event ∷ events) = may_come stepped event && may_all_come (stepped_behind stepped event) events
+may_all_come stepped (event ∷ events) =
+    may_come stepped event && may_all_come (stepped_behind stepped event) events
 
 -- at each cut and each deletion every client that took a step was run since
 abbrev pub IsQuiet : List Event → Type 0
@@ -37,6 +38,6 @@ IsQuiet events = may_all_come [] events ≡ true
 -- whatever the targets, the pool and the links do, a replay of such a script disturbs nobody
 abbrev pub QuietDisturbsNobody : {W S : Type 0} → world.Ghosts W → sitting.Ghosts S W → Type 0
 QuietDisturbsNobody {W} {S} w t =
-    (exact : Bool) (route : Route) (events : List Event) (before behind : Outside S) (report : Report)
-    (run : IsRunOf w t exact route events before behind report)
+    (exact : Bool) (route : Route) (events : List Event) (before behind : Outside S)
+    (report : Report) (run : IsRunOf w t exact route events before behind report)
     → IsQuiet events → DisturbsNobody w t exact route events before behind report run

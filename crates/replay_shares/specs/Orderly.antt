@@ -1,5 +1,6 @@
--- Orderly scripts (this project's own): no two requests are in work at once, nothing befalls a link, and the sets of a class find
--- room in one session. Of such a script it is known which works are asked, and when: its events and what the targets answer say so
+-- Orderly scripts (this project's own): no two requests are in work at once, nothing befalls a
+-- link, and the sets of a class find room in one session. Of such a script it is known which works
+-- are asked, and when: its events and what the targets answer say so
 use Rattle.std.specs.Prelude.{◌≡◌, ℕ, ◌+◌, ◌≤◌, ◌==◌, ◌&&◌, nat_eq, Bool, true, false, List, [], ◌∷◌, ◌++◌, length, map, drop, filter_map, slice_get, if◌then◌else◌, Option, None, Some, is_none}
 use Rattle.std.specs.List.{AllByRecursion, IsDistinct, list_all}
 use Rattle.z_types.specs.declared.work.Work.{Work}
@@ -38,7 +39,8 @@ waits_then other = None
 abbrev pub are_run : (waiting : Option ℕ) → List Event → Bool
 are_run waiting [] = is_none waiting
 are_run None (event ∷ events) = are_run (waits_then event) events
-are_run (Some client) (event ∷ events) = is_of client event && are_run (still_waits client event) events
+are_run (Some client) (event ∷ events) =
+    is_of client event && are_run (still_waits client event) events
 
 -- the events of a script, and those that close each client behind them
 abbrev pub closed : List Event → List Event
@@ -53,25 +55,30 @@ pub record ClientRun : Type 0 where
   pub asked : List Work
 
 -- a run of a client to whom these octets were fed so far
-pub record IsClientRun {W : Type 0} (w : world.Ghosts W) (route : Route) (client at : ℕ) (octets : List ℕ) (run : ClientRun) : Type 0 where
+pub record IsClientRun {W : Type 0} (w : world.Ghosts W) (route : Route) (client at : ℕ)
+    (octets : List ℕ) (run : ClientRun) : Type 0 where
   pub same_client : run.client ≡ client
   pub same_moment : run.at ≡ at
   pub asks : Ask w route octets run.asked
 
 -- the runs of events from a moment on, behind other events
-abbrev pub AreClientRuns : {W : Type 0} → world.Ghosts W → Route → (before : List Event) → (at : ℕ) → List Event → List ClientRun → Type 0
+abbrev pub AreClientRuns : {W : Type 0} → world.Ghosts W → Route → (before : List Event) → (at : ℕ)
+    → List Event → List ClientRun → Type 0
 AreClientRuns w route before at [] runs = runs ≡ []
 AreClientRuns w route before at (Run client ∷ events) [] = ⊥
 AreClientRuns w route before at (Run client ∷ events) (run ∷ runs) =
-    IsClientRun w route client at (fed before client) run × AreClientRuns w route (before ++ Run client ∷ []) at events runs
-AreClientRuns w route before at (event ∷ events) runs = AreClientRuns w route (before ++ event ∷ []) (at + seconds_of event) events runs
+    IsClientRun w route client at (fed before client) run
+    × AreClientRuns w route (before ++ Run client ∷ []) at events runs
+AreClientRuns w route before at (event ∷ events) runs =
+    AreClientRuns w route (before ++ event ∷ []) (at + seconds_of event) events runs
 
 -- ---- works
 
 -- what a client has asked up to the last of its runs among these, of which the last one comes first
 abbrev pub asked_before : ℕ → (before : List ClientRun) → List Work
 asked_before client [] = []
-asked_before client (run ∷ before) = if run.client == client then run.asked else asked_before client before
+asked_before client (run ∷ before) =
+    if run.client == client then run.asked else asked_before client before
 
 -- what a run asks that was not asked before it
 abbrev pub works_added : (before : List ClientRun) → ClientRun → List Work
@@ -84,7 +91,8 @@ dated at asked = record { at = at; work = asked }
 -- what runs ask, each at its moment, behind runs before them
 abbrev pub dated_after : (before : List ClientRun) → List ClientRun → List DatedWork
 dated_after before [] = []
-dated_after before (run ∷ runs) = map (dated run.at) (works_added before run) ++ dated_after (run ∷ before) runs
+dated_after before (run ∷ runs) =
+    map (dated run.at) (works_added before run) ++ dated_after (run ∷ before) runs
 
 -- what all runs of a script ask, each at its moment
 abbrev pub dated_works : List ClientRun → List DatedWork
@@ -94,7 +102,8 @@ dated_works runs = dated_after [] runs
 
 -- the legs of a work, by their places in the route, whether it reaches them or not
 abbrev pub legs_in : Work → List ℕ
-legs_in (work.Search login legs query small large medium small_element medium_element syntax room) = legs
+legs_in (work.Search login legs query small large medium small_element medium_element syntax room) =
+    legs
 legs_in (work.Fetch login legs query hits first count syntax element) = legs
 legs_in (work.Scan login leg ask) = leg ∷ []
 
@@ -106,10 +115,12 @@ classes_at route legs = map (λ leg. leg.class) (filter_map (slice_get route.leg
 abbrev pub IsApart : Route → DatedWork → Type 0
 IsApart route done = IsDistinct nat_eq (classes_at route (legs_in done.work))
 
--- Events are orderly, with these runs: they feed clients, end their inputs, run clients and let time pass; no other client and no
--- tick comes between what is fed and its run; what was fed up to a run ends between units or heads; and works are of legs of
--- different classes, and use no more keys of a class than a session may hold.
-pub record IsOrderly {W : Type 0} (w : world.Ghosts W) (route : Route) (events : List Event) (runs : List ClientRun) : Type 0 where
+-- Events are orderly, with these runs: they feed clients, end their inputs, run clients and let
+-- time pass; no other client and no tick comes between what is fed and its run; what was fed up to
+-- a run ends between units or heads; and works are of legs of different classes, and use no more
+-- keys of a class than a session may hold.
+pub record IsOrderly {W : Type 0} (w : world.Ghosts W) (route : Route) (events : List Event)
+    (runs : List ClientRun) : Type 0 where
   pub calm : list_all is_calm events ≡ true
   pub one_at_a_time : are_run None (closed events) ≡ true
   pub whole : AreClientRuns w route [] 0 (closed events) runs

@@ -2,14 +2,14 @@
 
 ghost use Rattle.replay_shares.specs.steps.Laws.{RunsOfGetsShare, RunsOfScriptsShare, RunsOfUnitsShare, RunsShare};
 
-use replay::front_conn::{
-    stands_at_start, stands_when_ended, stands_when_fed, stands_when_written, stays_of_route,
-};
 use front_conn_works::{begins_none, ended_is_whole, marks_decide, stays_begun, steps_begin};
 use package_shares::package::package_outcome_is_true;
 use package_shares::requests_share;
-use sru_request::head_stays;
+use replay::front_conn::{
+    stands_at_start, stands_when_ended, stands_when_fed, stands_when_written, stays_of_route,
+};
 use replay::sru_rules::one_reading;
+use sru_request::head_stays;
 use z_types::{Sitting, World};
 
 /// A run of a client of units, or of one of which nothing has come, leaves the pool kept behind the

@@ -9,6 +9,5 @@ mod tests;
 pub use laws::{gets_share, runs_share, scripts_share, units_share};
 
 // Handed on: crates above name these through this one.
-pub use replay::gateway_rules;
-pub use replay::sru_rules;
 pub use replay;
+pub use replay::{gateway_rules, sru_rules};

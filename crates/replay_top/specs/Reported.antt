@@ -12,15 +12,18 @@ use Rattle.replay_shares.specs.Shares.{SharesIfOrderlyOver}
 use Rattle.replay_top.specs.Outside.{WireCalls}
 use Rattle.replay_top.specs.Paid.{IsFullPaid}
 
--- Each client was answered to the octets that it was fed; the sums are what the wire counted, the marks have their counted cause, and a full
--- pool was paid for; and more is sure where nothing befalls links; where no more befalls them than is borne, by what the replay went through and by the events
--- alone; and where the events are orderly.
-pub record IsPlayedReport {W S : Type 0} (w : world.Ghosts W) (calls : WireCalls W S) (route : Route) (events : List Event) (report : Report)
+-- Each client was answered to the octets that it was fed; the sums are what the wire counted, the
+-- marks have their counted cause, and a full pool was paid for; and more is sure where nothing
+-- befalls links; where no more befalls them than is borne, by what the replay went through and by
+-- the events alone; and where the events are orderly.
+pub record IsPlayedReport {W S : Type 0} (w : world.Ghosts W) (calls : WireCalls W S)
+    (route : Route) (events : List Event) (report : Report)
     : Type 0 where
   pub right : IsReportOf w route events report
   pub counted : IsCountedBy w calls.exact route calls.before calls.behind report
   pub full_paid : IsFullPaid w calls.exact route calls.before calls.behind report
   pub untroubled : IsUntroubledIf w calls.exact route events calls.before calls.happened report
-  pub through : WentThrough w calls.sessions calls.exact route events calls.happened calls.behind report
+  pub through : WentThrough w calls.sessions calls.exact route events calls.happened
+      calls.behind report
   pub borne : IsBorneIf w calls.exact route events calls.happened calls.behind report
   pub shared : SharesIfOrderlyOver w calls.exact route events calls.before calls.happened report

@@ -8,11 +8,13 @@ use Rattle.route_config.specs.declared.route.Database.{Database}
 
 -- the first virtual database of that name, in any case of ASCII letters
 abbrev pub database_named : Route → List ℕ → Option Database
-database_named route name = find (λ database. str_eq_ignore_ascii_case database.name name) route.databases
+database_named route name =
+    find (λ database. str_eq_ignore_ascii_case database.name name) route.databases
 
 -- the address of the first member of a class
 abbrev pub first_address : Route → ℕ → Option Address
-first_address route place = option_and_then (λ class. slice_get class.addresses 0) (slice_get route.classes place)
+first_address route place =
+    option_and_then (λ class. slice_get class.addresses 0) (slice_get route.classes place)
 
 -- the names of the targets, in order
 abbrev pub target_names : Route → List (List ℕ)

@@ -53,4 +53,5 @@ has_slash = list_any (λ c. c == 47)
 -- a user's: 1 to 64 octets without `/`, and no word of the rules
 abbrev pub is_user_name : List ℕ → Bool
 is_user_name text =
-    ((is_from 1 64 (length text) && not (has_slash text)) && not (is_same text anonymous)) && not (is_same text every)
+    ((is_from 1 64 (length text) && not (has_slash text)) && not (is_same text anonymous))
+    && not (is_same text every)

@@ -11,16 +11,19 @@ use Rattle.route_config.specs.Names.{anonymous, every}
 abbrev pub is_for_user : List ℕ → List ℕ → Bool
 is_for_user named user = is_same named every || is_same named user
 
--- what a rule names as a database stands for this one: the same name in any case of ASCII letters, or `*`
+-- what a rule names as a database stands for this one: the same name in any case of ASCII letters,
+-- or `*`
 abbrev pub is_for_database : List ℕ → List ℕ → Bool
 is_for_database named database = is_same named every || str_eq_ignore_ascii_case named database
 
 -- a rule may name as its user: `*`, `anonymous`, or a user
 abbrev pub names_user : List User → List ℕ → Bool
 names_user users named =
-    (is_same named every || is_same named anonymous) || list_any (λ user. is_same named user.name) users
+    (is_same named every || is_same named anonymous)
+    || list_any (λ user. is_same named user.name) users
 
 -- a rule may name as a database: `*`, or a virtual database
 abbrev pub names_database : List Database → List ℕ → Bool
 names_database databases named =
-    is_same named every || list_any (λ database. str_eq_ignore_ascii_case named database.name) databases
+    is_same named every
+    || list_any (λ database. str_eq_ignore_ascii_case named database.name) databases

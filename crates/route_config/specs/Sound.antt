@@ -1,5 +1,6 @@
--- What every route keeps (this project's own): its numbers are in their ranges, its lists in their sizes, a place is one of
--- the list that it is a place of, and rules name users and databases that are there.
+-- What every route keeps (this project's own): its numbers are in their ranges, its lists in their
+-- sizes, a place is one of the list that it is a place of, and rules name users and databases that
+-- are there.
 use Rattle.std.specs.Prelude.{ℕ, ◌<◌, ◌≤◌, List, length, All, IsTrue}
 use Rattle.z_types.specs.Bounds.{most_number}
 use Rattle.z_types.specs.declared.address.Address.{Address}
@@ -87,7 +88,8 @@ IsIndex index = IsTrue (is_index_name index.name) × (index.value ≤ most_numbe
 
 -- texts of 1 to 128 octets
 abbrev pub IsSchema : Schema → Type 0
-IsSchema schema = HasFrom 1 128 schema.name × HasFrom 1 128 schema.uri × HasFrom 1 128 schema.element
+IsSchema schema =
+    HasFrom 1 128 schema.name × HasFrom 1 128 schema.uri × HasFrom 1 128 schema.element
 
 -- a name, and a password of 1 to 64 octets
 abbrev pub IsUser : User → Type 0
@@ -111,7 +113,8 @@ pub record KeepsItems (route : RouteParts) : Type 0 where
 -- each rule is for `*`, `anonymous` or a user, and for databases that are `*` or virtual databases
 pub record KeepsRules (route : RouteParts) : Type 0 where
   pub users : All (λ rule. IsTrue (names_user route.users rule.user)) route.rules
-  pub databases : All (λ rule. All (λ named. IsTrue (names_database route.databases named)) rule.databases) route.rules
+  pub databases : All (λ rule.
+      All (λ named. IsTrue (names_database route.databases named)) rule.databases) route.rules
 
 -- how many records are kept, and of how many octets each
 pub record AreCacheNumbers (route : RouteParts) : Type 0 where

@@ -1,4 +1,5 @@
--- The keys of a configuration (this project's own): the one table from which every refusal of a key is read.
+-- The keys of a configuration (this project's own): the one table from which every refusal of a key
+-- is read.
 use Rattle.std.specs.Prelude.{ℕ, List, [], ◌∷◌, codes, pos, Bool, false}
 use Rattle.z_types.specs.Bounds.{most_number}
 use Rattle.toml.specs.Data.{Data, string, integer, boolean, array, table, no_items, item, no_members, member}
@@ -68,7 +69,9 @@ schema_keys = keys (
 
 -- an index and a schema, as the file would write them
 abbrev pub index : List ℕ → ℕ → Data
-index name use_attribute = table (member (codes "name") (string name) (member (codes "use") (integer (pos use_attribute)) no_members))
+index name use_attribute =
+    table (member (codes "name") (string name)
+    (member (codes "use") (integer (pos use_attribute)) no_members))
 
 abbrev pub schema : List ℕ → List ℕ → List ℕ → Data
 schema name uri element = table (
@@ -87,7 +90,8 @@ default_indexes = array (
     item (index (codes "cql.anywhere") 1016) no_items))))))
 
 unfoldable pub default_schemas : Data
-default_schemas = array (item (schema (codes "dc") (codes "info:srw/schema/1/dc-v1.1") (codes "dc")) no_items)
+default_schemas =
+    array (item (schema (codes "dc") (codes "info:srw/schema/1/dc-v1.1") (codes "dc")) no_items)
 
 -- the whole file
 unfoldable pub top_keys : Keys

@@ -1,4 +1,5 @@
--- What the table of keys is made of (this project's own): a row has a key, whether it is needed, and the kind and range of its value.
+-- What the table of keys is made of (this project's own): a row has a key, whether it is needed,
+-- and the kind and range of its value.
 use Rattle.std.specs.Prelude.{ℕ, List, [], ◌∷◌}
 use Rattle.toml.specs.Data.{Data}
 use Rattle.route_text.specs.declared.rule.TextRule.{TextRule}

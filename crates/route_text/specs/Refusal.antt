@@ -1,5 +1,5 @@
--- The first refusal of a value by the table of keys (this project's own): key by key in the order of the rows, item by item
--- in an array, and at last the least key that the table has no row for.
+-- The first refusal of a value by the table of keys (this project's own): key by key in the order
+-- of the rows, item by item in an array, and at last the least key that the table has no row for.
 use Rattle.std.specs.Prelude.{ℕ, ◌+◌, ℤ, pos, int_le, Bool, ◌&&◌, not, is_some, List, [], ◌∷◌, Option, Some, None, if◌then◌else◌}
 use Rattle.std.specs.Option.{option_or, option_map}
 use Rattle.std.specs.List.{filter, list_any}
@@ -33,7 +33,8 @@ at_key need path check (Some value) = check value
 -- the first refusal of the items, which stand from a place on
 abbrev pub of_items : (List ℕ → Data → Option RouteFault) → List ℕ → ℕ → Items → Option RouteFault
 of_items check path place no_items = None
-of_items check path place (item value rest) = option_or (check (item_path path place) value) (of_items check path (place + 1) rest)
+of_items check path place (item value rest) =
+    option_or (check (item_path path place) value) (of_items check path (place + 1) rest)
 
 abbrev pub count : Items → ℕ
 count no_items = 0
@@ -62,26 +63,32 @@ others known members = filter (λ name. not (is_key known name)) (member_names m
 
 -- the least of them is Unknown
 abbrev pub of_others : List (List ℕ) → List ℕ → Members → Option RouteFault
-of_others known path members = option_map (λ name. Unknown (key_path path name)) (least (others known members))
+of_others known path members =
+    option_map (λ name. Unknown (key_path path name)) (least (others known members))
 
 -- an integer from one to another
 abbrev pub is_within : ℕ → ℕ → ℤ → Bool
 is_within low high n = int_le (pos low) n && int_le n (pos high)
 
 -- what the value of a key is refused for, where it is of a kind that is checked so
-abbrev pub of_key : Need → (List ℕ → Data → Option RouteFault) → List ℕ → List ℕ → Data → Option RouteFault
-of_key need check path name value = at_key need (key_path path name) (check (key_path path name)) (get name value)
+abbrev pub of_key : Need → (List ℕ → Data → Option RouteFault) → List ℕ → List ℕ → Data
+    → Option RouteFault
+of_key need check path name value =
+    at_key need (key_path path name) (check (key_path path name)) (get name value)
 
 abbrev mutual
   -- what a value at a path is refused for
   pub refusal : Kind → List ℕ → Data → Option RouteFault
-  refusal (Text rule) path value = of_kind path (as_str value) (λ text. unless (fits rule text) (OutOfRange path text))
-  refusal Address path value = of_kind path (as_str value) (λ text. unless (is_some (address text)) (OutOfRange path text))
+  refusal (Text rule) path value =
+      of_kind path (as_str value) (λ text. unless (fits rule text) (OutOfRange path text))
+  refusal Address path value =
+      of_kind path (as_str value) (λ text. unless (is_some (address text)) (OutOfRange path text))
   refusal (Number low high) path value = of_kind path (as_integer value) (λ n.
       unless (is_within low high n) (OutOfRange path (signed_decimal n)))
   refusal Flag path value = of_kind path (as_bool value) (λ flag. None)
   refusal (Array low high each) path value = of_kind path (as_array value) (λ items.
-      option_or (unless (is_from low high (count items)) (TooMany path (count items))) (of_items (refusal each) path 0 items))
+      option_or (unless (is_from low high (count items)) (TooMany path (count items)))
+      (of_items (refusal each) path 0 items))
   refusal (Table keys) path value = of_kind path (as_table value) (λ members.
       option_or (of_keys keys path value) (of_others (key_names keys) path members))
 

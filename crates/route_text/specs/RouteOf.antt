@@ -24,7 +24,8 @@ place_of names name = unwrap_or (position (is_same name) names) 0
 -- of names in order, those that come for the first time after some that are known
 abbrev pub firsts : List (List ℕ) → List (List ℕ) → List (List ℕ)
 firsts known [] = []
-firsts known (name ∷ names) = if is_among known name then firsts known names else name ∷ firsts (known ++ name ∷ []) names
+firsts known (name ∷ names) =
+    if is_among known name then firsts known names else name ∷ firsts (known ++ name ∷ []) names
 
 -- the names, and another where it is not among them
 abbrev pub with_name : List (List ℕ) → List ℕ → List (List ℕ)
@@ -35,15 +36,20 @@ abbrev pub class_names : Values → List (List ℕ)
 class_names values = firsts [] (vias values)
 
 abbrev pub group_of : List (List ℕ) → GroupValues → Group
-group_of targets group = record { name = group.name; targets = map (place_of targets) group.targets }
+group_of targets group =
+    record { name = group.name; targets = map (place_of targets) group.targets }
 
 -- the address of the target of a name; any where there is none, which is refused
 abbrev pub address_of : List Target → List ℕ → Address
-address_of targets name = unwrap_or (option_map (λ target. target.address) (find (λ target. is_same name target.name) targets)) (Test 0)
+address_of targets name =
+    unwrap_or (option_map (λ target. target.address)
+    (find (λ target. is_same name target.name) targets)) (Test 0)
 
 -- whom a leg goes to by a name: the group's members, or the target itself
 abbrev pub members_of : List GroupValues → List ℕ → List (List ℕ)
-members_of groups name = unwrap_or (option_map (λ group. group.targets) (find (λ group. is_same name group.name) groups)) (name ∷ [])
+members_of groups name =
+    unwrap_or (option_map (λ group. group.targets) (find (λ group. is_same name group.name) groups))
+    (name ∷ [])
 
 -- their addresses
 abbrev pub addresses_of : Values → List ℕ → List Address
@@ -56,16 +62,22 @@ class_of values name = record { name = name; addresses = addresses_of values nam
 abbrev pub databases_from : ℕ → List DatabaseValues → List Database
 databases_from first [] = []
 databases_from first (database ∷ rest) =
-    record { name = database.name; hide_errors = database.hide_errors; legs = range_with_len first (length database.legs) }
+    record {
+      name = database.name;
+      hide_errors = database.hide_errors;
+      legs = range_with_len first (length database.legs);
+    }
     ∷ databases_from (first + length database.legs) rest
 
 abbrev pub leg_of : List (List ℕ) → ℕ → LegValues → RouteLeg
-leg_of classes place leg = record { database = place; class = place_of classes leg.via; databases = leg.databases }
+leg_of classes place leg =
+    record { database = place; class = place_of classes leg.via; databases = leg.databases }
 
 -- the legs of the databases, which have the places from one on
 abbrev pub legs_from : List (List ℕ) → ℕ → List DatabaseValues → List RouteLeg
 legs_from classes place [] = []
-legs_from classes place (database ∷ rest) = map (leg_of classes place) database.legs ++ legs_from classes (place + 1) rest
+legs_from classes place (database ∷ rest) =
+    map (leg_of classes place) database.legs ++ legs_from classes (place + 1) rest
 
 unfoldable pub route_of : Values → Route
 route_of values = record {

@@ -1,4 +1,5 @@
--- For contracts alone: how many items there are, and what addresses, in the values of a configuration that is refused for nothing (this project's own)
+-- For contracts alone: how many items there are, and what addresses, in the values of a
+-- configuration that is refused for nothing (this project's own)
 use Rattle.std.specs.List.{AllByRecursion}
 use Rattle.route_config.specs.Sound.{HasFrom, IsAddress}
 use Rattle.route_text.specs.declared.values.Values.{Values}

@@ -28,18 +28,21 @@ number_of_digits = number_after 0
 -- the number from one to another that a text writes
 abbrev pub number_from : ℕ → ℕ → List ℕ → Option ℕ
 number_from low high text =
-    if is_decimal text && is_from low high (number_of_digits text) then Some (number_of_digits text) else None
+    if is_decimal text && is_from low high (number_of_digits text)
+    then Some (number_of_digits text) else None
 
 -- a number that is at most another, or none where it is more
 abbrev pub IsWithin : ℕ → ℕ → Option ℕ → Type 0
-IsWithin most number result = MatchOption result (most < number) (λ found. (found ≡ number) × (found ≤ most))
+IsWithin most number result =
+    MatchOption result (most < number) (λ found. (found ≡ number) × (found ≤ most))
 
 -- an address by its parts between colons: `test:N`, or `tcp:HOST:PORT`
 abbrev pub address_of : List (List ℕ) → Option Address
 address_of (scheme ∷ number ∷ []) =
     if is_same scheme (codes "test") then option_map Test (number_from 0 999999 number) else None
 address_of (scheme ∷ host ∷ port ∷ []) =
-    if is_same scheme (codes "tcp") && is_from 1 64 (length host) then option_map (Tcp host) (number_from 1 65535 port) else None
+    if is_same scheme (codes "tcp") && is_from 1 64 (length host)
+    then option_map (Tcp host) (number_from 1 65535 port) else None
 address_of parts = None
 
 -- the parts between colons

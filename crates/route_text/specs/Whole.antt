@@ -1,4 +1,5 @@
--- What a configuration is refused for as a whole (this project's own), once each key by itself is right.
+-- What a configuration is refused for as a whole (this project's own), once each key by itself is
+-- right.
 use Rattle.std.specs.Prelude.{ℕ, nat_le, Bool, true, false, not, List, [], ◌∷◌, ◌++◌, map, Option, Some, None, if◌then◌else◌}
 use Rattle.std.specs.Option.{option_map, option_or}
 use Rattle.std.specs.List.{find, list_any, flat_map}
@@ -17,7 +18,8 @@ first_of (refusal ∷ rest) = option_or refusal (first_of rest)
 -- the first name that is the same as one before it
 abbrev pub again : (List ℕ → List ℕ → Bool) → List (List ℕ) → List (List ℕ) → Option (List ℕ)
 again same before [] = None
-again same before (name ∷ names) = if list_any (same name) before then Some name else again same (before ++ name ∷ []) names
+again same before (name ∷ names) =
+    if list_any (same name) before then Some name else again same (before ++ name ∷ []) names
 
 -- two names are the same: octet by octet, or in any case of ASCII letters
 abbrev pub sameness : Bool → List ℕ → List ℕ → Bool

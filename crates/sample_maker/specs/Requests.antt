@@ -1,5 +1,5 @@
--- The requests that each client of a load sends (ANSI/NISO Z39.50-2003, InitializeRequest, SearchRequest,
--- PresentRequest and Close); their values are this project's own
+-- The requests that each client of a load sends (ANSI/NISO Z39.50-2003, InitializeRequest,
+-- SearchRequest, PresentRequest and Close); their values are this project's own
 use Rattle.std.specs.Prelude.{ℕ, pos, true, List, [], ◌∷◌, None, Some, codes}
 use Rattle.z_types.specs.Bounds.{most_unit_octets}
 use Rattle.z_types.specs.Tree.{Tree, leaf}
@@ -36,7 +36,8 @@ title = record { set = None; kind = 1; value = 4 }
 abbrev pub titles_with : (letter : ℕ) → Tree
 titles_with letter = leaf (title ∷ []) (General (letter ∷ []))
 
--- the titles with a letter in the database `Default`, as the result set `1`, and none of its records
+-- the titles with a letter in the database `Default`, as the result set `1`, and none of its
+-- records
 abbrev pub search_request : (letter : ℕ) → Request
 search_request letter = Search (record {
   ref_id = None;

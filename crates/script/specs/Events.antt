@@ -99,7 +99,8 @@ are_in_order before (event ∷ events) =
 abbrev pub IsClient : ℕ → Type 0
 IsClient client = (1 ≤ client) × (client ≤ most_clients)
 
--- an event of a client that there may be, of one of this many targets, and of no more than may be said
+-- an event of a client that there may be, of one of this many targets, and of no more than may be
+-- said
 abbrev pub IsEvent : (targets : ℕ) → Event → Type 0
 IsEvent targets (Feed client octets) = IsClient client
 IsEvent targets (End client) = IsClient client

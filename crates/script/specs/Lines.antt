@@ -47,12 +47,15 @@ amount_in field = number_in 0 most_amount field
 
 -- the target of a name, by its place; the first where several have it. Places have 32 bits.
 abbrev pub target_in : (targets : List (List ℕ)) → List ℕ → Option ℕ
-target_in targets field = option_and_then (within 0 (2 ^ 32 - 1)) (position (bytes_eq field) targets)
+target_in targets field =
+    option_and_then (within 0 (2 ^ 32 - 1)) (position (bytes_eq field) targets)
 
--- the octets that hexadecimal digits of either case write, one at least, and those of a unit at most
+-- the octets that hexadecimal digits of either case write, one at least, and those of a unit at
+-- most
 abbrev pub octets_in : List ℕ → Option (List ℕ)
 octets_in field =
-    if nat_le 1 (length field) && nat_le (length field) (2 * most_unit_octets) then result_ok (decode_of field)
+    if nat_le 1 (length field) && nat_le (length field) (2 * most_unit_octets)
+    then result_ok (decode_of field)
     else None
 
 -- ---- lines
@@ -84,7 +87,8 @@ client_and_octets (Some fields) = both_fields (client_in fields.0) (octets_in fi
 -- a target's name, and an amount
 abbrev pub target_and_amount : List (List ℕ) → Option (List ℕ × List ℕ) → Option (ℕ × ℕ)
 target_and_amount targets None = None
-target_and_amount targets (Some fields) = both_fields (target_in targets fields.0) (amount_in fields.1)
+target_and_amount targets (Some fields) =
+    both_fields (target_in targets fields.0) (amount_in fields.1)
 
 -- octets are fed
 abbrev pub feed_said : List ℕ → Said
@@ -92,18 +96,21 @@ feed_said text = said_of (λ said. Feed said.0 said.1) (client_and_octets (two_f
 
 -- result sets are deleted
 abbrev pub gone_said : List (List ℕ) → List ℕ → Said
-gone_said targets text = said_of (λ said. Gone said.0 said.1) (target_and_amount targets (two_fields text))
+gone_said targets text =
+    said_of (λ said. Gone said.0 said.1) (target_and_amount targets (two_fields text))
 
 -- replies are late
 abbrev pub slow_said : List (List ℕ) → List ℕ → Said
-slow_said targets text = said_of (λ said. Slow said.0 said.1) (target_and_amount targets (two_fields text))
+slow_said targets text =
+    said_of (λ said. Slow said.0 said.1) (target_and_amount targets (two_fields text))
 
 -- a line of words that speaks of no client
 abbrev pub said_of_targets : List (List ℕ) → List ℕ → Said
 said_of_targets targets line =
     if starts_with nat_eq line (codes "tick ") then said_of Tick (amount_in (drop 5 line))
     else (if starts_with nat_eq line (codes "gone ") then gone_said targets (drop 5 line)
-    else (if starts_with nat_eq line (codes "cut ") then said_of Cut (target_in targets (drop 4 line))
+    else (if starts_with nat_eq line (codes "cut ")
+    then said_of Cut (target_in targets (drop 4 line))
     else (if starts_with nat_eq line (codes "slow ") then slow_said targets (drop 5 line)
     else Unknown)))
 
@@ -119,7 +126,8 @@ said_by_words targets line =
 -- an empty line and one that begins with `#` say nothing
 abbrev pub said_by : List (List ℕ) → List ℕ → Said
 said_by targets [] = Nothing
-said_by targets (first ∷ rest) = if first == 35 then Nothing else said_by_words targets (first ∷ rest)
+said_by targets (first ∷ rest) =
+    if first == 35 then Nothing else said_by_words targets (first ∷ rest)
 
 -- a line says nothing, an event that may stand in a script, or nothing that is known
 abbrev pub SaysEvent : (targets : ℕ) → Said → Type 0

@@ -23,7 +23,8 @@ lines_behind (Some text) = lines text
 abbrev pub put_event : ℕ → List Event → Event → Result (List Event) ScriptFault
 put_event number events event =
     if may_follow events event
-    then (if nat_lt (length events) most_events then Ok (events ++ event ∷ []) else Err (TooMany number))
+    then (if nat_lt (length events) most_events then Ok (events ++ event ∷ [])
+    else Err (TooMany number))
     else Err (Line number)
 
 -- the events up to a line and with it

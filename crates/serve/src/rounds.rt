@@ -14,11 +14,13 @@ ghost use Rattle.conn_served.specs.front_conn.steps.Steps.{NothingWaits};
 use conn_served::front_conn::{
     Conn, Stepped, stands_when_ended, stands_when_fed, stands_when_written, stays_of_route,
 };
-use conn_served::front_conn_costs::{costs_nothing, pays_on, steps_cost, steps_meet, steps_owe_few, steps_pay};
+use conn_served::front_conn_costs::{
+    costs_nothing, pays_on, steps_cost, steps_meet, steps_owe_few, steps_pay,
+};
+use conn_served::sru_rules::head_is_refused;
 use gw_outside::{Backend, Clock, Got, Sink, Source, write_all};
 use pool_sets::Door;
 use route_config::Route;
-use conn_served::sru_rules::head_is_refused;
 use std::alloc::Global;
 use std::sync::Wait;
 use z_types::{End, Sitting, World};

@@ -11,10 +11,10 @@ ghost use Rattle.conn_served.specs.front_conn.steps.Drives.{conn_at, outside_of}
 ghost use Rattle.conn_served.specs.front_conn.steps.States.{nothing_yet};
 
 use crate::rounds::go_on;
-use conn_served::{Ascending, Served};
 use conn_served::front_conn::{Conn, stands_at_start};
 use conn_served::front_conn_costs::{costs_nothing, marks_are_met, pays_on, starts_costless};
 use conn_served::front_conn_seats::{connections_give_back, steps_keep_seats};
+use conn_served::{Ascending, Served};
 use gw_outside::{Backend, Clock, Sink, Source};
 use pool_sets::Door;
 use route_config::Route;

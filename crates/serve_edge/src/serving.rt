@@ -12,7 +12,7 @@ use gw_outside::{Accept, Clock, Files, Sink, Wire};
 use log::Log;
 use route_config::Route;
 use serve_top::serve::Worker;
-use serve_top::{Asked, asked_of, top_serve};
+use serve_top::{ServeWords, asked_of, top_serve};
 use std::alloc::Global;
 use std::net::{IpAddr, Net, TcpListener, TcpStream};
 use std::sync::Wait;
@@ -82,7 +82,7 @@ fn open<R: Net<Listener = TcpListener, Stream = TcpStream> + Eprint, L: Log>(
     runtime: &R,
     log: &L,
     address: IpAddr,
-    asked: Asked,
+    asked: ServeWords,
     route: Option<Route>,
     totals: &mut Totals,
 ) -> Option<TcpListener> {

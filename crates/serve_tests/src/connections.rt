@@ -6,10 +6,10 @@ use crate::octets::{
     BAD_HEAD_REPLY, BAD_REPLY, CLOSE, GET, GET_REPLY, INIT, INIT_REPLY, LIMIT_REPLY, PRESENT,
     PRESENT_REPLY, SEARCH, SEARCH_REPLY,
 };
-use serve::conn_served::Served;
 use gw_memory::{FakeBackend, FakeSession, MemoryClock, MemorySink, MemorySource};
 use pool_core::Pool;
 use route_config::{Route, RouteParts};
+use serve::conn_served::Served;
 use serve::serve_connection;
 use std::alloc::Global;
 use std::sync::Wait;

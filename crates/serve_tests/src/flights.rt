@@ -5,12 +5,12 @@ use crate::connections::{are_plain, text_of};
 use crate::octets::{
     INIT, INIT_REPLY, MERGED_PRESENT_REPLY, MERGED_SEARCH_REPLY, PRESENT_ALL, SEARCH,
 };
-use serve::conn_served::Served;
 use gw_memory::{MemoryClock, MemorySink, MemorySource};
 use gw_outside::Events;
 use pool_core::Pool;
 use route_config::Route;
 use route_text::read_route;
+use serve::conn_served::Served;
 use serve::serve_connection;
 use std::alloc::Global;
 use std::sync::Wait;

@@ -5,11 +5,11 @@ ghost use Rattle.gw_outside.specs.Accepts.{IsUntouched};
 
 use crate::connections::{are_plain, one_number, route_of, text_of};
 use crate::octets::{BAD_REPLY, CLOSE, GET, GET_REPLY, INIT, INIT_REPLY, SEARCH, SEARCH_REPLY};
-use serve::conn_served::Served;
 use gw_memory::{FakeBackend, FakeSession, MemoryAccept, MemoryClock, MemorySink, MemorySource};
 use gw_outside::{Sink, Source};
 use pool_core::Pool;
 use route_config::Route;
+use serve::conn_served::Served;
 use serve::{Worked, Worker, work};
 use std::alloc::Global;
 use std::sync::Wait;

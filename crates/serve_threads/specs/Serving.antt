@@ -40,9 +40,11 @@ module _ {A B C I K : Type 0} (a : accept.Ghosts A I K) where
 
 -- ---- what marks come of
 
--- No Link, Silent or Gone of these connections is invented: for each Link the backend counted a fault, for each Silent as many looks in
--- vain as the pool is patient, and for each Gone one Gone more than it repeats.
-pub record HaveBackendCauses (pool : PoolNumbers) (served : List Served) (before behind : Counts) : Type 0 where
+-- No Link, Silent or Gone of these connections is invented: for each Link the backend counted a
+-- fault, for each Silent as many looks in vain as the pool is patient, and for each Gone one Gone
+-- more than it repeats.
+pub record HaveBackendCauses (pool : PoolNumbers) (served : List Served)
+    (before behind : Counts) : Type 0 where
   pub links : RisesEnough 0 (needed_by pool served link) before.faults behind.faults
   pub silents : RisesEnough 0 (needed_by pool served silent) before.waits behind.waits
   pub gones : RisesEnough 0 (needed_by pool served gone) before.gones behind.gones
@@ -57,16 +59,21 @@ pub record AreDialsBelowEnd (counts : Counts) : Type 0 where
   pub faults : counts.faults < last64
 
 module _ {A B C : Type 0} (b : watched.Ghosts B) where
-  -- the links that were made, the calls that failed, and the addresses that connections without memory may have left undialled
+  -- the links that were made, the calls that failed, and the addresses that connections without
+  -- memory may have left undialled
   abbrev pub dialled_by : Worker B A C → ℕ
-  dialled_by worker = (b.counts worker.backend).dials + (b.counts worker.backend).faults + undialled_by worker.served
+  dialled_by worker =
+      (b.counts worker.backend).dials + (b.counts worker.backend).faults
+      + undialled_by worker.served
 
-  -- Where a client was told that the pool is full, as many sessions had been dialled, by all workers, as there may be of a class, or
-  -- their links had failed; those that were left undialled for want of memory are among them.
+  -- Where a client was told that the pool is full, as many sessions had been dialled, by all
+  -- workers, as there may be of a class, or their links had failed; those that were left undialled
+  -- for want of memory are among them.
   abbrev pub IsFullCaused : (most : ℕ) → (old new : List (Worker B A C)) → Type 0
   IsFullCaused most old new =
       AllByRecursion (λ (worker : Worker B A C). AreDialsBelowEnd (b.counts worker.backend)) new
-      → sum_by (λ (worker : Worker B A C). fulls_in worker.served) old < sum_by (λ (worker : Worker B A C). fulls_in worker.served) new
+      → sum_by (λ (worker : Worker B A C). fulls_in worker.served) old
+      < sum_by (λ (worker : Worker B A C). fulls_in worker.served) new
       → sum_by dialled_by old + most ≤ sum_by dialled_by new
 
 -- ---- what searches are paid by
@@ -85,26 +92,29 @@ module _ {A B C : Type 0} (b : watched.Ghosts B) where
   abbrev pub excused_by : Worker B A C → ℕ
   excused_by worker = (b.counts worker.backend).gones + (b.counts worker.backend).faults
 
-  -- All workers together searched no more often than their pool booked, and sets were gone and calls failed: no search went round the
-  -- pool.
+  -- All workers together searched no more often than their pool booked, and sets were gone and
+  -- calls failed: no search went round the pool.
   abbrev pub AreBooked : (booked : ℕ) → (old new : List (Worker B A C)) → Type 0
   AreBooked booked old new =
-      AllByRecursion (λ (worker : Worker B A C). AreSearchesBelowEnd (b.counts worker.backend)) new → booked < last64
-      → sum_by searched_by new + sum_by excused_by old ≤ sum_by searched_by old + sum_by excused_by new + booked
+      AllByRecursion (λ (worker : Worker B A C). AreSearchesBelowEnd (b.counts worker.backend)) new
+      → booked < last64 → sum_by searched_by new + sum_by excused_by old
+      ≤ sum_by searched_by old + sum_by excused_by new + booked
 
 -- ---- workers
 
-module _ {W A B C I K : Type 0} (w : world.Ghosts W) (i : from.Ghosts I) (k : to.Ghosts K) (a : accept.Ghosts A I K) (b : watched.Ghosts B)
-    (route : Route) (most : ℕ) where
+module _ {W A B C I K : Type 0} (w : world.Ghosts W) (i : from.Ghosts I) (k : to.Ghosts K)
+    (a : accept.Ghosts A I K) (b : watched.Ghosts B) (route : Route) (most : ℕ) where
   -- a worker served each connection that it took, handed it back, and listed what came of it
   pub record HasServed (old new : Worker B A C) : Type 0 where
     pub worked : HasWorked w i k route (view_of a old) (view_of a new)
-    pub causes : HaveBackendCauses route.pool worked.others (b.counts old.backend) (b.counts new.backend)
+    pub causes : HaveBackendCauses route.pool worked.others (b.counts old.backend)
+        (b.counts new.backend)
     pub marks : AreAllMarksOf route.pool most worked.others
     pub faults : a.faults old.accept ≤ a.faults new.accept
 
-  -- So did each of these workers, which are the same in the same order. Where all of them ended, none has a connection left; where one
-  -- failed, its accepts' faults rose. The pool, which all shared, opened so many sessions of a class at most.
+  -- So did each of these workers, which are the same in the same order. Where all of them ended,
+  -- none has a connection left; where one failed, its accepts' faults rose. The pool, which all
+  -- shared, opened so many sessions of a class at most.
   pub record HaveServed (old new : List (Worker B A C)) (worked : Worked) : Type 0 where
     pub fulls : IsFullCaused b most old new
     pub each : AllZip HasServed old new

@@ -1,4 +1,5 @@
--- The words of the command (this project's own): `serve`, the name of a configuration, a port, and the number of the workers
+-- The words of the command (this project's own): `serve`, the name of a configuration, a port, and
+-- the number of the workers
 use Rattle.std.specs.Prelude.{ℕ, List, [], ◌∷◌, if◌then◌else◌, ◌==◌, codes, Option, None, Some}
 use Rattle.z_types.specs.Same.{is_same}
 use Rattle.gateway_config.specs.Numbers.{number_in}
@@ -15,7 +16,8 @@ asked_in port workers = both_asked (number_in 1 65535 port) (number_in 1 64 work
 
 -- what these words ask for beside a configuration
 abbrev pub asked_of : List (List ℕ) → Option ServeWords
-asked_of (word ∷ config ∷ port ∷ workers ∷ []) = if is_same word (codes "serve") then asked_in port workers else None
+asked_of (word ∷ config ∷ port ∷ workers ∷ []) =
+    if is_same word (codes "serve") then asked_in port workers else None
 asked_of words = None
 
 -- the name of the configuration

@@ -45,7 +45,8 @@ searches_for w route before this (Some key) =
 
 -- a use of a class needs a search
 abbrev pub needs_search : {W : Type 0} → world.Ghosts W → Route → ℕ → List Use → Use → Bool
-needs_search w route class before this = is_in class this && searches_for w route before this this.key
+needs_search w route class before this =
+    is_in class this && searches_for w route before this this.key
 
 -- a use of a class needs a dial: the first, and each behind a time in which the class was not used
 abbrev pub needs_dial : Route → ℕ → List Use → Use → Bool

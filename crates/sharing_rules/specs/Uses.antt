@@ -34,7 +34,8 @@ legs_used route work = filter_map (slice_get route.legs) (unique_keys nat_eq (le
 
 -- the query of a work; a scan has none
 abbrev pub query_of : Work → Option RpnQuery
-query_of (work.Search login legs query small large medium small_element medium_element syntax room) = Some query
+query_of (work.Search login legs query small large medium small_element medium_element syntax
+    room) = Some query
 query_of (work.Fetch login legs query hits first count syntax element) = Some query
 query_of (work.Scan login leg ask) = None
 

@@ -1,4 +1,5 @@
--- Character data with references in place of markup (XML 1.0, fifth edition, 2.4 and 4.6). Stricter: `>` and `"` are never left as they are.
+-- Character data with references in place of markup (XML 1.0, fifth edition, 2.4 and 4.6).
+-- Stricter: `>` and `"` are never left as they are.
 use Rattle.std.specs.Prelude.{◌≡◌, ℕ, Bool, true, false, ◌&&◌, ◌||◌, not, ◌==◌, List, [], ◌∷◌, zero, suc, codes, if◌then◌else◌, IsTrue}
 use Rattle.std.specs.List.{flat_map}
 
@@ -33,7 +34,8 @@ begins [] text = true
 begins (octet ∷ front) [] = false
 begins (octet ∷ front) (first ∷ text) = first == octet && begins front text
 
--- what a text begins with: the octet that a reference is to, with how many octets the reference has behind its first, or an octet alone
+-- what a text begins with: the octet that a reference is to, with how many octets the reference has
+-- behind its first, or an octet alone
 abbrev pub front_of : ℕ → List ℕ → ℕ × ℕ
 front_of octet text =
     if begins (codes "&amp;") (octet ∷ text) then (ampersand, 4)

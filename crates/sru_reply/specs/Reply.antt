@@ -24,7 +24,8 @@ diagnostic_fields diag =
 -- a diagnostic
 unfoldable pub diagnostic : SruDiag → List ℕ
 diagnostic diag =
-    element_with (codes "diag:diagnostic") (attribute (codes "xmlns:diag") (codes "http://www.loc.gov/zing/srw/diagnostic/"))
+    element_with (codes "diag:diagnostic")
+    (attribute (codes "xmlns:diag") (codes "http://www.loc.gov/zing/srw/diagnostic/"))
     (diagnostic_fields diag)
 
 -- the name of a packing, which is string where records are escaped
@@ -61,7 +62,8 @@ record_at answer position item = element (codes "zs:record") (record_fields answ
 -- records from a position on
 abbrev pub records_from : SruAnswer → ℕ → List SruItem → List ℕ
 records_from answer position [] = []
-records_from answer position (item ∷ items) = record_at answer position item ++ records_from answer (position + 1) items
+records_from answer position (item ∷ items) =
+    record_at answer position item ++ records_from answer (position + 1) items
 
 -- the records, where one is given
 unfoldable pub records : SruAnswer → List ℕ
@@ -71,7 +73,8 @@ records answer =
 
 -- no record is given, or the last one is
 abbrev pub is_last : SruAnswer → Bool
-is_last answer = length answer.items == 0 || nat_lt answer.count (answer.start + length answer.items)
+is_last answer =
+    length answer.items == 0 || nat_lt answer.count (answer.start + length answer.items)
 
 -- the position of the record behind those that are given
 unfoldable pub next_position : SruAnswer → List ℕ
@@ -98,12 +101,14 @@ answered answer (Some diag) = refused diag
 
 -- the version, and what is answered
 unfoldable pub response_fields : SruAnswer → List ℕ
-response_fields answer = element (codes "zs:version") answer.version ++ answered answer answer.refused
+response_fields answer =
+    element (codes "zs:version") answer.version ++ answered answer answer.refused
 
 -- the element of a response
 unfoldable pub root : SruAnswer → List ℕ
 root answer =
-    element_with (codes "zs:searchRetrieveResponse") (attribute (codes "xmlns:zs") (codes "http://www.loc.gov/zing/srw/"))
+    element_with (codes "zs:searchRetrieveResponse")
+    (attribute (codes "xmlns:zs") (codes "http://www.loc.gov/zing/srw/"))
     (response_fields answer)
 
 -- the response

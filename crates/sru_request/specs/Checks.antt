@@ -1,4 +1,5 @@
--- The checks of a request's parameters, in their order, each with the diagnostic that refuses it (SRU 1.2, Request Parameters; the list of diagnostics, info:srw/diagnostic/1)
+-- The checks of a request's parameters, in their order, each with the diagnostic that refuses it
+-- (SRU 1.2, Request Parameters; the list of diagnostics, info:srw/diagnostic/1)
 use Rattle.std.specs.Prelude.{◌≡◌, ◌⊎◌, ℕ, Bool, true, false, ◌||◌, List, [], ◌∷◌, ◌++◌, Option, None, Some, codes, if◌then◌else◌}
 use Rattle.z_types.specs.declared.sru.SruDiag.{SruDiag}
 use Rattle.z_types.specs.declared.schemas.Schema.{Schema}
@@ -43,22 +44,26 @@ unfoldable pub version_faults : List Parameter → List SruDiag
 version_faults given =
     let version = version_of given in
     if is_absent version then diagnostic newest 7 (codes "version") ∷ []
-    else unless (is_same version (codes "1.1") || is_same version newest) (diagnostic newest 5 newest)
+    else unless (is_same version (codes "1.1") || is_same version newest)
+    (diagnostic newest 5 newest)
 
 -- 5: the query is there
 unfoldable pub query_faults : List Parameter → List SruDiag
 query_faults given =
-    if is_absent (value_of (codes "query") given) then diagnostic (version_of given) 7 (codes "query") ∷ [] else []
+    if is_absent (value_of (codes "query") given)
+    then diagnostic (version_of given) 7 (codes "query") ∷ [] else []
 
 -- 6: startRecord
 unfoldable pub start_faults : List Parameter → List SruDiag
 start_faults given =
-    unless_chosen (start_in (value_of (codes "startRecord") given)) (diagnostic (version_of given) 6 (codes "startRecord"))
+    unless_chosen (start_in (value_of (codes "startRecord") given))
+    (diagnostic (version_of given) 6 (codes "startRecord"))
 
 -- 7: maximumRecords
 unfoldable pub maximum_faults : List Parameter → List SruDiag
 maximum_faults given =
-    unless_chosen (maximum_in (value_of (codes "maximumRecords") given)) (diagnostic (version_of given) 6 (codes "maximumRecords"))
+    unless_chosen (maximum_in (value_of (codes "maximumRecords") given))
+    (diagnostic (version_of given) 6 (codes "maximumRecords"))
 
 -- 8: recordPacking
 unfoldable pub packing_faults : List Parameter → List SruDiag
@@ -75,7 +80,8 @@ schema_faults schemas given =
 -- 10: no sortKeys
 unfoldable pub sort_faults : List Parameter → List SruDiag
 sort_faults given =
-    if is_absent (value_of (codes "sortKeys") given) then [] else diagnostic (version_of given) 80 [] ∷ []
+    if is_absent (value_of (codes "sortKeys") given) then []
+    else diagnostic (version_of given) 80 [] ∷ []
 
 -- 11: no other name
 abbrev pub other_faults_by : List ℕ → Option (List ℕ) → List SruDiag
@@ -116,7 +122,8 @@ abbrev pub IsRefusal : List SruDiag → QueryFault → Type 0
 IsRefusal faults e = (e ≡ fault.Memory) ⊎ IsFirst faults e
 
 -- what is asked for
-pub record IsAsked (schemas : List Schema) (given : List Parameter) (asked : SruQuery) : Type 0 where
+pub record IsAsked (schemas : List Schema) (given : List Parameter)
+    (asked : SruQuery) : Type 0 where
   pub version : asked.version ≡ version_of given
   pub query : asked.query ≡ value_of (codes "query") given
   pub start : start_in (value_of (codes "startRecord") given) ≡ Some asked.start

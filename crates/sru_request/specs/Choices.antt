@@ -1,4 +1,5 @@
--- What the values of parameters choose (SRU 1.2, Request Parameters; the limits are this project's own)
+-- What the values of parameters choose (SRU 1.2, Request Parameters; the limits are
+-- this project's own)
 use Rattle.std.specs.Prelude.{ℕ, ◌-◌, Bool, true, false, not, ◌||◌, ◌&&◌, ◌==◌, nat_le, nat_eq, min, List, [], ◌∷◌, length, Option, None, Some, position, codes, if◌then◌else◌}
 use Rattle.std.specs.Char.{is_ascii_digit}
 use Rattle.std.specs.List.{list_all, list_any, starts_with}
@@ -20,7 +21,8 @@ are_digits octets = list_all is_ascii_digit octets
 
 -- a number that is no less than one, and at most 2147483647
 abbrev pub in_range : ℕ → ℕ → Option ℕ
-in_range least number = if nat_le number most_number && nat_le least number then Some number else None
+in_range least number =
+    if nat_le number most_number && nat_le least number then Some number else None
 
 -- a number in decimal, or another where it is absent
 abbrev pub number_in : ℕ → ℕ → List ℕ → Option ℕ
@@ -53,8 +55,8 @@ schema_in schemas value = position (is_of value) schemas
 -- the names that say something
 abbrev pub known_names : List (List ℕ)
 known_names =
-    codes "operation" ∷ codes "version" ∷ codes "query" ∷ codes "startRecord" ∷ codes "maximumRecords"
-    ∷ codes "recordPacking" ∷ codes "recordSchema" ∷ codes "sortKeys" ∷ []
+    codes "operation" ∷ codes "version" ∷ codes "query" ∷ codes "startRecord"
+    ∷ codes "maximumRecords" ∷ codes "recordPacking" ∷ codes "recordSchema" ∷ codes "sortKeys" ∷ []
 
 unfoldable pub is_known : List ℕ → Bool
 is_known name = list_any (is_same name) known_names
@@ -76,4 +78,5 @@ is_other given name = not (is_known name || is_extra name) && not (is_absent (va
 -- the first of those names
 abbrev pub first_other : List Parameter → List Parameter → Option (List ℕ)
 first_other given [] = None
-first_other given (first ∷ rest) = if is_other given first.name then Some first.name else first_other given rest
+first_other given (first ∷ rest) =
+    if is_other given first.name then Some first.name else first_other given rest

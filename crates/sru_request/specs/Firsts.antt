@@ -23,4 +23,5 @@ is_other_in firsts name = not (is_known name || is_extra name) && has_value firs
 -- the table is of these parameters
 abbrev pub IsTableOf : Firsts → List Parameter → Type 0
 IsTableOf firsts given =
-    (name : List ℕ) → tree.get_by (λ k. slice_cmp nat_cmp name k.now) firsts ≡ first_given name given
+    (name : List ℕ)
+    → tree.get_by (λ k. slice_cmp nat_cmp name k.now) firsts ≡ first_given name given

@@ -1,4 +1,5 @@
--- Where the head of a request ends, as it comes on a connection (RFC 9112, 2.1 and 2.2: a line ends in CR LF, or in LF alone)
+-- Where the head of a request ends, as it comes on a connection (RFC 9112, 2.1 and 2.2: a line ends
+-- in CR LF, or in LF alone)
 use Rattle.std.specs.Prelude.{ℕ, Bool, false, List, [], ◌∷◌, Option, None, Some, suc, if◌then◌else◌, ◌==◌, ◌&&◌}
 use Rattle.std.specs.Option.{option_map}
 

@@ -5,7 +5,8 @@ use Rattle.sru_request.specs.declared.head.HeadGot.{HeadGot}
 use Rattle.sru_request.specs.declared.head.HeadGot.TheVariants.{NeedMore}
 use Rattle.sru_request.specs.Request.{IsHeadAnswer}
 
--- what is answered to octets that have a head, or more of them than a head may have, stays whatever follows them
+-- what is answered to octets that have a head, or more of them than a head may have, stays whatever
+-- follows them
 abbrev pub HeadStays : List ℕ → Type 0
 HeadStays octets =
     (more : List ℕ) (answer : Result HeadGot HeadFault)

@@ -1,4 +1,5 @@
--- What a GET asks of the targets, or why it asks nothing (SRU 1.2, searchRetrieve; CQL 1.2, mapped to a query of type 1)
+-- What a GET asks of the targets, or why it asks nothing (SRU 1.2, searchRetrieve; CQL 1.2, mapped
+-- to a query of type 1)
 use Rattle.std.specs.Prelude.{ℕ, ◌||◌, ◌-◌, ◌+◌, Bool, List, [], ◌∷◌, Option, None, Some, Result, Ok, Err, min}
 use Rattle.std.specs.Prelude.{if◌then◌else◌, nat_lt, slice_get, option_map}
 use Rattle.z_types.specs.Bounds.{most_query_depth, most_query_nodes, most_query_cost}
@@ -37,7 +38,8 @@ within_limits version (Some root) =
     else Ok (record { attr_set = bib1_attributes; root = root })
 
 -- a tree's mapping, or the first of its faults
-abbrev pub unless_faulty : (version : List ℕ) → List MapFault → Result RpnQuery SruDiag → Result RpnQuery SruDiag
+abbrev pub unless_faulty : (version : List ℕ) → List MapFault → Result RpnQuery SruDiag
+    → Result RpnQuery SruDiag
 unless_faulty version [] good = good
 unless_faulty version (first ∷ more) good = Err (not_mapped version first)
 
@@ -64,7 +66,8 @@ xml = 1 ∷ 2 ∷ 840 ∷ 10003 ∷ 5 ∷ 109 ∷ 10 ∷ []
 abbrev pub element_of : List Schema → SruQuery → Option (List ℕ)
 element_of schemas asked = option_map (λ schema. schema.element) (slice_get schemas asked.schema)
 
--- how many records are fetched of so many: those from the first that is asked for on, within the maximum
+-- how many records are fetched of so many: those from the first that is asked for on, within the
+-- maximum
 abbrev pub fetched_count : SruQuery → (count : ℕ) → ℕ
 fetched_count asked count = min asked.maximum (count + 1 - asked.start)
 

@@ -1,5 +1,6 @@
--- The course of an HTTP connection (RFC 9112, 2.1; RFC 9110, 15.5.1, 15.5.5 and 15.5.6): one GET is answered, or none.
--- It follows from the octets and the route, whatever the targets answer and under any mark.
+-- The course of an HTTP connection (RFC 9112, 2.1; RFC 9110, 15.5.1, 15.5.5 and 15.5.6): one GET is
+-- answered, or none. It follows from the octets and the route, whatever the targets answer and
+-- under any mark.
 use Rattle.std.specs.Prelude.{◌≡◌, ℕ, List, length, Option, None, Some, Result, Ok, Err}
 use Rattle.std.specs.Option.{option_and_then}
 use Rattle.z_types.specs.declared.marks.End.{End}
@@ -18,8 +19,8 @@ use Rattle.sru_request.specs.Name.{name_of}
 use Rattle.sru_request.specs.Request.{IsHeadAnswer}
 use Rattle.sru_rules.specs.Reading.{Reading, IsReading}
 
--- what comes of a connection: it ends, with a reply without a body or with none; or a GET of this virtual database is
--- answered under the next cause, and then it is closed
+-- what comes of a connection: it ends, with a reply without a body or with none; or a GET of this
+-- virtual database is answered under the next cause, and then it is closed
 pub data Course : Type 0 where
   ends : (last : Option Refusal) (end : End) → Course
   answers : Database → Reading → Course
@@ -35,22 +36,26 @@ GetLeadsTo route get (Some database) whole =
     (reading : Reading) × IsReading route.schemas get reading
     × (whole ≡ answers database reading)
 
--- a head that was read, at the end of so many octets: it has not come; it is none; its method is another; it is a GET
+-- a head that was read, at the end of so many octets: it has not come; it is none; its method is
+-- another; it is a GET
 abbrev pub HeadLeadsTo : Route → ℕ → Result HeadGot HeadFault → Course → Type 0
 HeadLeadsTo route octets (Ok NeedMore) whole = whole ≡ ends None (Cut octets)
 HeadLeadsTo route octets (Err BadHttp) whole = whole ≡ ends (Some BadRequest) (Malformed 0)
 HeadLeadsTo route octets (Err HeadTooLarge) whole = whole ≡ ends (Some BadRequest) (Malformed 0)
 HeadLeadsTo route octets (Err NotGet) whole = whole ≡ ends (Some MethodNotAllowed) Closed
 HeadLeadsTo route octets (Err Memory) whole = ⊥
-HeadLeadsTo route octets (Ok (Got get used)) whole = GetLeadsTo route get (database_of route get) whole
+HeadLeadsTo route octets (Ok (Got get used)) whole =
+    GetLeadsTo route get (database_of route get) whole
 
 -- a GET is of this virtual database, and is read so
-pub record IsGetOf (route : Route) (get : Get) (database : Database) (reading : Reading) : Type 0 where
+pub record IsGetOf (route : Route) (get : Get) (database : Database)
+    (reading : Reading) : Type 0 where
   pub found : database_of route get ≡ Some database
   pub is_reading : IsReading route.schemas get reading
 
 -- the octets, as far as they have come, begin with a GET of this virtual database that is read so
-pub record HasGet (route : Route) (bytes : List ℕ) (database : Database) (reading : Reading) : Type 0 where
+pub record HasGet (route : Route) (bytes : List ℕ) (database : Database)
+    (reading : Reading) : Type 0 where
   pub get : Get
   pub used : ℕ
   pub is_head : IsHeadAnswer bytes (Ok (Got get used))

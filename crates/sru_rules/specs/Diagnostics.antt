@@ -1,5 +1,5 @@
--- What a request is refused for behind its parameters, and what stands in place of a record (SRU 1.2, Diagnostics, and the
--- list of diagnostics, info:srw/diagnostic/1)
+-- What a request is refused for behind its parameters, and what stands in place of a record (SRU
+-- 1.2, Diagnostics, and the list of diagnostics, info:srw/diagnostic/1)
 use Rattle.std.specs.Prelude.{ℕ, List, []}
 use Rattle.std.specs.Fmt.{decimal}
 use Rattle.z_types.specs.declared.diagnostic.Diag.{Diag}

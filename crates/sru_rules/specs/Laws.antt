@@ -51,7 +51,8 @@ HasOneReading =
 -- a connection has one course
 abbrev pub HasOneCourse : Type 0
 HasOneCourse =
-    (route : Route) (bytes : List ℕ) (a b : Course) → IsCourse route bytes a → IsCourse route bytes b → a ≡ b
+    (route : Route) (bytes : List ℕ) (a b : Course) → IsCourse route bytes a
+    → IsCourse route bytes b → a ≡ b
 
 -- ---- of either kind
 
@@ -59,19 +60,24 @@ HasOneCourse =
 abbrev pub HasSomeAnswer : {W : Type 0} → world.Ghosts W → Type 0
 HasSomeAnswer w =
     (route : Route) (bytes : List ℕ)
-    → ¬ ((marks : List Mark) (out : List ℕ) (end : End) → AreMarksPlain marks → ¬ Answers w route bytes marks out end)
+    → ¬ ((marks : List Mark) (out : List ℕ) (end : End) → AreMarksPlain marks
+    → ¬ Answers w route bytes marks out end)
 
--- the same octets, twice answered with every mark Plain, have the same marks, the same octets written and the same end
+-- the same octets, twice answered with every mark Plain, have the same marks, the same octets
+-- written and the same end
 abbrev pub HasOneAnswer : {W : Type 0} → world.Ghosts W → Type 0
 HasOneAnswer w =
-    (route : Route) (bytes : List ℕ) (marks others : List Mark) (out other_out : List ℕ) (end other_end : End)
+    (route : Route) (bytes : List ℕ) (marks others : List Mark) (out other_out : List ℕ)
+    (end other_end : End)
     → Answers w route bytes marks out end → Answers w route bytes others other_out other_end
-    → AreMarksPlain marks → AreMarksPlain others → (marks ≡ others) × (out ≡ other_out) × (end ≡ other_end)
+    → AreMarksPlain marks → AreMarksPlain others
+    → (marks ≡ others) × (out ≡ other_out) × (end ≡ other_end)
 
 -- the same octets, twice answered, have the same end, whatever the targets and the marks
 abbrev pub HasOneEnd : {V W : Type 0} → world.Ghosts V → world.Ghosts W → Type 0
 HasOneEnd v w =
-    (route : Route) (bytes : List ℕ) (marks others : List Mark) (out other_out : List ℕ) (end other_end : End)
+    (route : Route) (bytes : List ℕ) (marks others : List Mark) (out other_out : List ℕ)
+    (end other_end : End)
     → Answers v route bytes marks out end → Answers w route bytes others other_out other_end
     → end ≡ other_end
 
@@ -83,17 +89,21 @@ AnswersEndSo w =
 
 -- ---- the answer to what has come, whatever comes behind it
 
--- the answer to a GET under a cause that may come is the answer to its connection, under that one mark
+-- the answer to a GET under a cause that may come is the answer to its connection, under that one
+-- mark
 abbrev pub GetIsAnswered : {W : Type 0} → world.Ghosts W → Type 0
 GetIsAnswered w =
     (route : Route) (bytes more : List ℕ) (database : Database) (reading : Reading) (cause : Cause)
-    → kind_of bytes ≡ letter → HasGet route bytes database reading → IsAllowed (taken_at route database reading cause)
-    → Answers w route (bytes ++ more) (cause.mark ∷ []) (reply (get_answer w route database reading cause)) Closed
+    → kind_of bytes ≡ letter → HasGet route bytes database reading
+    → IsAllowed (taken_at route database reading cause)
+    → Answers w route (bytes ++ more) (cause.mark ∷ [])
+    (reply (get_answer w route database reading cause)) Closed
 
 -- where a head has come that leads to an end, its bare reply is the answer, under no mark
 abbrev pub HeadIsRefused : {W : Type 0} → world.Ghosts W → Type 0
 HeadIsRefused w =
-    (route : Route) (bytes more : List ℕ) (head : Result HeadGot HeadFault) (last : Option Refusal) (end : End)
+    (route : Route) (bytes more : List ℕ) (head : Result HeadGot HeadFault)
+    (last : Option Refusal) (end : End)
     → kind_of bytes ≡ letter → IsHeadAnswer bytes head → head ≢ Ok NeedMore
     → HeadLeadsTo route (length bytes) head (ends last end)
     → Answers w route (bytes ++ more) [] (last_written last) end
@@ -115,15 +125,17 @@ GetStays =
 -- where the search ends the GET, under any cause, that is the answer to it
 abbrev pub SearchAnswers : {W : Type 0} → world.Ghosts W → Type 0
 SearchAnswers w =
-    (route : Route) (database : Database) (reading : Reading) (retrieval : Retrieval) (cause : Cause)
-    (answer : SruAnswer) → due route database reading ≡ searches retrieval
+    (route : Route) (database : Database) (reading : Reading) (retrieval : Retrieval)
+    (cause : Cause) (answer : SruAnswer) → due route database reading ≡ searches retrieval
     → next_of w route retrieval cause ≡ answered answer
     → answer ≡ get_answer w route database reading cause
 
--- where the fetch ends it, under any cause, that is the answer to it: a mark that comes only then is that of both works
+-- where the fetch ends it, under any cause, that is the answer to it: a mark that comes only then
+-- is that of both works
 abbrev pub FetchAnswers : {W : Type 0} → world.Ghosts W → Type 0
 FetchAnswers w =
-    (route : Route) (database : Database) (reading : Reading) (retrieval : Retrieval) (hits : List ℕ) (cause : Cause)
+    (route : Route) (database : Database) (reading : Reading) (retrieval : Retrieval)
+    (hits : List ℕ) (cause : Cause)
     → due route database reading ≡ searches retrieval → HasFound w route retrieval hits
     → fetch_answer route.schemas retrieval.asked (total hits)
     (outcome_of w route (fetch_work route.schemas retrieval hits) cause)
@@ -155,8 +167,8 @@ FetchAsksNoMore =
 abbrev pub GetIsRetrieval : Type 0
 GetIsRetrieval =
     (route : Route) (get : Get) (database : Database) (reading : Reading) (retrieval : Retrieval)
-    → IsSound route → IsGetOf route get database reading → due route database reading ≡ searches retrieval
-    → IsRetrieval retrieval
+    → IsSound route → IsGetOf route get database reading
+    → due route database reading ≡ searches retrieval → IsRetrieval retrieval
 
 -- the search can begin
 abbrev pub SearchCanBegin : Type 0
@@ -169,5 +181,7 @@ abbrev pub FetchCanBegin : Type 0
 FetchCanBegin =
     (route : Route) (retrieval : Retrieval) (hits : List ℕ)
     → IsSound route → IsRetrieval retrieval → length hits ≡ length retrieval.legs
-    → after_hits route.schemas retrieval hits ≡ fetches hits (fetch_work route.schemas retrieval hits)
-    → CanBegin (fetch_work route.schemas retrieval hits) × IsAskable (fetch_work route.schemas retrieval hits)
+    → after_hits route.schemas retrieval hits
+    ≡ fetches hits (fetch_work route.schemas retrieval hits)
+    → CanBegin (fetch_work route.schemas retrieval hits)
+    × IsAskable (fetch_work route.schemas retrieval hits)

@@ -1,4 +1,5 @@
--- A GET answered under a cause, which both its works share, and an HTTP connection under causes (this project's own)
+-- A GET answered under a cause, which both its works share, and an HTTP connection under causes
+-- (this project's own)
 use Rattle.std.specs.Prelude.{ℕ, List, [], ◌∷◌, Option, None, Some, Result, Ok, Err}
 use Rattle.z_types.specs.MergedOrder.{total}
 use Rattle.z_types.specs.declared.marks.End.TheVariants.{Closed}
@@ -37,7 +38,8 @@ due_by database asked (Ok query) =
 -- what a GET of a virtual database is due
 abbrev pub due : Route → Database → Reading → Due
 due route database (refused diag) = at_once (refusal diag)
-due route database (taken asked text) = due_by database asked (rpn_of asked.version route.indexes text)
+due route database (taken asked text) =
+    due_by database asked (rpn_of asked.version route.indexes text)
 
 -- what follows the search under a cause
 abbrev pub next_of : {W : Type 0} → world.Ghosts W → Route → Retrieval → Cause → Next
@@ -57,7 +59,8 @@ answer_to w route cause (searches retrieval) =
     next_answer w route retrieval.asked cause (next_of w route retrieval cause)
 
 -- the answer to a GET of a database under a cause
-abbrev pub get_answer : {W : Type 0} → world.Ghosts W → Route → Database → Reading → Cause → SruAnswer
+abbrev pub get_answer : {W : Type 0} → world.Ghosts W → Route → Database → Reading
+    → Cause → SruAnswer
 get_answer w route database reading cause = answer_to w route cause (due route database reading)
 
 -- the names of the classes that a GET asks: those of its search, among which are those of its fetch
@@ -88,7 +91,8 @@ taken_at route database reading cause =
 abbrev pub run : {W : Type 0} → world.Ghosts W → Route → Course → List Cause → Run
 run w route (ends last end) causes =
     record { out = last_written last; taken = []; left = causes; stop = over end }
-run w route (answers database reading) [] = record { out = []; taken = []; left = []; stop = wanting }
+run w route (answers database reading) [] =
+    record { out = []; taken = []; left = []; stop = wanting }
 run w route (answers database reading) (cause ∷ causes) = record {
   out = reply (get_answer w route database reading cause);
   taken = taken_at route database reading cause ∷ [];

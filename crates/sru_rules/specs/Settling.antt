@@ -1,4 +1,5 @@
--- What a GET is answered by what came of its works (SRU 1.2, Response Parameters, Records, Diagnostics)
+-- What a GET is answered by what came of its works (SRU 1.2, Response Parameters, Records,
+-- Diagnostics)
 use Rattle.std.specs.Prelude.{ℕ, ◌==◌, Bool, false, List, [], Option, None, Some, map, max, nat_lt, slice_get}
 use Rattle.std.specs.Prelude.{if◌then◌else◌}
 use Rattle.z_types.specs.MergedOrder.{total}
@@ -59,7 +60,8 @@ given schemas asked count items = record {
 
 -- a record in a form: XML stands as octets
 abbrev pub data_in : (version syntax : List ℕ) → Form → (octets : List ℕ) → SruItem
-data_in version syntax Octets octets = if is_same syntax xml then Data octets else Fault (not_in_schema version)
+data_in version syntax Octets octets =
+    if is_same syntax xml then Data octets else Fault (not_in_schema version)
 data_in version syntax other octets = Fault (not_in_schema version)
 
 -- what stands for an item that a target gave
@@ -76,7 +78,8 @@ items_of version records = map (λ found. item_of version found.item) records
 -- the records that were fetched, or a diagnostic of all of them
 abbrev pub with_records : List Schema → SruQuery → (count : ℕ) → Fetched → SruAnswer
 with_records schemas asked count fetched.None = given schemas asked count []
-with_records schemas asked count (fetched.Records records) = given schemas asked count (items_of asked.version records)
+with_records schemas asked count (fetched.Records records) =
+    given schemas asked count (items_of asked.version records)
 with_records schemas asked count (fetched.Whole diag) = refusal (of_target asked.version diag)
 
 -- a diagnostic of a target or of a mark is the answer; else what follows
@@ -105,11 +108,14 @@ is_out_of_range asked count = nat_lt (max count 1) asked.start
 abbrev pub after_hits : List Schema → Retrieval → (hits : List ℕ) → Next
 after_hits schemas retrieval hits =
     let asked = retrieval.asked in
-    if is_out_of_range asked (total hits) then answered (refusal (out_of_range asked.version asked.start))
-    else if fetched_count asked (total hits) == 0 then answered (given schemas asked (total hits) [])
+    if is_out_of_range asked (total hits)
+    then answered (refusal (out_of_range asked.version asked.start))
+    else if fetched_count asked (total hits) == 0
+    then answered (given schemas asked (total hits) [])
     else fetches hits (fetch_work schemas retrieval hits)
 
 -- what follows what came of the search
 abbrev pub after_search : List Schema → Retrieval → Outcome → Next
 after_search schemas retrieval got =
-    unless_failed answered retrieval.asked.version (why_failed got) (after_hits schemas retrieval (found_hits got))
+    unless_failed answered retrieval.asked.version (why_failed got)
+    (after_hits schemas retrieval (found_hits got))

@@ -1,4 +1,5 @@
--- What a link of the edge tells: one with a test target what that link tells, a socket nothing but what arrived (this project's own)
+-- What a link of the edge tells: one with a test target what that link tells, a socket nothing but
+-- what arrived (this project's own)
 use Rattle.std.specs.Prelude.{ℕ, List, [], Option, None, Some}
 use Rattle.gw_outside.specs.Peers.{Peer}
 use Rattle.test_wire.specs.Links.{peer_of, delays_of}

@@ -6,7 +6,8 @@ use Rattle.test_wire.specs.declared.wires.TestWire.{TestWire}
 use Rattle.test_wire.specs.Wires.{happened_of, steadily}
 use Rattle.tcp_edge.specs.declared.tally.Tally.{Tally}
 
--- it does not read what is sent and what arrives: Searches, and replies that a set is gone, are counted by the sessions over it
+-- it does not read what is sent and what arrives: Searches, and replies that a set is gone, are
+-- counted by the sessions over it
 abbrev pub counts_in : Tally → Counts
 counts_in tally = record {
   faults = tally.faults;

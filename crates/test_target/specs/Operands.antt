@@ -1,4 +1,5 @@
--- What an operand asks the test target n for (this project's own; Use is of ANSI/NISO Z39.50-2003, appendix ATR)
+-- What an operand asks the test target n for (this project's own; Use is of ANSI/NISO Z39.50-2003,
+-- appendix ATR)
 use Rattle.std.specs.Prelude.{ℕ, ◌+◌, ◌%◌, ◌==◌, Bool, List, [], ◌∷◌, sum, find}
 use Rattle.std.specs.List.{list_any}
 use Rattle.std.specs.Option.{option_map_or}

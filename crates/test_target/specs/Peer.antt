@@ -1,4 +1,5 @@
--- How the peer of the test target n answers (ANSI/NISO Z39.50-2003, 3.2.1 to 3.2.3, 3.2.8 and 3.2.11; how many records it gives is this project's own)
+-- How the peer of the test target n answers (ANSI/NISO Z39.50-2003, 3.2.1 to 3.2.3, 3.2.8 and
+-- 3.2.11; how many records it gives is this project's own)
 use Rattle.std.specs.Prelude.{ℕ, zero, suc, ◌+◌, ◌-◌, ◌==◌, ◌&&◌, ℤ, pos, negsuc, bit_and, not, true, false, List, [], ◌∷◌, length, map, filter, min, Option, None, Some, Result, Ok, Err, nat_le, if◌then◌else◌}
 use Rattle.z_types.specs.Bib1.{bib1}
 use Rattle.z_types.specs.Bounds.{most_unit_octets}
@@ -56,7 +57,8 @@ searched ref_id (Ok hits) = reply.Search ref_id hits 0 (first_position hits) tru
 searched ref_id (Err diag) = search_failed ref_id diag
 
 abbrev pub search_reply : ℕ → Search → Asked RpnQuery → Reply
-search_reply n asked (Good query) = searched asked.ref_id (search_at n (record { dbs = asked.dbs; query = query }))
+search_reply n asked (Good query) =
+    searched asked.ref_id (search_at n (record { dbs = asked.dbs; query = query }))
 search_reply n asked (Bad diag) = search_failed asked.ref_id diag
 
 -- the sets of all names but one
@@ -92,7 +94,8 @@ with_record (Err diag) items = []
 -- `count` records from a position on, up to one that is refused
 abbrev pub given : (ℕ → Result Item Diag) → ℕ → ℕ → List Item
 given record_at first zero = []
-given record_at first (suc count) = with_record (record_at first) (given record_at (first + 1) count)
+given record_at first (suc count) =
+    with_record (record_at first) (given record_at (first + 1) count)
 
 -- the position behind the last record of a reply, where there is a record
 abbrev pub next_position : ℕ → ℕ → ℕ
@@ -115,12 +118,14 @@ records_reply present first hits records =
 -- the diagnostic in place of the first record, or it and those behind it
 abbrev pub presented : Present → ℕ → ℕ → Result Item Diag → List Item → Reply
 presented present first hits (Err diag) items = present_failed present.ref_id diag
-presented present first hits (Ok item) items = records_reply present first hits (map unnamed (item ∷ items))
+presented present first hits (Ok item) items =
+    records_reply present first hits (map unnamed (item ∷ items))
 
 -- the position of the first record, where all that is asked for is within the hits
 abbrev pub first_within : ℤ → ℕ → ℕ → Option ℕ
 first_within (pos first) number hits =
-    if nat_le 1 first && nat_le 1 number && nat_le (first + number) (hits + 1) then Some first else None
+    if nat_le 1 first && nat_le 1 number && nat_le (first + number) (hits + 1)
+    then Some first else None
 first_within (negsuc n) number hits = None
 
 abbrev pub hits_or_none : Result ℕ Diag → ℕ
@@ -132,18 +137,23 @@ hits_of n key = hits_or_none (search_at n key)
 
 -- the records from a position on, as many as a reply takes
 abbrev pub reply_from : ℕ → Present → Option (List ℕ) → SetKey → Option ℕ → Reply
-reply_from n present element key None = present_failed present.ref_id (bib1 PresentRequestOutOfRange [])
+reply_from n present element key None =
+    present_failed present.ref_id (bib1 PresentRequestOutOfRange [])
 reply_from n present element key (Some first) =
-    let found : ℕ → Result Item Diag = λ position. record_at n key position present.syntax element in
-    presented present first (hits_of n key) (found first) (given found (first + 1) (min present.number most_given - 1))
+    let found : ℕ
+    → Result Item Diag = λ position. record_at n key position present.syntax element in
+    presented present first (hits_of n key) (found first)
+    (given found (first + 1) (min present.number most_given - 1))
 
 abbrev pub set_reply : ℕ → Present → Option (List ℕ) → Option SetKey → Reply
-set_reply n present element None = present_failed present.ref_id (bib1 ResultSetDoesNotExist present.set_name)
+set_reply n present element None =
+    present_failed present.ref_id (bib1 ResultSetDoesNotExist present.set_name)
 set_reply n present element (Some key) =
     reply_from n present element key (first_within present.start present.number (hits_of n key))
 
 abbrev pub present_reply : ℕ → List NamedSet → Present → Asked (Option (List ℕ)) → Reply
-present_reply n sets present (Good element) = set_reply n present element (held sets present.set_name)
+present_reply n sets present (Good element) =
+    set_reply n present element (held sets present.set_name)
 present_reply n sets present (Bad diag) = present_failed present.ref_id diag
 
 -- ---- Scan and Close

@@ -1,4 +1,5 @@
--- Which records a query finds at the test target n, in the order of its result set (this project's own)
+-- Which records a query finds at the test target n, in the order of its result set
+-- (this project's own)
 use Rattle.std.specs.Prelude.{ℕ, ◌+◌, Bool, List, [], ◌∷◌, map, take, unwrap_or, if◌then◌else◌}
 use Rattle.std.specs.List.{flat_map}
 use Rattle.z_types.specs.declared.key.SetKey.{SetKey}
@@ -17,7 +18,8 @@ places n key = flat_map (λ name. of_database name (found_in n key.query.root na
 -- the numbers of what is marked, counted from here on
 abbrev pub marked : ℕ → List Bool → List ℕ
 marked number [] = []
-marked number (is_found ∷ found) = if is_found then number ∷ marked (number + 1) found else marked (number + 1) found
+marked number (is_found ∷ found) =
+    if is_found then number ∷ marked (number + 1) found else marked (number + 1) found
 
 -- what is found of a database, by which of the first records are found in any
 abbrev pub places_of : ℕ → List Bool → List ℕ → List Location

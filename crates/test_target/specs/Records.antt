@@ -20,12 +20,14 @@ abbrev pub full_text : ℕ → Location → List ℕ
 full_text n place =
     decimal n ++ 46 ∷ [] ++ place.name ++ 46 ∷ [] ++ decimal place.number
 
--- the text of a record in an element set: F, dc and none are full, B is the number, and there is no other
+-- the text of a record in an element set: F, dc and none are full, B is the number, and there is no
+-- other
 abbrev pub text_in : ℕ → Location → Option (List ℕ) → Result (List ℕ) Diag
 text_in n place None = Ok (full_text n place)
 text_in n place (Some element) =
     if is_same element (codes "F") || is_same element (codes "dc") then Ok (full_text n place)
-    else (if is_same element (codes "B") then Ok (decimal place.number) else Err (bib1 ElementSetNameNotValid element))
+    else (if is_same element (codes "B") then Ok (decimal place.number)
+    else Err (bib1 ElementSetNameNotValid element))
 
 -- a text that has a length of one octet, where there is one
 abbrev pub IsShort : TargetAnswer (List ℕ) → Type 0
@@ -36,7 +38,8 @@ IsShort Memory = Unit {0}
 -- record 13 of Default is a diagnostic in its place
 abbrev pub shown_at : Location → Item → Item
 shown_at place item =
-    if is_same place.name (codes "Default") && (place.number == 13) then Surrogate (bib1 TemporarySystemError (codes "13")) else item
+    if is_same place.name (codes "Default") && (place.number == 13)
+    then Surrogate (bib1 TemporarySystemError (codes "13")) else item
 
 -- the record in its form, or the diagnostic of its syntax, or else of its element set
 abbrev pub written : Location → Result Syntax Diag → Result (List ℕ) Diag → Result Item Diag
@@ -51,4 +54,5 @@ record_in n (Some place) syntax element = written place (syntax_in syntax) (text
 
 -- the record at a position, counted from 1, in a syntax and an element set
 abbrev pub record_at : ℕ → SetKey → ℕ → Option (List ℕ) → Option (List ℕ) → Result Item Diag
-record_at n key position syntax element = record_in n (slice_get (places n key) (position - 1)) syntax element
+record_at n key position syntax element =
+    record_in n (slice_get (places n key) (position - 1)) syntax element

@@ -1,4 +1,5 @@
--- What a search finds at the test target n (this project's own; the operators are of ANSI/NISO Z39.50-2003, RPNStructure)
+-- What a search finds at the test target n (this project's own; the operators are of ANSI/NISO
+-- Z39.50-2003, RPNStructure)
 use Rattle.std.specs.Prelude.{ℕ, ◌+◌, ◌%◌, ◌==◌, ◌&&◌, ◌||◌, not, Bool, false, List, length, filter, sum_by, take, min, Option, Some, None, option_map, unwrap_or, Result, Ok, Err, if◌then◌else◌}
 use Rattle.std.specs.Option.{option_or}
 use Rattle.std.specs.List.{range_with_len}
@@ -24,7 +25,8 @@ finds n (and_not l r) i = finds n l i && not (finds n r i)
 abbrev pub use_fault : ℕ → Option Diag
 use_fault value = if is_use value then None else Some (bib1 UnsupportedUseAttribute (decimal value))
 
--- the first operand from the left that cannot be answered: of a Use that is not there, or a result set
+-- the first operand from the left that cannot be answered: of a Use that is not there, or a result
+-- set
 abbrev pub operand_fault : Tree → Option Diag
 operand_fault (leaf attrs term) = use_fault (use_of attrs)
 operand_fault (operand name) = Some (bib1 ResultSetDoesNotExist name)
@@ -42,7 +44,8 @@ found_in n tree name = filter (finds n tree) (range_with_len 1 (unwrap_or (size_
 
 -- how many of the first records of a database are found, by which are found in any
 abbrev pub found_of : ℕ → List Bool → List ℕ → ℕ
-found_of n found name = length (filter (λ is_found. is_found) (take (unwrap_or (size_of n name) 0) found))
+found_of n found name =
+    length (filter (λ is_found. is_found) (take (unwrap_or (size_of n name) 0) found))
 
 -- how many records are found; a database that is named again counts again
 abbrev pub hits : ℕ → Tree → List (List ℕ) → ℕ
@@ -56,4 +59,5 @@ answer_unless None answer = Ok answer
 -- the hits of a search, or the diagnostic of its databases, or else of its query
 abbrev pub search_at : ℕ → SetKey → Result ℕ Diag
 search_at n key =
-    answer_unless (option_or (database_fault n key.dbs) (operand_fault key.query.root)) (hits n key.query.root key.dbs)
+    answer_unless (option_or (database_fault n key.dbs) (operand_fault key.query.root))
+    (hits n key.query.root key.dbs)

@@ -1,4 +1,5 @@
--- The record syntaxes of the test targets (ANSI/NISO Z39.50-2003, appendix REC; GeneralString of X.690:2021, 8.23)
+-- The record syntaxes of the test targets (ANSI/NISO Z39.50-2003, appendix REC; GeneralString of
+-- X.690:2021, 8.23)
 use Rattle.z_types.specs.Same.{is_same}
 use Rattle.std.specs.Prelude.{ℕ, List, [], ◌∷◌, ◌++◌, length, map, Option, Some, None, Result, Ok, Err, codes, if◌then◌else◌}
 use Rattle.std.specs.List.{join_with_byte}
@@ -29,9 +30,11 @@ abbrev pub syntax_in : Option (List ℕ) → Result Syntax Diag
 syntax_in None = Ok Xml
 syntax_in (Some syntax) =
     if is_same syntax xml then Ok Xml
-    else (if is_same syntax sutrs then Ok Sutrs else Err (bib1 RecordSyntaxNotSupported (dotted syntax)))
+    else (if is_same syntax sutrs then Ok Sutrs
+    else Err (bib1 RecordSyntaxNotSupported (dotted syntax)))
 
--- a text of fewer than 128 octets in a syntax: as an XML element, or as a GeneralString, whose tag is universal 27
+-- a text of fewer than 128 octets in a syntax: as an XML element, or as a GeneralString, whose tag
+-- is universal 27
 abbrev pub in_syntax : Syntax → List ℕ → Item
 in_syntax Xml text = Record xml Octets (codes "<r>" ++ text ++ codes "</r>")
 in_syntax Sutrs text = Record sutrs Single (27 ∷ length text ∷ text)

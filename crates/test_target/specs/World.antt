@@ -1,4 +1,5 @@
--- What the test targets mean: the built-in target n answers as below, inside a login as the target of another number, and no other can be asked here (this project's own)
+-- What the test targets mean: the built-in target n answers as below, inside a login as the target
+-- of another number, and no other can be asked here (this project's own)
 use Rattle.std.specs.Prelude.{ℕ, ◌+◌, ◌%◌, List, [], sum, Option, None, Some, Result, Err}
 use Rattle.z_types.specs.declared.address.Address.{Address}
 use Rattle.z_types.specs.declared.address.Address.TheVariants.{Test, Tcp, Login}
@@ -42,7 +43,8 @@ answer_of answer (Some n) = answer n
 abbrev pub search_of : Address → SetKey → Result ℕ Diag
 search_of address key = answer_of (λ n. search_at n key) (number_at address)
 
--- the record at a position, from 1 to the hits, in a syntax and an element set, or the diagnostic of the whole
+-- the record at a position, from 1 to the hits, in a syntax and an element set, or the diagnostic
+-- of the whole
 abbrev pub record_of : Address → SetKey → ℕ → Option (List ℕ) → Option (List ℕ) → Result Item Diag
 record_of address key position syntax element =
     answer_of (λ n. record_at n key position syntax element) (number_at address)

@@ -18,13 +18,16 @@ use Rattle.test_target.specs.Syntaxes.{syntax_in, xml, sutrs}
 use Rattle.test_target.specs.Records.{text_in, written, record_in, record_at}
 use Rattle.test_target.specs.World.{number_at, answer_of, told_of, search_of, record_of}
 
-hits_within : (fault : Option Diag) (sum : ℕ) → IfOk (answer_unless fault (min sum most_number)) (λ count. count ≤ most_number)
+hits_within : (fault : Option Diag) (sum : ℕ)
+    → IfOk (answer_unless fault (min sum most_number)) (λ count. count ≤ most_number)
 hits_within (Some diag) sum = tt
 hits_within None sum = omega arith
 
-counted_at : (number : Option ℕ) (key : SetKey) → IfOk (answer_of (λ n. search_at n key) number) (λ hits. hits ≤ most_number)
+counted_at : (number : Option ℕ) (key : SetKey)
+    → IfOk (answer_of (λ n. search_at n key) number) (λ hits. hits ≤ most_number)
 counted_at None key = tt
-counted_at (Some n) key = hits_within (option_or (database_fault n key.dbs) (operand_fault key.query.root)) _
+counted_at (Some n) key =
+    hits_within (option_or (database_fault n key.dbs) (operand_fault key.query.root)) _
 
 pub hits_are_counts : HitsAreCounts search_of
 hits_are_counts address key = counted_at (number_at address) key
@@ -40,11 +43,13 @@ inner_is_told (Login (site.Tcp host port) login) h = h
 abbrev NotGone : {T : Type 0} → Result T Diag → Type 0
 NotGone answer = IfErr answer (λ diag. is_gone diag ≡ false)
 
-either_not_gone : {T : Type 0} (b : Bool) (x y : Result T Diag) → NotGone x → NotGone y → NotGone (cond b x y)
+either_not_gone : {T : Type 0} (b : Bool) (x y : Result T Diag) → NotGone x → NotGone y
+    → NotGone (cond b x y)
 either_not_gone true x y p q = p
 either_not_gone false x y p q = q
 
-text_not_gone : (n : ℕ) (place : Location) (element : Option (List ℕ)) → NotGone (text_in n place element)
+text_not_gone : (n : ℕ) (place : Location) (element : Option (List ℕ))
+    → NotGone (text_in n place element)
 text_not_gone n place None = tt
 text_not_gone n place (Some element) =
     either_not_gone (is_same element (codes "F") || is_same element (codes "dc")) _ _ tt
@@ -61,14 +66,19 @@ written_not_gone place (Err diag) text p q = p
 written_not_gone place (Ok syntax) (Err diag) p q = q
 written_not_gone place (Ok syntax) (Ok text) p q = tt
 
-record_not_gone : (n : ℕ) (place : Option Location) (syntax element : Option (List ℕ)) → NotGone (record_in n place syntax element)
+record_not_gone : (n : ℕ) (place : Option Location) (syntax element : Option (List ℕ))
+    → NotGone (record_in n place syntax element)
 record_not_gone n None syntax element = refl
 record_not_gone n (Some place) syntax element =
-    written_not_gone place (syntax_in syntax) (text_in n place element) (syntax_not_gone syntax) (text_not_gone n place element)
+    written_not_gone place (syntax_in syntax) (text_in n place element) (syntax_not_gone syntax)
+    (text_not_gone n place element)
 
-not_gone_at : (number : Option ℕ) (key : SetKey) (position : ℕ) (syntax element : Option (List ℕ)) → NotGone (answer_of (λ n. record_at n key position syntax element) number)
+not_gone_at : (number : Option ℕ) (key : SetKey) (position : ℕ) (syntax element : Option (List ℕ))
+    → NotGone (answer_of (λ n. record_at n key position syntax element) number)
 not_gone_at None key position syntax element = refl
-not_gone_at (Some n) key position syntax element = record_not_gone n (slice_get (places n key) (position - 1)) syntax element
+not_gone_at (Some n) key position syntax element =
+    record_not_gone n (slice_get (places n key) (position - 1)) syntax element
 
 pub whole_is_not_gone : WholeIsNotGone record_of
-whole_is_not_gone address key position syntax element = not_gone_at (number_at address) key position syntax element
+whole_is_not_gone address key position syntax element =
+    not_gone_at (number_at address) key position syntax element

@@ -31,20 +31,26 @@ peer_of peer owed = record {
 abbrev pub delays_of : List OwedReply → List ℕ
 delays_of owed = map (λ o. o.looks) owed
 
--- a target's end takes a request: it answers with the sets that the request finds, and its reply is owed behind those before it, after as many looks as is stated now
-pub record HasTaken (happening : Happening) (request : Request) (old new : Peer) (before after : List OwedReply) : Type 0 where
+-- a target's end takes a request: it answers with the sets that the request finds, and its reply is
+-- owed behind those before it, after as many looks as is stated now
+pub record HasTaken (happening : Happening) (request : Request) (old new : Peer)
+    (before after : List OwedReply) : Type 0 where
   pub target : new.target ≡ old.target
-  pub sets : new.sets.items ≡ sets_after (number_inside old.login old.target) (sets_found happening request old.sets.items) request
+  pub sets : new.sets.items ≡ sets_after (number_inside old.login old.target)
+      (sets_found happening request old.sets.items) request
   pub last : OwedReply
   pub owed : after ≡ before ++ last ∷ []
   pub login : new.login ≡ login_after old.login request last.reply
-  pub reply : last.reply ≡ reply_to (number_inside old.login old.target) (sets_found happening request old.sets.items) request
+  pub reply : last.reply ≡ reply_to (number_inside old.login old.target)
+      (sets_found happening request old.sets.items) request
   pub looks : last.looks ≡ happening.delay
 
 -- so does it take what was sent, where that is a request
-abbrev pub SendTakes : List ℕ → Happening → (old new : Peer) → List OwedReply → List OwedReply → Sent → Type 0
+abbrev pub SendTakes : List ℕ → Happening → (old new : Peer) → List OwedReply → List OwedReply
+    → Sent → Type 0
 SendTakes octets happening old new before after sent.Sent =
-    (request : Request) → IsRequestUnit octets request → HasTaken happening request old new before after
+    (request : Request) → IsRequestUnit octets request
+    → HasTaken happening request old new before after
 SendTakes octets happening old new before after sent.Failed = (new ≡ old) × (after ≡ before)
 SendTakes octets happening old new before after sent.Memory = Unit {0}
 

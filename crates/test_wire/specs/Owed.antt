@@ -12,9 +12,11 @@ pub record OwedReply : Type 0 where
 abbrev pub IsUnitOf : OwedReply → Type 0
 IsUnitOf owed = IsReplyUnit owed.octets owed.reply
 
--- what a look finds of the replies that are owed: the first, once no look is to find nothing before it; each other look is counted
+-- what a look finds of the replies that are owed: the first, once no look is to find nothing before
+-- it; each other look is counted
 abbrev pub IsNextOwed : List OwedReply → List OwedReply → Option OwedReply → Type 0
 IsNextOwed [] new None = new ≡ []
 IsNextOwed [] new (Some found) = ⊥
-IsNextOwed (first ∷ rest) new None = (0 < first.looks) × (new ≡ record first { looks = first.looks - 1 } ∷ rest)
+IsNextOwed (first ∷ rest) new None =
+    (0 < first.looks) × (new ≡ record first { looks = first.looks - 1 } ∷ rest)
 IsNextOwed (first ∷ rest) new (Some found) = (first.looks ≡ 0) × (found ≡ first) × (new ≡ rest)

@@ -1,4 +1,5 @@
--- What a steady wire to the test targets counts, and what was made to happen to its links (this project's own)
+-- What a steady wire to the test targets counts, and what was made to happen to its links
+-- (this project's own)
 use Rattle.gw_outside.specs.Counts.{Counts}
 use Rattle.gw_outside.specs.Happened.{Happened}
 use Rattle.test_wire.specs.declared.steady.SteadyWire.{SteadyWire}

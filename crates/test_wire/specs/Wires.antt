@@ -1,5 +1,5 @@
--- What a wire to the test targets counts, and what was made to happen to its links, some of whose calls are to fail (this
--- project's own)
+-- What a wire to the test targets counts, and what was made to happen to its links, some of whose
+-- calls are to fail (this project's own)
 use Rattle.std.specs.Prelude.{ℕ, Bool, true, false, List, [], ◌∷◌}
 use Rattle.gw_outside.specs.Counts.{Counts}
 use Rattle.gw_outside.specs.Happened.{Happened}

@@ -1,4 +1,5 @@
--- Fields of a unit as they are written (ANSI/NISO Z39.50-2003, the definition of APDUs; X.690:2021, 8.14): context tags in place of the types' own
+-- Fields of a unit as they are written (ANSI/NISO Z39.50-2003, the definition of APDUs; X.690:2021,
+-- 8.14): context tags in place of the types' own
 use Rattle.std.specs.Prelude.{ℕ, pos, ℤ, Bool, true, false, List, [], Option, None, Some}
 use Rattle.z_ber.specs.declared.tag.Tag.{Tag}
 use Rattle.z_ber.specs.Written.{element, int_octets, bool_octets, bits_octets, oid_octets}

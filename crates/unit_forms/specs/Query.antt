@@ -31,11 +31,13 @@ attr_octets attr = element sequence (attr_fields attr)
 
 -- AttributesPlusTerm: the attributes and the term
 abbrev pub attributes_plus_term : List Attr → Term → List ℕ
-attributes_plus_term attrs term = tree_field tag.attribute_list (flat_map attr_octets attrs) ++ term_octets term
+attributes_plus_term attrs term =
+    tree_field tag.attribute_list (flat_map attr_octets attrs) ++ term_octets term
 
 -- AttributesPlusTerm, as an operand
 unfoldable pub leaf_octets : List Attr → Term → List ℕ
-leaf_octets attrs term = tree_field tag.operand (tree_field tag.attributes_plus_term (attributes_plus_term attrs term))
+leaf_octets attrs term =
+    tree_field tag.operand (tree_field tag.attributes_plus_term (attributes_plus_term attrs term))
 
 -- Operator: and, or, and-not
 abbrev pub operator_octets : ℕ → List ℕ
@@ -45,9 +47,13 @@ operator_octets number = tree_field tag.operator (octets_field number [])
 unfoldable pub tree_octets : Tree → List ℕ
 tree_octets (leaf attrs term) = leaf_octets attrs term
 tree_octets (operand name) = tree_field tag.operand (octets_field tag.result_set_id name)
-tree_octets (and l r) = tree_field tag.rpn_rpn_op (tree_octets l ++ tree_octets r ++ operator_octets tag.and_operator)
-tree_octets (or l r) = tree_field tag.rpn_rpn_op (tree_octets l ++ tree_octets r ++ operator_octets tag.or_operator)
-tree_octets (and_not l r) = tree_field tag.rpn_rpn_op (tree_octets l ++ tree_octets r ++ operator_octets tag.and_not_operator)
+tree_octets (and l r) =
+    tree_field tag.rpn_rpn_op (tree_octets l ++ tree_octets r ++ operator_octets tag.and_operator)
+tree_octets (or l r) =
+    tree_field tag.rpn_rpn_op (tree_octets l ++ tree_octets r ++ operator_octets tag.or_operator)
+tree_octets (and_not l r) =
+    tree_field tag.rpn_rpn_op
+    (tree_octets l ++ tree_octets r ++ operator_octets tag.and_not_operator)
 
 -- RPNQuery: the attribute set and the structure
 abbrev pub rpn_fields : RpnQuery → List ℕ

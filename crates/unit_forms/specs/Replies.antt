@@ -1,4 +1,5 @@
--- Replies as they are written (ANSI/NISO Z39.50-2003, InitializeResponse, SearchResponse, PresentResponse, ScanResponse and Close)
+-- Replies as they are written (ANSI/NISO Z39.50-2003, InitializeResponse, SearchResponse,
+-- PresentResponse, ScanResponse and Close)
 use Rattle.std.specs.Prelude.{ℕ, Bool, List, [], ◌∷◌, ◌++◌, Option, codes, length}
 use Rattle.std.specs.List.{flat_map}
 use Rattle.z_types.specs.declared.diagnostic.Diag.{Diag}
@@ -23,7 +24,8 @@ implementation_fields =
 
 -- the fields of an InitializeResponse
 abbrev pub init_reply_fields : Init → Bool → List ℕ
-init_reply_fields init result = init_fields init ++ boolean_field tag.init_result result ++ implementation_fields
+init_reply_fields init result =
+    init_fields init ++ boolean_field tag.init_result result ++ implementation_fields
 
 -- the fields of a SearchResponse
 unfoldable pub search_reply_fields : Option (List ℕ) → ℕ → ℕ → ℕ → Bool → Option ℕ → Body → List ℕ
@@ -47,7 +49,8 @@ present_reply_fields ref_id returned next status body =
 
 -- the fields of a TermInfo: the term, and in how many records it stands
 abbrev pub term_info_fields : ScanEntry → List ℕ
-term_info_fields entry = term_octets entry.term ++ optional (number_field tag.global_occurrences) entry.occurrences
+term_info_fields entry =
+    term_octets entry.term ++ optional (number_field tag.global_occurrences) entry.occurrences
 
 -- Entry, as a TermInfo
 unfoldable pub entry_octets : ScanEntry → List ℕ
@@ -57,12 +60,14 @@ entry_octets entry = tree_field tag.term_info (term_info_fields entry)
 abbrev pub list_entries_field : List ScanEntry → List Diag → List ℕ
 list_entries_field [] [] = tree_field tag.list_entries []
 list_entries_field [] (diag ∷ diags) = []
-list_entries_field (entry ∷ entries) diags = tree_field tag.list_entries (flat_map entry_octets (entry ∷ entries))
+list_entries_field (entry ∷ entries) diags =
+    tree_field tag.list_entries (flat_map entry_octets (entry ∷ entries))
 
 -- the diagnostics of a ListEntries, where there are some
 abbrev pub scan_diags_field : List Diag → List ℕ
 scan_diags_field [] = []
-scan_diags_field (diag ∷ diags) = tree_field tag.nonsurrogate_diagnostics (flat_map diag_octets (diag ∷ diags))
+scan_diags_field (diag ∷ diags) =
+    tree_field tag.nonsurrogate_diagnostics (flat_map diag_octets (diag ∷ diags))
 
 -- ListEntries
 unfoldable pub list_entries : List ScanEntry → List Diag → List ℕ
@@ -84,5 +89,6 @@ spell_reply (reply.Search ref_id count returned next ok status body) =
     tree_field tag.search_response (search_reply_fields ref_id count returned next ok status body)
 spell_reply (reply.Present ref_id returned next status body) =
     tree_field tag.present_response (present_reply_fields ref_id returned next status body)
-spell_reply (reply.Scan ref_id status answer diags) = tree_field tag.scan_response (scan_reply_fields ref_id status answer diags)
+spell_reply (reply.Scan ref_id status answer diags) =
+    tree_field tag.scan_response (scan_reply_fields ref_id status answer diags)
 spell_reply (reply.Close close) = close_octets close

@@ -1,4 +1,5 @@
--- Requests as they are written (ANSI/NISO Z39.50-2003, InitializeRequest, SearchRequest, PresentRequest, ScanRequest and Close)
+-- Requests as they are written (ANSI/NISO Z39.50-2003, InitializeRequest, SearchRequest,
+-- PresentRequest, ScanRequest and Close)
 use Rattle.std.specs.Prelude.{ℕ, List, [], ◌++◌, Option}
 use Rattle.std.specs.List.{flat_map}
 use Rattle.z_types.specs.declared.requests.Asked.{Asked}
@@ -24,9 +25,11 @@ init_fields init =
     ++ number_field tag.preferred_message_size init.preferred
     ++ number_field tag.exceptional_record_size init.exceptional
 
--- the fields of an InitializeRequest: the login, where there is one, is what idAuthentication has in it
+-- the fields of an InitializeRequest: the login, where there is one, is what idAuthentication has
+-- in it
 unfoldable pub init_request_fields : Init → List ℕ
-init_request_fields init = init_fields init ++ optional (tree_field tag.id_authentication) init.login
+init_request_fields init =
+    init_fields init ++ optional (tree_field tag.id_authentication) init.login
 
 -- names of databases
 abbrev pub database_names : List (List ℕ) → List ℕ

@@ -1,4 +1,5 @@
--- The numbers of tags, by the standards' names: of the context class where nothing else is said (ANSI/NISO Z39.50-2003, the definition of APDUs)
+-- The numbers of tags, by the standards' names: of the context class where nothing else is said
+-- (ANSI/NISO Z39.50-2003, the definition of APDUs)
 use Rattle.std.specs.Prelude.{ℕ}
 
 -- units (PDU)

@@ -17,7 +17,8 @@ use Rattle.virt_db.specs.declared.fault.DbFault.TheVariants.{Unknown, TooMany, M
 -- the names in order, one that was named before left out, in any case of ASCII letters
 abbrev pub distinct : List (List ℕ) → List (List ℕ)
 distinct [] = []
-distinct (name ∷ names) = name ∷ filter (λ other. not (str_eq_ignore_ascii_case name other)) (distinct names)
+distinct (name ∷ names) =
+    name ∷ filter (λ other. not (str_eq_ignore_ascii_case name other)) (distinct names)
 
 -- the first name that is no virtual database
 abbrev pub first_unknown : Route → List (List ℕ) → Option (List ℕ)
@@ -41,7 +42,8 @@ abbrev pub known_legs : Route → List (List ℕ) → Option (List ℕ) → Resu
 known_legs route names (Some unknown) = Err (Unknown unknown)
 known_legs route names None = few_legs (legs_of route names)
 
--- the legs of databases: some, not too many, each of them there, with not too many legs; or the first of these that fails
+-- the legs of databases: some, not too many, each of them there, with not too many legs; or the
+-- first of these that fails
 abbrev pub found_legs : Route → List (List ℕ) → Result (List ℕ) DbFault
 found_legs route names =
     let databases = length (distinct names) in
@@ -56,7 +58,8 @@ AreLegsOf route names answer = answer ≡ found_legs route names
 
 -- ---- where a leg goes
 
--- what a leg is: the virtual database that it is of, the class that it goes to, the target that answers for the class, which is its first member, and the databases that it is there
+-- what a leg is: the virtual database that it is of, the class that it goes to, the target that
+-- answers for the class, which is its first member, and the databases that it is there
 pub record LegAt : Type 0 where
   pub database : Database
   pub class : Class
@@ -66,12 +69,14 @@ pub record LegAt : Type 0 where
 -- a leg with its class and its database
 abbrev pub leg_with : RouteLeg → Option Database → Option Class → Option LegAt
 leg_with leg (Some database) (Some class) =
-    option_map (λ address. record { database = database; class = class; address = address; dbs = leg.databases })
+    option_map (λ address.
+    record { database = database; class = class; address = address; dbs = leg.databases })
     (slice_get class.addresses 0)
 leg_with leg _ _ = None
 
 -- the leg at a place of the route
 abbrev pub leg_at : Route → ℕ → Option LegAt
 leg_at route place =
-    option_and_then (λ leg. leg_with leg (slice_get route.databases leg.database) (slice_get route.classes leg.class))
+    option_and_then (λ leg.
+    leg_with leg (slice_get route.databases leg.database) (slice_get route.classes leg.class))
     (slice_get route.legs place)

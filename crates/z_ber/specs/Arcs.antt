@@ -15,7 +15,8 @@ pub record AreArcs (before : ℕ) (octets arcs : List ℕ) : Type 0 where
 abbrev pub marked_digits : ℕ → List ℕ
 marked_digits high = map (λ digit. 128 + digit) (digits_of 128 high)
 
--- what reading the numbers behind others answers: those and all that octets are, exactly where they are some
+-- what reading the numbers behind others answers: those and all that octets are, exactly where they
+-- are some
 abbrev pub AreArcsRead : List ℕ → List ℕ → Option (List ℕ) → Type 0
 AreArcsRead before octets None = (more : List ℕ) → ¬ AreArcs (length before) octets more
 AreArcsRead before octets (Some all) =

@@ -20,26 +20,31 @@ pub record IsOpened (levels : ℕ) (octets inner : List ℕ) : Type 0 where
   pub each : AllByRecursion (λ frame. IsFrameAt levels frame × (frame ≢ end_of_contents)) frames
   pub spelled : octets ≡ head ++ (flat_map (λ frame. frame) frames ++ inner)
 
--- `opened` elements are open in octets; `rest` stands where the next header is due, with `left` levels for it
+-- `opened` elements are open in octets; `rest` stands where the next header is due, with `left`
+-- levels for it
 abbrev pub IsDue : ℕ → ℕ → List ℕ → ℕ → List ℕ → Type 0
 IsDue zero levels octets left rest = (left ≡ levels) × (rest ≡ octets)
 IsDue (suc opened) levels octets left rest =
-    (inner : List ℕ) × IsOpened (levels - 1) octets inner × (0 < levels) × IsDue opened (levels - 1) inner left rest
+    (inner : List ℕ) × IsOpened (levels - 1) octets inner × (0 < levels)
+    × IsDue opened (levels - 1) inner left rest
 
 -- 8.1.5: an end of contents may come where a header is due, if an element is open there
 abbrev pub MayEnd : ℕ → List ℕ → Type 0
 MayEnd zero rest = ⊥
 MayEnd (suc opened) rest = Opens (λ octets. octets ≡ end_of_contents) rest
 
--- what stands there: no tag; a tag and no length; or anything but an end of contents where no level is left
+-- what stands there: no tag; a tag and no length; or anything but an end of contents where no level
+-- is left
 abbrev pub IsFaultAt : ℕ → ℕ → List ℕ → BerFault → Type 0
 IsFaultAt opened left rest Short = ⊥
 IsFaultAt opened left rest BadTag = (0 < left) × IsBadFor IsIdentifier rest
-IsFaultAt opened left rest BadLength = (0 < left) × Begins IsIdentifier rest × IsBadFor IsSomeHeader rest
+IsFaultAt opened left rest BadLength =
+    (0 < left) × Begins IsIdentifier rest × IsBadFor IsSomeHeader rest
 IsFaultAt opened left rest (TooLarge n) = ⊥
 IsFaultAt opened left rest TooDeep = (left ≡ 0) × ¬ MayEnd opened rest
 
--- a header is due somewhere in octets, where `levels` levels are left at their front, and this is wrong there
+-- a header is due somewhere in octets, where `levels` levels are left at their front, and this is
+-- wrong there
 pub record IsFaultDue (levels : ℕ) (octets : List ℕ) (fault : BerFault) : Type 0 where
   pub opened : ℕ
   pub left : ℕ
@@ -52,7 +57,8 @@ abbrev pub IsRefused : ℕ → List ℕ → BerFault → Type 0
 IsRefused levels bytes Short = IsOpenFor (IsFrameAt levels) bytes
 IsRefused levels bytes fault = IsBadFor (IsFrameAt levels) bytes × IsFaultDue levels bytes fault
 
--- a scan stands in octets, behind the first `passed`: a header is due there, `opened` elements are open, and there is room for their ends
+-- a scan stands in octets, behind the first `passed`: a header is due there, `opened` elements are
+-- open, and there is room for their ends
 pub record Stands (octets : List ℕ) (passed opened : ℕ) : Type 0 where
   pub come : passed ≤ length octets
   pub due : IsDue opened most_levels octets (most_levels - opened) (drop passed octets)
@@ -60,4 +66,6 @@ pub record Stands (octets : List ℕ) (passed opened : ℕ) : Type 0 where
 
 -- a scan that stands in octets stands in any longer ones too
 abbrev pub StandsOn : Type 0
-StandsOn = (octets more : List ℕ) (passed opened : ℕ) → Stands octets passed opened → Stands (octets ++ more) passed opened
+StandsOn =
+    (octets more : List ℕ) (passed opened : ℕ) → Stands octets passed opened
+    → Stands (octets ++ more) passed opened

@@ -1,9 +1,11 @@
--- Elements as trees: X.690:2021, 8.1.1 (structure), 8.1.3.6 and 8.1.5 (the indefinite form and its end). The bound of 64 levels is this project's own.
+-- Elements as trees: X.690:2021, 8.1.1 (structure), 8.1.3.6 and 8.1.5 (the indefinite form and its
+-- end). The bound of 64 levels is this project's own.
 use Rattle.std.specs.Prelude.{◌≡◌, ◌≢◌, ℕ, zero, suc, List, [], ◌∷◌, ◌++◌, length, Bool, true, false, Some, None, if◌then◌else◌}
 use Rattle.z_ber.specs.declared.tag.Tag.{Tag}
 use Rattle.z_ber.specs.Header.{IsHeader}
 
--- elements one after another: each has its tag and its contents octets, a constructed one the elements in it, too
+-- elements one after another: each has its tag and its contents octets, a constructed one the
+-- elements in it, too
 pub data Forest : Type 0 where
   none : Forest
   leaf : Tag → List ℕ → Forest → Forest
@@ -13,7 +15,8 @@ pub data Forest : Type 0 where
 abbrev pub end_of_contents : List ℕ
 end_of_contents = 0 ∷ 0 ∷ []
 
--- 8.1.5: elements have ended before octets: within an indefinite element at the end of contents, otherwise where nothing is left
+-- 8.1.5: elements have ended before octets: within an indefinite element at the end of contents,
+-- otherwise where nothing is left
 abbrev pub HaveEnded : Bool → List ℕ → Type 0
 HaveEnded true rest = (more : List ℕ) × (rest ≡ end_of_contents ++ more)
 HaveEnded false rest = rest ≡ []
@@ -25,8 +28,10 @@ pub record IsLeaf (tag : Tag) (contents octets : List ℕ) : Type 0 where
   pub header : IsHeader head tag (Some (length contents))
   pub spelled : octets ≡ head ++ contents
 
--- 8.1.1.4: a constructed element: a header, the elements in it, and the end of contents where the length is indefinite
-pub record IsBranch (Inner : Bool → List ℕ → Type 0) (tag : Tag) (contents octets : List ℕ) : Type 0 where
+-- 8.1.1.4: a constructed element: a header, the elements in it, and the end of contents where the
+-- length is indefinite
+pub record IsBranch (Inner : Bool → List ℕ → Type 0) (tag : Tag)
+    (contents octets : List ℕ) : Type 0 where
   pub constructed : tag.constructed ≡ true
   pub indefinite : Bool
   pub head : List ℕ
@@ -34,8 +39,10 @@ pub record IsBranch (Inner : Bool → List ℕ → Type 0) (tag : Tag) (contents
   pub inner : Inner indefinite contents
   pub spelled : octets ≡ head ++ contents ++ (if indefinite then end_of_contents else [])
 
--- an element in front of others; within an indefinite element the first 0000 is its end, and so no element
-pub record IsInFront (within : Bool) (First Others : List ℕ → Type 0) (octets : List ℕ) : Type 0 where
+-- an element in front of others; within an indefinite element the first 0000 is its end, and so no
+-- element
+pub record IsInFront (within : Bool) (First Others : List ℕ → Type 0)
+    (octets : List ℕ) : Type 0 where
   pub first : List ℕ
   pub others : List ℕ
   pub here : First first
@@ -49,7 +56,8 @@ AreElements within levels octets none = octets ≡ []
 AreElements within zero octets (leaf tag contents others) = ⊥
 AreElements within zero octets (branch tag contents children others) = ⊥
 AreElements within (suc levels) octets (leaf tag contents others) =
-    IsInFront within (IsLeaf tag contents) (λ rest. AreElements within (suc levels) rest others) octets
+    IsInFront within (IsLeaf tag contents)
+    (λ rest. AreElements within (suc levels) rest others) octets
 AreElements within (suc levels) octets (branch tag contents children others) =
     IsInFront
     within

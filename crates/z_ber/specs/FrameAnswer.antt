@@ -13,17 +13,22 @@ use Rattle.z_ber.specs.Due.{MayEnd, IsFaultAt, Stands}
 abbrev pub BeginsDefinite : List ℕ → ℕ → Type 0
 BeginsDefinite bytes len = (tag : Tag) × Begins (λ head. IsHeader head tag (Some len)) bytes
 
--- the number told of a frame that is too large: its contents octets where its own definite header says them, else the least that is too many
+-- the number told of a frame that is too large: its contents octets where its own definite header
+-- says them, else the least that is too many
 abbrev pub IsLargeNumber : List ℕ → ℕ → Type 0
-IsLargeNumber bytes n = BeginsDefinite bytes n ⊎ (((len : ℕ) → ¬ BeginsDefinite bytes len) × (n ≡ most_unit_octets + 1))
+IsLargeNumber bytes n =
+    BeginsDefinite bytes n ⊎ (((len : ℕ) → ¬ BeginsDefinite bytes len) × (n ≡ most_unit_octets + 1))
 
--- the frame that the octets begin with; or they are open; or no continuation begins with a frame, for this reason
-abbrev pub IsFrameAnswer : (List ℕ → Type 0) → (List ℕ → BerFault → Type 0) → List ℕ → Result ℕ BerFault → Type 0
+-- the frame that the octets begin with; or they are open; or no continuation begins with a frame,
+-- for this reason
+abbrev pub IsFrameAnswer : (List ℕ → Type 0) → (List ℕ → BerFault → Type 0) → List ℕ
+    → Result ℕ BerFault → Type 0
 IsFrameAnswer P Fault bytes (Ok size) = (size ≤ length bytes) × P (take size bytes)
 IsFrameAnswer P Fault bytes (Err Short) = IsOpenFor P bytes
 IsFrameAnswer P Fault bytes (Err fault) = IsBadFor P bytes × Fault bytes fault
 
--- why no frame of definite length can come: no tag; a tag and no definite length; or a length that is too large
+-- why no frame of definite length can come: no tag; a tag and no definite length; or a length that
+-- is too large
 abbrev pub IsDefiniteFault : List ℕ → BerFault → Type 0
 IsDefiniteFault bytes Short = ⊥
 IsDefiniteFault bytes BadTag = IsBadFor IsIdentifier bytes
@@ -36,22 +41,26 @@ abbrev pub least_behind_header : Option ℕ → ℕ
 least_behind_header None = 2
 least_behind_header (Some len) = len
 
--- where a header is due a header may come, and no end of contents, but the frame is too large with any
+-- where a header is due a header may come, and no end of contents, but the frame is too large with
+-- any
 pub record IsOverAt (passed opened left : ℕ) (rest : List ℕ) : Type 0 where
   pub deeper : 0 < left
   pub goes_on : ¬ MayEnd opened rest
   pub readable : Opens IsSomeHeader rest
-  pub over : (tag : Tag) (len : Option ℕ) (head more after : List ℕ) → IsHeader head tag len → rest ++ more ≡ head ++ after
+  pub over : (tag : Tag) (len : Option ℕ) (head more after : List ℕ) → IsHeader head tag len
+      → rest ++ more ≡ head ++ after
       → most_unit_octets < passed + length head + least_behind_header len + 2 * opened
 
--- why no frame can come: what is wrong at the first place where something is, each place before it having room
+-- why no frame can come: what is wrong at the first place where something is, each place before it
+-- having room
 abbrev pub IsFrameFault : List ℕ → BerFault → Type 0
 IsFrameFault bytes (TooLarge n) =
     IsLargeNumber bytes n
     × ((passed opened : ℕ) × Stands bytes passed opened
     × IsOverAt passed opened (most_levels - opened) (drop passed bytes))
 IsFrameFault bytes fault =
-    (passed opened : ℕ) × Stands bytes passed opened × IsFaultAt opened (most_levels - opened) (drop passed bytes) fault
+    (passed opened : ℕ) × Stands bytes passed opened
+    × IsFaultAt opened (most_levels - opened) (drop passed bytes) fault
 
 -- what reading a frame of definite length answers
 abbrev pub IsDefiniteAnswer : List ℕ → Result ℕ BerFault → Type 0

@@ -1,4 +1,6 @@
--- Headers as they are read: X.690:2021, 8.1.2 (identifier octets) and 8.1.3 (length octets). Stricter than the standard: a number above 2147483647 and more than 8 octets of a length are refused.
+-- Headers as they are read: X.690:2021, 8.1.2 (identifier octets) and 8.1.3 (length octets).
+-- Stricter than the standard: a number above 2147483647 and more than 8 octets of a length are
+-- refused.
 use Rattle.std.specs.Prelude.{◌≡◌, ◌⊎◌, ℕ, ◌+◌, ◌<◌, ◌≤◌, List, [], ◌∷◌, ◌++◌, length, Bool, true, Option, Some, None}
 use Rattle.std.specs.Int.Digits.{number_from_digits, AllBelowBase}
 use Rattle.z_ber.specs.declared.tag.Tag.{Tag}
@@ -17,12 +19,14 @@ pub record IsLongForm (octets : List ℕ) (n : ℕ) : Type 0 where
   pub number : n ≡ number_from_digits 256 digits
   pub spelled : octets ≡ (128 + length digits) ∷ digits
 
--- 8.1.3.2 and 8.1.3.6: length octets of a definite form, or of the indefinite form, which is for constructed elements
+-- 8.1.3.2 and 8.1.3.6: length octets of a definite form, or of the indefinite form, which is for
+-- constructed elements
 abbrev pub IsLength : Bool → List ℕ → Option ℕ → Type 0
 IsLength constructed octets None = (constructed ≡ true) × (octets ≡ 128 ∷ [])
 IsLength constructed octets (Some n) = IsShortForm octets n ⊎ IsLongForm octets n
 
--- 8.1.1: identifier octets and length octets, of this tag and this length, where None is the indefinite form
+-- 8.1.1: identifier octets and length octets, of this tag and this length, where None is the
+-- indefinite form
 pub record IsHeader (octets : List ℕ) (tag : Tag) (len : Option ℕ) : Type 0 where
   pub valid : IsTag tag
   pub ends : List ℕ

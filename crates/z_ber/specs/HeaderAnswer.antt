@@ -5,9 +5,11 @@ use Rattle.z_ber.specs.declared.fault.BerFault.TheVariants.{Short, BadTag, BadLe
 use Rattle.z_ber.specs.declared.tag.Header.{Header}
 use Rattle.z_ber.specs.Header.{IsHeader, Begins, IsOpenFor, IsBadFor, IsIdentifier, IsSomeHeader}
 
--- the header that the octets begin with; or they are open; or they begin with no tag, however they go on; or with a tag and no length
+-- the header that the octets begin with; or they are open; or they begin with no tag, however they
+-- go on; or with a tag and no length
 abbrev pub IsHeaderAnswer : List ℕ → Result Header BerFault → Type 0
-IsHeaderAnswer bytes (Ok header) = (header.size ≤ length bytes) × IsHeader (take header.size bytes) header.tag header.length
+IsHeaderAnswer bytes (Ok header) =
+    (header.size ≤ length bytes) × IsHeader (take header.size bytes) header.tag header.length
 IsHeaderAnswer bytes (Err Short) = IsOpenFor IsSomeHeader bytes
 IsHeaderAnswer bytes (Err BadTag) = IsBadFor IsIdentifier bytes
 IsHeaderAnswer bytes (Err BadLength) = Begins IsIdentifier bytes × IsBadFor IsSomeHeader bytes

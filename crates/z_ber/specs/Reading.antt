@@ -30,7 +30,8 @@ abbrev pub septets_at : ℕ → List ℕ → Result (ℕ × List ℕ) BerFault
 septets_at high [] = Err Short
 septets_at high (octet ∷ rest) =
     if nat_lt octet 128 then number_end (high * 128 + octet) rest
-    else (if (high * 128 + (octet - 128) == 0) || nat_lt 16777215 (high * 128 + (octet - 128)) then Err BadTag
+    else (if (high * 128 + (octet - 128) == 0) || nat_lt 16777215 (high * 128 + (octet - 128))
+    then Err BadTag
     else septets_at (high * 128 + (octet - 128)) rest)
 
 -- the tag that a lead octet and a number make
@@ -41,7 +42,8 @@ tag_of lead number = record { class = lead / 64; constructed = lead / 32 % 2 == 
 unfoldable pub tag_at : List ℕ → Result (Tag × List ℕ) BerFault
 tag_at [] = Err Short
 tag_at (lead ∷ rest) =
-    if nat_lt (lead % 32) 31 then Ok (tag_of lead (lead % 32), rest) else (septets_at 0 rest >>= λ n. Ok (tag_of lead n.0, n.1))
+    if nat_lt (lead % 32) 31 then Ok (tag_of lead (lead % 32), rest)
+    else (septets_at 0 rest >>= λ n. Ok (tag_of lead n.0, n.1))
 
 -- the first `count` octets, with zeros for those that have not come
 abbrev pub padded : ℕ → List ℕ → List ℕ
@@ -52,7 +54,8 @@ padded (suc count) (octet ∷ bytes) = octet ∷ padded count bytes
 -- a long form of `count` octets
 abbrev pub long_at : ℕ → List ℕ → Result (Option ℕ × List ℕ) BerFault
 long_at count rest =
-    if nat_lt (length rest) count then Err Short else Ok (Some (number_from_digits 256 (padded count rest)), drop count rest)
+    if nat_lt (length rest) count then Err Short
+    else Ok (Some (number_from_digits 256 (padded count rest)), drop count rest)
 
 -- the indefinite form
 abbrev pub indefinite_at : Bool → List ℕ → Result (Option ℕ × List ℕ) BerFault
@@ -95,7 +98,8 @@ body_at size len body =
 abbrev pub frame_behind : List ℕ → Result (Tag × Option ℕ × List ℕ) BerFault → Result ℕ BerFault
 frame_behind bytes (Ok (tag, None, body)) = Err BadLength
 frame_behind bytes (Ok (tag, Some len, body)) = body_at (length bytes - length body) len body
-frame_behind bytes (Err Short) = if has_room_behind bytes (tag_at bytes) then Err Short else Err (TooLarge 1048577)
+frame_behind bytes (Err Short) =
+    if has_room_behind bytes (tag_at bytes) then Err Short else Err (TooLarge 1048577)
 frame_behind bytes (Err fault) = Err fault
 
 -- a definite frame
@@ -108,7 +112,8 @@ fewest_size n = if nat_lt n 128 then 1 else 1 + length (digits_of 256 n)
 
 -- contents of `n` octets, and what follows them
 abbrev pub contents_at : Tag → ℕ → List ℕ → Option (Tag × List ℕ × List ℕ)
-contents_at tag n body = if nat_lt (length body) n then None else Some (tag, take n body, drop n body)
+contents_at tag n body =
+    if nat_lt (length body) n then None else Some (tag, take n body, drop n body)
 
 -- the same behind `size` length octets, which have to be the fewest
 abbrev pub fewest_at : Tag → ℕ → Option ℕ → List ℕ → Option (Tag × List ℕ × List ℕ)
@@ -116,7 +121,8 @@ fewest_at tag size None body = None
 fewest_at tag size (Some n) body = if size == fewest_size n then contents_at tag n body else None
 
 -- the same behind a tag
-abbrev pub written_behind : Tag → ℕ → Result (Option ℕ × List ℕ) BerFault → Option (Tag × List ℕ × List ℕ)
+abbrev pub written_behind : Tag → ℕ → Result (Option ℕ × List ℕ) BerFault
+    → Option (Tag × List ℕ × List ℕ)
 written_behind tag size (Ok len) = fewest_at tag (size - length len.1) len.0 len.1
 written_behind tag size (Err fault) = None
 
@@ -145,30 +151,37 @@ negative_at n = if nat_lt n (2 ^ 63) then Some (negsuc n) else None
 -- two's complement
 abbrev pub signed_at : List ℕ → Option ℤ
 signed_at contents =
-    if nat_lt (slice_index_or contents 0 0) 128 then positive_at (number_from_digits 256 (padded (length contents) contents))
-    else negative_at (number_from_digits 256 (padded (length contents) (map (λ octet. 255 - octet) contents)))
+    if nat_lt (slice_index_or contents 0 0) 128
+    then positive_at (number_from_digits 256 (padded (length contents) contents))
+    else negative_at
+    (number_from_digits 256 (padded (length contents) (map (λ octet. 255 - octet) contents)))
 
 -- the contents of an INTEGER of up to 8 octets
 unfoldable pub int_at : List ℕ → Option ℤ
-int_at contents = if is_fewest contents && nat_le (length contents) 8 then signed_at contents else None
+int_at contents =
+    if is_fewest contents && nat_le (length contents) 8 then signed_at contents else None
 
 -- the bits, where the count of unused bits and the count of octets are theirs
 abbrev pub bits_behind : ℕ → ℕ → ℕ → Option ℕ
 bits_behind unused count value =
-    if (unused == unused_bits value) && (count == length (digits_of 256 value)) then Some value else None
+    if (unused == unused_bits value) && (count == length (digits_of 256 value))
+    then Some value else None
 
 -- the contents of a BIT STRING of up to 32 bits
 unfoldable pub bits_at : List ℕ → Option ℕ
 bits_at [] = None
 bits_at (unused ∷ octets) =
-    if nat_lt 4 (length octets) then None else bits_behind unused (length octets) (mirrored_number octets)
+    if nat_lt 4 (length octets) then None
+    else bits_behind unused (length octets) (mirrored_number octets)
 
 -- ---- elements of indefinite length
 
 -- an element within, behind its header
-abbrev pub child_behind : Result (Tag × Option ℕ × List ℕ) BerFault → Result (Step × List ℕ) BerFault
+abbrev pub child_behind : Result (Tag × Option ℕ × List ℕ) BerFault
+    → Result (Step × List ℕ) BerFault
 child_behind (Ok (tag, None, body)) = Ok (Open, body)
-child_behind (Ok (tag, Some len, body)) = if nat_lt (length body) len then Err Short else Ok (Whole, drop len body)
+child_behind (Ok (tag, Some len, body)) =
+    if nat_lt (length body) len then Err Short else Ok (Whole, drop len body)
 child_behind (Err fault) = Err fault
 
 -- an element within, where levels are left
@@ -184,32 +197,41 @@ step_at room (zero ∷ suc second ∷ after) = child_at room (zero ∷ suc secon
 step_at room (suc first ∷ after) = child_at room (suc first ∷ after)
 
 -- one step on
-abbrev pub close_on : (ℕ → ℕ → List ℕ → Result (List ℕ) BerFault) → ℕ → ℕ → Result (Step × List ℕ) BerFault → Result (List ℕ) BerFault
+abbrev pub close_on : (ℕ → ℕ → List ℕ → Result (List ℕ) BerFault) → ℕ → ℕ
+    → Result (Step × List ℕ) BerFault → Result (List ℕ) BerFault
 close_on next opened room (Ok (End, after)) = next opened (suc room) after
 close_on next opened room (Ok (Whole, after)) = next (suc opened) room after
 close_on next opened room (Ok (Open, after)) = next (suc (suc opened)) (room - 1) after
 close_on next opened room (Err fault) = Err fault
 
--- what follows the end of `opened` elements, where `room` levels are left in the innermost, in at most `steps` steps
+-- what follows the end of `opened` elements, where `room` levels are left in the innermost, in at
+-- most `steps` steps
 abbrev pub close_at : ℕ → ℕ → ℕ → List ℕ → Result (List ℕ) BerFault
 close_at steps zero room bytes = Ok bytes
 close_at zero (suc opened) room bytes = Err Short
-close_at (suc steps) (suc opened) room bytes = close_on (close_at steps) opened room (step_at room bytes)
+close_at (suc steps) (suc opened) room bytes =
+    close_on (close_at steps) opened room (step_at room bytes)
 
--- one step on: the search goes on from what is open, the room and the octets that it gives, or ends with the fault
+-- one step on: the search goes on from what is open, the room and the octets that it gives, or ends
+-- with the fault
 abbrev pub IsAdvance : ℕ → ℕ → List ℕ → Result (ℕ × ℕ × Bor (List ℕ)) BerFault → Type 0
-IsAdvance opened room bytes (Ok x) = (steps : ℕ) → close_at (suc steps) opened room bytes ≡ close_at steps x.0 x.1 x.2.now
+IsAdvance opened room bytes (Ok x) =
+    (steps : ℕ) → close_at (suc steps) opened room bytes ≡ close_at steps x.0 x.1 x.2.now
 IsAdvance opened room bytes (Err e) = (steps : ℕ) → close_at (suc steps) opened room bytes ≡ Err e
 
 -- tag and contents octets of an element of indefinite length, behind its header
-abbrev pub inside_at : Tag → List ℕ → Result (List ℕ) BerFault → Result (Tag × List ℕ × List ℕ) BerFault
+abbrev pub inside_at : Tag → List ℕ → Result (List ℕ) BerFault
+    → Result (Tag × List ℕ × List ℕ) BerFault
 inside_at tag body (Ok rest) = Ok (tag, take (length body - length rest - 2) body, rest)
 inside_at tag body (Err fault) = Err fault
 
 -- an element behind its header, where `room` levels are left in it
-abbrev pub extent_behind : ℕ → Result (Tag × Option ℕ × List ℕ) BerFault → Result (Tag × List ℕ × List ℕ) BerFault
-extent_behind room (Ok (tag, None, body)) = inside_at tag body (close_at (suc (length body)) 1 room body)
-extent_behind room (Ok (tag, Some len, body)) = if nat_lt (length body) len then Err Short else Ok (tag, take len body, drop len body)
+abbrev pub extent_behind : ℕ → Result (Tag × Option ℕ × List ℕ) BerFault
+    → Result (Tag × List ℕ × List ℕ) BerFault
+extent_behind room (Ok (tag, None, body)) =
+    inside_at tag body (close_at (suc (length body)) 1 room body)
+extent_behind room (Ok (tag, Some len, body)) =
+    if nat_lt (length body) len then Err Short else Ok (tag, take len body, drop len body)
 extent_behind room (Err fault) = Err fault
 
 -- tag, contents octets and what follows
@@ -225,7 +247,8 @@ wanting_behind_tag (lead ∷ digits) =
     let count = min (lead - 128) 8 in
     count - length digits + number_from_digits 256 (padded count digits)
 
--- of a header: the last identifier octet and a length octet, or what is wanting behind the identifier octets
+-- of a header: the last identifier octet and a length octet, or what is wanting behind the
+-- identifier octets
 abbrev pub wanting_in_header : Result (Tag × List ℕ) BerFault → ℕ
 wanting_in_header (Ok tag) = wanting_behind_tag tag.1
 wanting_in_header (Err fault) = 2
@@ -236,12 +259,15 @@ wanting_in_element bytes (Ok (tag, None, body)) = 0
 wanting_in_element bytes (Ok (tag, Some len, body)) = len - length body
 wanting_in_element bytes (Err fault) = wanting_in_header (tag_at bytes)
 
--- where `opened` elements are open: the rest of an end of contents or of an element, and an end of contents for each that is open then
+-- where `opened` elements are open: the rest of an end of contents or of an element, and an end of
+-- contents for each that is open then
 unfoldable pub least_to_come : ℕ → List ℕ → ℕ
 least_to_come opened [] = 2 * opened
 least_to_come opened (zero ∷ []) = 2 * opened - 1
-least_to_come opened (zero ∷ second ∷ after) = wanting_in_element (zero ∷ second ∷ after) (header_at (zero ∷ second ∷ after)) + 2 * opened
-least_to_come opened (suc first ∷ after) = wanting_in_element (suc first ∷ after) (header_at (suc first ∷ after)) + 2 * opened
+least_to_come opened (zero ∷ second ∷ after) =
+    wanting_in_element (zero ∷ second ∷ after) (header_at (zero ∷ second ∷ after)) + 2 * opened
+least_to_come opened (suc first ∷ after) =
+    wanting_in_element (suc first ∷ after) (header_at (suc first ∷ after)) + 2 * opened
 
 -- one step on
 abbrev pub least_on : (ℕ → ℕ → List ℕ → ℕ) → ℕ → ℕ → List ℕ → Result (Step × List ℕ) BerFault → ℕ
@@ -250,8 +276,10 @@ least_on next opened room bytes (Ok (Whole, after)) = next (suc opened) room aft
 least_on next opened room bytes (Ok (Open, after)) = next (suc (suc opened)) (room - 1) after
 least_on next opened room bytes (Err fault) = least_to_come (suc opened) bytes
 
--- before `opened` elements end, where `room` levels are left in the innermost, in at most `steps` steps
+-- before `opened` elements end, where `room` levels are left in the innermost, in at most `steps`
+-- steps
 abbrev pub least_at : ℕ → ℕ → ℕ → List ℕ → ℕ
 least_at steps zero room bytes = 0
 least_at zero (suc opened) room bytes = 0
-least_at (suc steps) (suc opened) room bytes = least_on (least_at steps) opened room bytes (step_at room bytes)
+least_at (suc steps) (suc opened) room bytes =
+    least_on (least_at steps) opened room bytes (step_at room bytes)

@@ -26,15 +26,19 @@ ended passed opened = if opened == 1 then Found passed else On (at passed (opene
 
 -- the fault that is met, or no room for the octets that are wanting
 abbrev pub stop : ℕ → ℕ → List ℕ → BerFault → BerFault
-stop come opened rest Short = if nat_le (come + least_to_come opened rest) most_unit_octets then Short else TooLarge (most_unit_octets + 1)
+stop come opened rest Short =
+    if nat_le (come + least_to_come opened rest) most_unit_octets then Short
+    else TooLarge (most_unit_octets + 1)
 stop come opened rest fault = fault
 
 -- what one look finds: a place further on; or the end of the frame; or why there is none
 abbrev pub IsProgress : Scan → List ℕ → Result Progress BerFault → Type 0
-IsProgress scan bytes (Ok (On next)) = Stands bytes next.passed next.opened × (0 < next.opened) × (scan.passed < next.passed)
+IsProgress scan bytes (Ok (On next)) =
+    Stands bytes next.passed next.opened × (0 < next.opened) × (scan.passed < next.passed)
 IsProgress scan bytes (Ok (Found size)) = IsWholeAnswer bytes (Ok size)
 IsProgress scan bytes (Err fault) = IsWholeAnswer bytes (Err fault)
 
 -- what a scan answers that goes from one place to another
 abbrev pub IsScanned : Scan → List ℕ → Scan → Result ℕ BerFault → Type 0
-IsScanned start bytes end answer = Stands bytes end.passed end.opened × (start.passed ≤ end.passed) × IsWholeAnswer bytes answer
+IsScanned start bytes end answer =
+    Stands bytes end.passed end.opened × (start.passed ≤ end.passed) × IsWholeAnswer bytes answer

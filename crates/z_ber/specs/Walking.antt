@@ -6,7 +6,8 @@ use Rattle.z_ber.specs.Element.{Forest, end_of_contents, AreElements}
 use Rattle.z_ber.specs.Header.{IsHeader}
 use Rattle.z_ber.specs.Place.{IsPlace}
 
--- an element can begin with this header: there is a level for it, and its contents do not pass the end of octets
+-- an element can begin with this header: there is a level for it, and its contents do not pass the
+-- end of octets
 pub record MayBegin (levels : ℕ) (octets : List ℕ) (head : Header) : Type 0 where
   pub level : 0 < levels
   pub some : 0 < head.size

@@ -1,14 +1,17 @@
--- Elements as they are written: X.690:2021, 8.1.2 (identifier octets), 8.1.3 (length octets), 8.2, 8.3, 8.6 and 8.19 (contents), 10.1 (definite lengths in the fewest octets).
+-- Elements as they are written: X.690:2021, 8.1.2 (identifier octets), 8.1.3 (length octets), 8.2,
+-- 8.3, 8.6 and 8.19 (contents), 10.1 (definite lengths in the fewest octets).
 use Rattle.std.specs.Prelude.{ℕ, ◌+◌, ◌-◌, ◌*◌, ◌/◌, ◌%◌, ◌^◌, ◌<◌, ℤ, pos, negsuc, List, [], ◌∷◌, ◌++◌, length, map, reverse, Bool, nat_lt, if◌then◌else◌, slice_index_or}
 use Rattle.std.specs.List.{flat_map}
 use Rattle.std.specs.Int.Digits.{digits_of}
 use Rattle.z_ber.specs.declared.tag.Tag.{Tag}
 
--- 8.1.2.2: there are four classes; numbers above 2147483647 are refused, a bound of this project's own
+-- 8.1.2.2: there are four classes; numbers above 2147483647 are refused, a bound of
+-- this project's own
 abbrev pub IsTag : Tag → Type 0
 IsTag tag = (tag.class < 4) × (tag.number < 2 ^ 31)
 
--- 8.1.2.4.2 and 8.19.2: the fewest octets of seven bits each, most significant first, with bit 8 set on all but the last
+-- 8.1.2.4.2 and 8.19.2: the fewest octets of seven bits each, most significant first, with bit 8
+-- set on all but the last
 unfoldable pub septets : ℕ → List ℕ
 septets n = map (λ digit. 128 + digit) (digits_of 128 (n / 128)) ++ (n % 128) ∷ []
 
@@ -16,13 +19,15 @@ septets n = map (λ digit. 128 + digit) (digits_of 128 (n / 128)) ++ (n % 128) �
 abbrev pub form_bit : Bool → ℕ
 form_bit constructed = if constructed then 32 else 0
 
--- 8.1.2: class and form, with the number where it is below 31 and otherwise five ones and the number behind them
+-- 8.1.2: class and form, with the number where it is below 31 and otherwise five ones and the
+-- number behind them
 unfoldable pub tag_octets : Tag → List ℕ
 tag_octets tag =
     let lead = 64 * tag.class + form_bit tag.constructed in
     if nat_lt tag.number 31 then (lead + tag.number) ∷ [] else (lead + 31) ∷ septets tag.number
 
--- 8.1.3.4, 8.1.3.5 and 10.1: the short form below 128, and otherwise a count of octets and the fewest of them
+-- 8.1.3.4, 8.1.3.5 and 10.1: the short form below 128, and otherwise a count of octets and the
+-- fewest of them
 unfoldable pub length_octets : ℕ → List ℕ
 length_octets n =
     let digits = digits_of 256 n in
@@ -71,7 +76,8 @@ mirrored_number (octet ∷ rest) = mirrored_number rest * 256 + mirror octet
 unfoldable pub unused_bits : ℕ → ℕ
 unused_bits n = (8 - length (digits_of 2 n) % 8) % 8
 
--- 8.6.2 and 11.2.2: the count of unused bits, and the bits from the first, which is bit 0 of the number, to the last that is set
+-- 8.6.2 and 11.2.2: the count of unused bits, and the bits from the first, which is bit 0 of the
+-- number, to the last that is set
 unfoldable pub bits_octets : ℕ → List ℕ
 bits_octets n = unused_bits n ∷ map mirror (reverse (digits_of 256 n))
 

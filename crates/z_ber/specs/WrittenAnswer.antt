@@ -6,6 +6,7 @@ use Rattle.z_ber.specs.Written.{IsTag, element}
 
 -- the element in its written form that octets begin with, exactly where they begin with one
 abbrev pub IsWrittenAnswer : List ℕ → Option WrittenElement → Type 0
-IsWrittenAnswer octets None = (tag : Tag) (contents rest : List ℕ) → IsTag tag → octets ≡ element tag contents ++ rest → ⊥
+IsWrittenAnswer octets None =
+    (tag : Tag) (contents rest : List ℕ) → IsTag tag → octets ≡ element tag contents ++ rest → ⊥
 IsWrittenAnswer octets (Some found) =
     IsTag found.tag × (octets ≡ element found.tag found.contents.now ++ found.rest.now)

@@ -1,4 +1,5 @@
--- The diagnostics of SRU (SRU 1.2, the list of diagnostics, info:srw/diagnostic/1), and those that conditions of the bib-1 set are told as (ANSI/NISO Z39.50-2003, Appendix 4 ERR)
+-- The diagnostics of SRU (SRU 1.2, the list of diagnostics, info:srw/diagnostic/1), and those that
+-- conditions of the bib-1 set are told as (ANSI/NISO Z39.50-2003, Appendix 4 ERR)
 use Rattle.std.specs.Prelude.{ℕ, List, [], ◌∷◌, codes, if◌then◌else◌}
 use Rattle.z_types.specs.Bib1.{bib1_diagnostics, condition_number}
 use Rattle.z_types.specs.Same.{is_same}
@@ -55,6 +56,7 @@ sru_numbers =
 abbrev pub sru_of : ℕ → ℕ
 sru_of condition = beside_or 1 sru_numbers condition
 
--- the diagnostic that a diagnostic is told as: by its condition where it is of bib-1; one of another set is a general system error
+-- the diagnostic that a diagnostic is told as: by its condition where it is of bib-1; one of
+-- another set is a general system error
 abbrev pub sru_of_diag : Diag → ℕ
 sru_of_diag diag = if is_same diag.set bib1_diagnostics then sru_of diag.condition else 1

@@ -33,13 +33,15 @@ arrival_counted Breach = nothing
 arrival_counted Memory = nothing
 
 -- a peer from which nothing has come
-pub record HasNotCome (exact : Bool) (old new : Peer) (arrived : List ℕ) (before now : Counts) : Type 0 where
+pub record HasNotCome (exact : Bool) (old new : Peer) (arrived : List ℕ)
+    (before now : Counts) : Type 0 where
   pub same : new ≡ old
   pub none : arrived ≡ []
   pub counts : exact ≡ true → now ≡ before
 
 -- a peer whose first reply that is owed has come whole
-pub record HasHandedOver (exact : Bool) (old new : Peer) (arrived : List ℕ) (before now : Counts) : Type 0 where
+pub record HasHandedOver (exact : Bool) (old new : Peer) (arrived : List ℕ)
+    (before now : Counts) : Type 0 where
   pub hands : HandsOver old new arrived
   pub counts : exact ≡ true → now ≡ after (reply_counted old) before
 
@@ -54,13 +56,16 @@ module _ (exact : Bool) where
   -- what an exact wire counts where a unit was awaited in vain
   abbrev pub AwaitedInVain : Peer → Arrival → Counts → Counts → Type 0
   AwaitedInVain old answer before now =
-      exact ≡ true → (now ≡ after (arrival_counted answer) before) ⊎ (now ≡ after (reply_counted old) before)
+      exact ≡ true
+      → (now ≡ after (arrival_counted answer) before) ⊎ (now ≡ after (reply_counted old) before)
 
-  -- a unit that stands in front is all that has arrived, as the first reply that is owed; while none has come nothing changes; no breach does
+  -- a unit that stands in front is all that has arrived, as the first reply that is owed; while
+  -- none has come nothing changes; no breach does
   abbrev pub ArrivesBy : Option Peer → Option Peer → List ℕ → Counts → Counts → Arrival → Type 0
   ArrivesBy None new arrived before now answer = Unit {0}
   ArrivesBy (Some old) new arrived before now Breach = ⊥
-  ArrivesBy (Some old) new arrived before now Failed = exact ≡ true → now ≡ after (arrival_counted Failed) before
+  ArrivesBy (Some old) new arrived before now Failed =
+      exact ≡ true → now ≡ after (arrival_counted Failed) before
   ArrivesBy (Some old) new arrived before now Memory = AwaitedInVain old Memory before now
   ArrivesBy (Some old) None arrived before now (Whole size) = ⊥
   ArrivesBy (Some old) (Some new) arrived before now (Whole size) =
@@ -80,7 +85,8 @@ IsInFront arrived (Some Memory) = ⊥
 
 -- what a look found: more has arrived; or nothing; or the link is of no more use
 abbrev pub IsLooked : Option Peer → Option Peer → List ℕ → List ℕ → Option Arrival → Type 0
-IsLooked old new before after None = (octets : List ℕ) × (after ≡ before ++ octets) × ArrivesFrom old new octets
+IsLooked old new before after None =
+    (octets : List ℕ) × (after ≡ before ++ octets) × ArrivesFrom old new octets
 IsLooked old new before after (Some NotYet) = (after ≡ before) × (new ≡ old)
 IsLooked old new before after (Some Failed) = Unit {0}
 IsLooked old new before after (Some Memory) = Unit {0}
@@ -106,13 +112,15 @@ last_looked NotYet = looked.NotYet
 last_looked Failed = looked.Failed
 last_looked Memory = looked.Memory
 
--- a unit was awaited over a steady link that tells its peer: with one look, over a link that is not cut where it came, and in vain where it
--- is not due, or where the link is cut
-pub record AwaitsSteadily {L : Type 0} (l : linked.Ghosts L) (h : Happened) (old new : L) (answer : Arrival) : Type 0 where
+-- a unit was awaited over a steady link that tells its peer: with one look, over a link that is not
+-- cut where it came, and in vain where it is not due, or where the link is cut
+pub record AwaitsSteadily {L : Type 0} (l : linked.Ghosts L) (h : Happened) (old new : L)
+    (answer : Arrival) : Type 0 where
   pub number : l.number new ≡ l.number old
   pub delays : DelaysLooked (l.delays old) (l.delays new) (last_looked answer)
   pub fails : answer ≡ Failed → is_cut (to_peer h (l.peer old)) (l.number old) ≡ true
-  pub uncut : last_looked answer ≡ looked.Arrived → is_cut (to_peer h (l.peer old)) (l.number old) ≡ false
+  pub uncut : last_looked answer ≡ looked.Arrived
+      → is_cut (to_peer h (l.peer old)) (l.number old) ≡ false
 
 module _ {L : Type 0} (l : linked.Ghosts L) (h : Happened) where
   -- nothing has come

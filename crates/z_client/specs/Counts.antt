@@ -1,4 +1,6 @@
--- What a backend over a wire counts (this project's own). Where the wire is exact its dials, waits, searches and gones are the wire's own numbers, so that the rises of a backend's counts are the rises of its wire's.
+-- What a backend over a wire counts (this project's own). Where the wire is exact its dials, waits,
+-- searches and gones are the wire's own numbers, so that the rises of a backend's counts are the
+-- rises of its wire's.
 use Rattle.std.specs.Prelude.{◌+◌, ◌-◌, ◌^◌, min, Bool, true, false}
 use Rattle.z_types.specs.Counts.{one_more}
 use Rattle.gw_outside.specs.Counts.{Counts, Counted}
@@ -6,7 +8,8 @@ use Rattle.z_client.specs.declared.own.Own.{Own}
 
 -- by what the wire counts and what the backend does: each breach is a fault beside the wire's
 abbrev pub counts_over : Bool → Counts → Own → Counts
-counts_over true wire own = record wire { faults = min (wire.faults + own.breaches) (2 ^ 64 - 1); breaches = own.breaches }
+counts_over true wire own =
+    record wire { faults = min (wire.faults + own.breaches) (2 ^ 64 - 1); breaches = own.breaches }
 counts_over false wire own = record {
   faults = min (wire.faults + own.breaches) (2 ^ 64 - 1);
   breaches = own.breaches;

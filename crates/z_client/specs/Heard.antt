@@ -1,4 +1,5 @@
--- What is heard of a reply by what is pending (ANSI/NISO Z39.50-2003, 3.2.1 to 3.2.3 and 3.2.8); a reply that is none to it is a breach
+-- What is heard of a reply by what is pending (ANSI/NISO Z39.50-2003, 3.2.1 to 3.2.3 and 3.2.8); a
+-- reply that is none to it is a breach
 use Rattle.std.specs.Prelude.{◌≡◌, ◌⊎◌, ℕ, true, ◌&&◌, List, ◌++◌, length, Option, None, Some, option_map, option_and_then, Result, Ok, Err, nat_le, if◌then◌else◌}
 use Rattle.z_types.specs.Bib1.{is_gone}
 use Rattle.z_types.specs.Bounds.{most_number}
@@ -38,7 +39,8 @@ refusal_heard (Some diag) = Some (gone_or_refused diag)
 
 -- at least one record, and no more than were asked for
 abbrev pub items_heard : ℕ → List Item → Option Heard
-items_heard count items = if nat_le 1 (length items) && nat_le (length items) count then Some (Items items) else None
+items_heard count items =
+    if nat_le 1 (length items) && nat_le (length items) count then Some (Items items) else None
 
 abbrev pub records_heard : ℕ → Result (List Item) Diag → Option Heard
 records_heard count (Ok items) = items_heard count items
@@ -51,7 +53,8 @@ scan_heard (Err diag) = Refused diag
 -- of the reply to an ask
 abbrev pub ask_heard : Ask → Reply → Option Heard
 ask_heard (Search name key) answer = option_and_then search_heard (search_said answer)
-ask_heard (Present name first count syntax element) answer = option_and_then (records_heard count) (present_said answer)
+ask_heard (Present name first count syntax element) answer =
+    option_and_then (records_heard count) (present_said answer)
 ask_heard (Scan dbs ask) answer = option_map scan_heard (scan_said answer)
 
 -- of the reply to what is pending
@@ -69,7 +72,8 @@ pub record BeginsWithAnother (pending : Pending) (octets : List ℕ) : Type 0 wh
   pub spelled : octets ≡ unit ++ rest
   pub no_reply : (answer : Reply) → IsReplyUnit unit answer → heard_of pending answer ≡ None
 
--- octets begin with a whole unit that is a reply to a Present whose diagnostic is condition 27 or 30 of bib-1, and go on with these
+-- octets begin with a whole unit that is a reply to a Present whose diagnostic is condition 27 or
+-- 30 of bib-1, and go on with these
 pub record BeginsWithGone (octets left : List ℕ) : Type 0 where
   pub unit : List ℕ
   pub spelled : octets ≡ unit ++ left
@@ -77,6 +81,7 @@ pub record BeginsWithGone (octets left : List ℕ) : Type 0 where
   pub is : IsReplyUnit unit reply
   pub gone : says_gone reply ≡ true
 
--- a breach: octets that begin with no unit, however they go on, or with one that is no reply to what is pending
+-- a breach: octets that begin with no unit, however they go on, or with one that is no reply to
+-- what is pending
 abbrev pub IsBreach : Pending → List ℕ → Type 0
 IsBreach pending octets = IsBadFor IsFrame octets ⊎ BeginsWithAnother pending octets

@@ -17,4 +17,9 @@ holds (Some peer) name = is_some (held peer.sets name)
 
 -- a link, as its session sees it
 abbrev pub link_of : {L : Type 0} → linked.Ghosts L → L → LinkView
-link_of l link = record { number = l.number link; delays = l.delays link; holds = holds (l.peer link); gone = owes_gone (l.peer link) }
+link_of l link = record {
+  number = l.number link;
+  delays = l.delays link;
+  holds = holds (l.peer link);
+  gone = owes_gone (l.peer link);
+}

@@ -23,9 +23,11 @@ use Rattle.z_client.specs.Heard.{heard_of, BeginsWithGone, IsBreach}
 use Rattle.z_client.specs.Sets.{made_in, pending_of}
 use Rattle.z_client.specs.TrueSession.{HasCome, IsTrueSession}
 
--- what is heard of a unit by what is pending: of the reply that it is; nothing where it is no reply to that
+-- what is heard of a unit by what is pending: of the reply that it is; nothing where it is no reply
+-- to that
 abbrev pub IsHeardIn : Pending → List ℕ → Option Heard → Type 0
-IsHeardIn p unit (Some heard) = (reply : Reply) × IsReplyRead unit (Ok reply) × (heard_of p reply ≡ Some heard)
+IsHeardIn p unit (Some heard) =
+    (reply : Reply) × IsReplyRead unit (Ok reply) × (heard_of p reply ≡ Some heard)
 IsHeardIn p unit None = (reply : Reply) → IsReplyUnit unit reply → heard_of p reply ≡ None
 
 -- nothing is heard of a unit that is refused
@@ -67,9 +69,11 @@ found_counted (found.Heard heard) = heard_counted heard
 found_counted (found.Gone octets) = record nothing { gone = true }
 found_counted (found.Breach octets) = nothing
 
--- of a look that found no memory it is not said whether a reply had come that says that a set is gone
+-- of a look that found no memory it is not said whether a reply had come that says that a set is
+-- gone
 abbrev pub FoundCounts : Bool → Found → Counts → Counts → Type 0
-FoundCounts exact (found.Heard Memory) old new = WireCounts exact nothing old new ⊎ WireCounts exact (record nothing { gone = true }) old new
+FoundCounts exact (found.Heard Memory) old new =
+    WireCounts exact nothing old new ⊎ WireCounts exact (record nothing { gone = true }) old new
 FoundCounts exact answer old new = WireCounts exact (found_counted answer) old new
 
 -- octets that arrived and were kept: they are a breach, which none from a told address are
@@ -93,7 +97,8 @@ FoundIn told p unit arrived (found.Heard Failed) = ⊥
 FoundIn told p unit arrived (found.Heard Gone) = ⊥
 FoundIn told p unit arrived (found.Heard Memory) = Unit {0}
 FoundIn told p unit arrived (found.Heard heard) = IsHeardIn p unit (Some heard)
-FoundIn told p unit arrived (found.Gone octets) = IsHeardIn p unit (Some Gone) × BeginsWithGone octets arrived
+FoundIn told p unit arrived (found.Gone octets) =
+    IsHeardIn p unit (Some Gone) × BeginsWithGone octets arrived
 FoundIn told p unit arrived (found.Breach octets) = IsKeptBreach told p arrived octets
 
 -- the octets of a breach, where memory sufficed
@@ -114,18 +119,22 @@ module _ {W : Type 0} (w : world.Ghosts W) (address : Address) where
   IsToldCome made p (Some peer) octets = HasCome w address made p peer octets
 
 module _ {W L : Type 0} (w : world.Ghosts W) (l : linked.Ghosts L) where
-  -- a unit of this size has arrived at a session that waits; where the address is told it is the reply to what is pending, and nothing more has come
+  -- a unit of this size has arrived at a session that waits; where the address is told it is the
+  -- reply to what is pending, and nothing more has come
   pub record HasArrived (s : LinkParts L) (p : Pending) (size : ℕ) : Type 0 where
     pub few : size ≤ length (l.arrived s.link)
     pub frame : IsFrame (take size (l.arrived s.link))
     pub waits : IsPending p
     pub meanwhile : pending_of s.waiting ≡ broken
-    pub come : w.told s.address → IsToldCome w s.address (made_in s.made.items) p (l.peer s.link) (take size (l.arrived s.link))
+    pub come : w.told s.address
+        → IsToldCome w s.address (made_in s.made.items) p (l.peer s.link)
+        (take size (l.arrived s.link))
     pub all : w.told s.address → drop size (l.arrived s.link) ≡ []
     pub exact : l.exact ≡ true → w.told s.address
 
   -- a session at this address that made these sets, and what it is after a look that heard this
-  pub record IsListened (address : Address) (made : Made) (p : Pending) (new : LinkParts L) (heard : Heard) : Type 0 where
+  pub record IsListened (address : Address) (made : Made) (p : Pending) (new : LinkParts L)
+      (heard : Heard) : Type 0 where
     pub fits : Fits p heard
     pub worlds : w.told address → IsWorlds w address made p heard
     pub pending : pending_of new.waiting ≡ pending_after p heard

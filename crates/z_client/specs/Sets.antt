@@ -17,7 +17,8 @@ pending_of waiting.Broken = broken
 -- the set of each name
 abbrev pub made_in : List FoundSet → Made
 made_in [] name = None
-made_in (set ∷ sets) name = if is_same set.name name then Some (set.key, set.hits) else made_in sets name
+made_in (set ∷ sets) name =
+    if is_same set.name name then Some (set.key, set.hits) else made_in sets name
 
 -- the sets of all names but one
 abbrev pub without : List ℕ → List FoundSet → List FoundSet

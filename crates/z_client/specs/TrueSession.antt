@@ -1,4 +1,5 @@
--- A true session: where its address is told, the peer of its link holds the sets that it made or nothing in their place, and owes the reply that it waits for (this project's own)
+-- A true session: where its address is told, the peer of its link holds the sets that it made or
+-- nothing in their place, and owes the reply that it waits for (this project's own)
 use Rattle.std.specs.Prelude.{◌≡◌, ◌≢◌, ◌⊎◌, ℕ, false, true, Bool, List, [], ◌∷◌, Option, None, Some, Ok}
 use Rattle.z_ber.specs.Due.{Stands}
 use Rattle.z_types.specs.Pending.{Pending, resting, opening, asked, broken}
@@ -41,11 +42,13 @@ module _ {W : Type 0} (w : world.Ghosts W) (address : Address) where
   HoldsSearched opening sets = Unit {0}
   HoldsSearched broken sets = Unit {0}
 
-  -- each set that was made is its search's, and the peer holds it or nothing, the name of a pending search aside
+  -- each set that was made is its search's, and the peer holds it or nothing, the name of a pending
+  -- search aside
   pub record AreTrueSets (made : Made) (pending : Pending) (sets : List NamedSet) : Type 0 where
-    pub hits : (name : List ℕ) (key : SetKey) (hits : ℕ) → made name ≡ Some (key, hits) → w.search address key ≡ Ok hits
-    pub holds : (name : List ℕ) (key : SetKey) (hits : ℕ) → is_searched pending name ≡ false → made name ≡ Some (key, hits)
-        → HoldsOrNothing sets name key
+    pub hits : (name : List ℕ) (key : SetKey) (hits : ℕ) → made name ≡ Some (key, hits)
+        → w.search address key ≡ Ok hits
+    pub holds : (name : List ℕ) (key : SetKey) (hits : ℕ) → is_searched pending name ≡ false
+        → made name ≡ Some (key, hits) → HoldsOrNothing sets name key
     pub searched : HoldsSearched pending sets
 
   -- something is heard of a reply, and it is the world's
@@ -71,7 +74,8 @@ module _ {W : Type 0} (w : world.Ghosts W) (address : Address) where
   IsToldTrue made waits (Some peer) = IsTruePeer made waits peer
 
   -- the reply to what is pending has arrived whole as these octets, and nothing more is owed
-  pub record HasCome (made : Made) (pending : Pending) (peer : Peer) (octets : List ℕ) : Type 0 where
+  pub record HasCome (made : Made) (pending : Pending) (peer : Peer)
+      (octets : List ℕ) : Type 0 where
     pub same_address : answers_at peer ≡ address
     pub sets : AreTrueSets made pending peer.sets
     pub owed : peer.owed ≡ []
@@ -86,11 +90,13 @@ pub record IsNewLinkParts {L : Type 0} (address : Address) (s : LinkParts L) : T
   pub none_made : (name : List ℕ) → made_in s.made.items name ≡ None
 
 module _ {W L : Type 0} (w : world.Ghosts W) (l : linked.Ghosts L) where
-  -- the octets that have arrived are scanned up to a place in them; where the address is told there are none, and the peer is true; an exact link is of a told address
+  -- the octets that have arrived are scanned up to a place in them; where the address is told there
+  -- are none, and the peer is true; an exact link is of a told address
   pub record IsKept (s : LinkParts L) : Type 0 where
     pub scanned : Stands (l.arrived s.link) s.scan.passed s.scan.opened
     pub nothing : w.told s.address → l.arrived s.link ≡ []
-    pub peer : w.told s.address → IsToldTrue w s.address (made_in s.made.items) (pending_of s.waiting) (l.peer s.link)
+    pub peer : w.told s.address
+        → IsToldTrue w s.address (made_in s.made.items) (pending_of s.waiting) (l.peer s.link)
     pub exact : l.exact ≡ true → w.told s.address
 
   -- of a session that is broken nothing is kept

@@ -1,4 +1,5 @@
--- What is true of an ask by its types alone (X.660, 7.6; X.690:2021, 8.3): each object identifier is one, and an integer that is a term has at most 8 octets
+-- What is true of an ask by its types alone (X.660, 7.6; X.690:2021, 8.3): each object identifier
+-- is one, and an integer that is a term has at most 8 octets
 use Rattle.std.specs.Prelude.{IfSome}
 use Rattle.std.specs.List.{AllByRecursion}
 use Rattle.z_types.specs.Tree.{Tree, leaf, operand, and, or, and_not}

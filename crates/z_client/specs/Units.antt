@@ -1,4 +1,5 @@
--- The units that are sent to targets (ANSI/NISO Z39.50-2003, 3.2.1 to 3.2.3 and 3.2.8), none with a referenceId
+-- The units that are sent to targets (ANSI/NISO Z39.50-2003, 3.2.1 to 3.2.3 and 3.2.8), none with a
+-- referenceId
 use Rattle.std.specs.Prelude.{◌≡◌, ℕ, pos, true, List, [], Option, None, Some}
 use Rattle.z_types.specs.Bounds.{most_unit_octets}
 use Rattle.z_types.specs.declared.ask.Ask.{Ask}
@@ -20,7 +21,8 @@ use Rattle.gw_outside.specs.declared.wires.Sent.TheVariants as sent
 use Rattle.gw_outside.specs.Sessions.{Made}
 use Rattle.gw_outside.specs.Wires.{IsRequestUnit}
 
--- versions 1 to 3; search, present, scan and named result sets; the most octets of a unit; the login of the address, if any
+-- versions 1 to 3; search, present, scan and named result sets; the most octets of a unit; the
+-- login of the address, if any
 abbrev pub init_request : Option (List ℕ) → Request
 init_request login = request.Init (record {
   ref_id = None;
@@ -57,15 +59,18 @@ request_of (Present name first count syntax element) = request.Present (record {
 request_of (Scan dbs ask) = request.Scan (record { ref_id = None; dbs = dbs; ask = Good ask })
 
 -- a peer that is told takes a request
-abbrev pub Takes : {W : Type 0} → world.Ghosts W → Happened → Request → Option Peer → Option Peer → Type 0
+abbrev pub Takes : {W : Type 0} → world.Ghosts W → Happened → Request → Option Peer
+    → Option Peer → Type 0
 Takes w h request None new = new ≡ None
 Takes w h request (Some old) None = ⊥
-Takes w h request (Some old) (Some new) = TakesRequest w h.steady (sets_found (at_address h old.address) request old.sets) request old new
+Takes w h request (Some old) (Some new) =
+    TakesRequest w h.steady (sets_found (at_address h old.address) request old.sets) request old new
 
 -- the peer of a new link to the inner address that is told has taken an Init with the login
 abbrev pub TookInit : {W : Type 0} → world.Ghosts W → Happened → Address → Option Peer → Type 0
 TookInit w h address None = Unit {0}
-TookInit w h address (Some peer) = TakesRequest w h.steady [] (init_request (login_of address)) (new_peer (inner address)) peer
+TookInit w h address (Some peer) =
+    TakesRequest w h.steady [] (init_request (login_of address)) (new_peer (inner address)) peer
 
 -- an ask whose unit was sent has begun
 abbrev pub began_by : Sent → Began

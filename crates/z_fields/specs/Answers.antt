@@ -18,7 +18,8 @@ IsOrMemory wanted (Err (Refused refusal)) = Err refusal ≡ wanted
 IsOrMemory wanted (Err Memory) = Unit {0}
 
 -- two answers: both values; or want of memory; or the first refusal of the lowest rank
-abbrev pub both_answers : {A B : Type 0} → Result A FieldFault → Result B FieldFault → Result (A × B) FieldFault
+abbrev pub both_answers : {A B : Type 0} → Result A FieldFault → Result B FieldFault
+    → Result (A × B) FieldFault
 both_answers (Ok a) (Ok b) = Ok (a, b)
 both_answers (Ok a) (Err fault) = Err fault
 both_answers (Err Memory) second = Err Memory

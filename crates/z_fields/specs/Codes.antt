@@ -9,7 +9,9 @@ use Rattle.unit_forms.specs.Reading.Elements.{Field}
 
 abbrev tag_code : Coded Tag
 tag_code =
-    code_by (ℕ × (Bool × ℕ)) (coded× coded_ℕ (coded× coded_bool coded_ℕ)) (λ t. (t.class, (t.constructed, t.number))) (λ p. record { class = p.0; constructed = p.1.0; number = p.1.1 }) (λ _. refl)
+    code_by (ℕ × (Bool × ℕ)) (coded× coded_ℕ (coded× coded_bool coded_ℕ))
+    (λ t. (t.class, (t.constructed, t.number)))
+    (λ p. record { class = p.0; constructed = p.1.0; number = p.1.1 }) (λ _. refl)
 
 abbrev text_code : Coded (List ℕ)
 text_code = coded_list coded_ℕ
@@ -19,7 +21,8 @@ code_of none = gnum 0
 code_of (leaf tag contents others) =
     gcons (gnum 1) (gcons (tag_code.code tag) (gcons (text_code.code contents) (code_of others)))
 code_of (branch tag contents inner others) =
-    gcons (gnum 2) (gcons (tag_code.code tag) (gcons (text_code.code contents) (gcons (code_of inner) (code_of others))))
+    gcons (gnum 2) (gcons (tag_code.code tag)
+    (gcons (text_code.code contents) (gcons (code_of inner) (code_of others))))
 
 abbrev front : Gv → Gv
 front gnil = gnil
@@ -50,4 +53,6 @@ forest_code = record { code = code_of; inj = code_one }
 
 abbrev pub field_code : Coded Field
 field_code =
-    code_by (Tag × (List ℕ × Forest)) (coded× tag_code (coded× text_code forest_code)) (λ f. (f.tag, (f.contents, f.inner))) (λ p. record { tag = p.0; contents = p.1.0; inner = p.1.1 }) (λ _. refl)
+    code_by (Tag × (List ℕ × Forest)) (coded× tag_code (coded× text_code forest_code))
+    (λ f. (f.tag, (f.contents, f.inner)))
+    (λ p. record { tag = p.0; contents = p.1.0; inner = p.1.1 }) (λ _. refl)

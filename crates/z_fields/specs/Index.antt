@@ -51,7 +51,8 @@ or_field (Some field) other = Some field
 or_field None other = other
 
 -- places stand for fields that are kept, and the first element with each place is there, or is left
-pub record Indexes (start : Forest) (places : List ℕ) (kept : List Field) (left : Forest) : Type 0 where
+pub record Indexes (start : Forest) (places : List ℕ) (kept : List Field)
+    (left : Forest) : Type 0 where
   pub whole : length places ≡ place_count
   pub room : length kept + free places ≡ place_count
   pub within : (place : ℕ) → get_or places place 0 ≤ length kept
@@ -65,7 +66,8 @@ is_new places tag = (tag.class == 2) && (get_or places (place_of tag.number) 0 =
 -- the places and the kept fields with one more field
 abbrev pub places_with : List ℕ → List Field → Field → List ℕ
 places_with places kept field =
-    if is_new places field.tag then set places (place_of field.tag.number) (suc (length kept)) else places
+    if is_new places field.tag
+    then set places (place_of field.tag.number) (suc (length kept)) else places
 
 abbrev pub kept_with : List ℕ → List Field → Field → List Field
 kept_with places kept field = if is_new places field.tag then kept ++ field ∷ [] else kept

@@ -10,9 +10,11 @@ use Rattle.z_ber.specs.Reading.{extent_at}
 use Rattle.unit_forms.specs.Reading.Elements.{Field, field_of, first_element, other_elements}
 
 -- an element, with what it holds and what stands behind it
-abbrev pub element_behind : (List ℕ → Forest) → (List ℕ → Forest) → Result (Tag × List ℕ × List ℕ) BerFault → Forest
+abbrev pub element_behind : (List ℕ → Forest) → (List ℕ → Forest)
+    → Result (Tag × List ℕ × List ℕ) BerFault → Forest
 element_behind inner others (Ok (tag, contents, rest)) =
-    if tag.constructed then branch tag contents (inner contents) (others rest) else leaf tag contents (others rest)
+    if tag.constructed then branch tag contents (inner contents) (others rest)
+    else leaf tag contents (others rest)
 element_behind inner others (Err fault) = none
 
 -- elements one after another, in at most `steps` steps and on at most `levels` levels
@@ -21,7 +23,8 @@ elements_at steps levels [] = none
 elements_at zero levels (octet ∷ octets) = none
 elements_at (suc steps) zero (octet ∷ octets) = none
 elements_at (suc steps) (suc levels) (octet ∷ octets) =
-    element_behind (elements_at steps levels) (elements_at steps (suc levels)) (extent_at levels (octet ∷ octets))
+    element_behind (elements_at steps levels) (elements_at steps (suc levels))
+    (extent_at levels (octet ∷ octets))
 
 -- the elements that octets are
 unfoldable pub elements_in : ℕ → List ℕ → Forest
@@ -29,7 +32,8 @@ elements_in levels octets = elements_at (length octets) levels octets
 
 -- octets are elements, all the way down
 abbrev pub AreWhole : ℕ → List ℕ → Type 0
-AreWhole levels octets = (within : Bool) × (forest : Forest) × AreElements within levels octets forest
+AreWhole levels octets =
+    (within : Bool) × (forest : Forest) × AreElements within levels octets forest
 
 -- what a lent element is seen as
 abbrev pub seen : Lent → Field

@@ -34,7 +34,8 @@ WrittenRequestsAreUnits =
 -- so is that of a reply that is read
 abbrev pub WrittenRepliesAreUnits : Type 0
 WrittenRepliesAreUnits =
-    (reply : Reply) → IsReadableReply reply → IsShallowReply reply → length (spell_reply reply) ≤ most_unit_octets →
+    (reply : Reply) → IsReadableReply reply → IsShallowReply reply
+    → length (spell_reply reply) ≤ most_unit_octets →
     (tree : Forest) × IsUnit (spell_reply reply) tree
 
 -- a request that is read from its written form, and this is a unit
@@ -47,7 +48,8 @@ WrittenRequestsAreOne = HasOneValue IsReadableUnit spell_request
 
 -- a reply that is read from its written form, and this is a unit
 abbrev pub IsReadableReplyUnit : Reply → Type 0
-IsReadableReplyUnit reply = IsReadableReply reply × (tree : Forest) × IsUnit (spell_reply reply) tree
+IsReadableReplyUnit reply =
+    IsReadableReply reply × (tree : Forest) × IsUnit (spell_reply reply) tree
 
 -- octets are the written form of one such reply at most
 abbrev pub WrittenRepliesAreOne : Type 0

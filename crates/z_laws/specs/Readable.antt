@@ -1,4 +1,6 @@
--- Requests whose written form is read (this project's own): their numbers are in the ranges that are read, their object identifiers are some (X.660, 7.6), and they hold nothing that has no written form.
+-- Requests whose written form is read (this project's own): their numbers are in the ranges that
+-- are read, their object identifiers are some (X.660, 7.6), and they hold nothing that has no
+-- written form.
 use Rattle.std.specs.Prelude.{ℕ, List, Option, IfSome}
 use Rattle.std.specs.List.{AllByRecursion}
 use Rattle.z_types.specs.Tree.{Tree, leaf, operand, and, or, and_not}

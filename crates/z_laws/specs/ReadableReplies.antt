@@ -1,4 +1,6 @@
--- Replies whose written form is read (this project's own): their numbers are in the ranges that are read, their object identifiers are some (X.660, 7.6), and they hold nothing that has no written form.
+-- Replies whose written form is read (this project's own): their numbers are in the ranges that are
+-- read, their object identifiers are some (X.660, 7.6), and they hold nothing that has no written
+-- form.
 use Rattle.std.specs.Prelude.{◌≡◌, ℕ, ◌<◌, List, length, None, IfSome, IsSome}
 use Rattle.std.specs.List.{AllByRecursion}
 use Rattle.z_types.specs.Numbers.{IsNumber}
@@ -28,7 +30,8 @@ pub record IsReadableDiag (diag : Diag) : Type 0 where
 abbrev pub IsOneElement : List ℕ → Type 0
 IsOneElement octets = (levels : ℕ) × (tree : Forest) × IsElement levels octets tree
 
--- X.690, 8.18: octets are what their encoding holds: one element, any octets, or the contents of a BIT STRING
+-- X.690, 8.18: octets are what their encoding holds: one element, any octets, or the contents of a
+-- BIT STRING
 abbrev pub IsEncoded : Form → List ℕ → Type 0
 IsEncoded Single octets = IsOneElement octets
 IsEncoded Octets octets = Unit {0}
@@ -46,7 +49,8 @@ IsReadableNamed named = IsReadableItem named.item
 -- what a response has for records; an empty list of them is written as none are
 abbrev pub IsReadableBody : Body → Type 0
 IsReadableBody body.None = Unit {0}
-IsReadableBody (body.Records records) = (0 < length records) × AllByRecursion IsReadableNamed records
+IsReadableBody (body.Records records) =
+    (0 < length records) × AllByRecursion IsReadableNamed records
 IsReadableBody (body.Diag diag) = IsReadableDiag diag
 IsReadableBody (body.Diags diags) = AllByRecursion IsReadableDiag diags
 
@@ -64,7 +68,8 @@ pub record IsReadableAnswer (answer : ScanAnswer) : Type 0 where
 abbrev pub IsReadableReply : Reply → Type 0
 IsReadableReply (reply.Init init result) = IsReadableInit init × (init.login ≡ None)
 IsReadableReply (reply.Search ref_id count returned next ok status body) =
-    IsNumber count × IsNumber returned × IsNumber next × IfSome status IsNumber × IsReadableBody body
+    IsNumber count × IsNumber returned × IsNumber next × IfSome status IsNumber
+    × IsReadableBody body
 IsReadableReply (reply.Present ref_id returned next status body) =
     IsNumber returned × IsNumber next × IsNumber status × IsReadableBody body
 IsReadableReply (reply.Scan ref_id status answer diags) =

@@ -1,4 +1,5 @@
--- Requests and replies whose written form stands on at most 64 levels, a bound of this project's own.
+-- Requests and replies whose written form stands on at most 64 levels, a bound of
+-- this project's own.
 use Rattle.std.specs.Prelude.{ℕ, ◌≤◌}
 use Rattle.std.specs.List.{AllByRecursion}
 use Rattle.z_types.specs.QueryMeasures.{tree_depth}
@@ -41,7 +42,8 @@ IsShallow (request.Close close) = Unit {0}
 
 -- a record; only one that is an element has levels of its own
 abbrev pub IsShallowItem : Item → Type 0
-IsShallowItem (Record syntax Single octets) = (tree : Forest) × IsElement most_record_levels octets tree
+IsShallowItem (Record syntax Single octets) =
+    (tree : Forest) × IsElement most_record_levels octets tree
 IsShallowItem (Record syntax Octets octets) = Unit {0}
 IsShallowItem (Record syntax Arbitrary octets) = Unit {0}
 IsShallowItem (Surrogate diag) = Unit {0}

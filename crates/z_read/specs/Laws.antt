@@ -1,4 +1,5 @@
--- What is true of every reading of units; the functions in src/laws.rt cite it (ANSI/NISO Z39.50-2003, the ASN.1 of its APDUs).
+-- What is true of every reading of units; the functions in src/laws.rt cite it (ANSI/NISO
+-- Z39.50-2003, the ASN.1 of its APDUs).
 use Rattle.std.specs.Prelude.{◌≡◌, ◌≢◌, ℕ, List, [], ◌∷◌, ◌==◌, Result, Ok, Err, if◌then◌else◌}
 use Rattle.z_types.specs.Numbers.{HasNumbersInRange}
 use Rattle.z_types.specs.declared.requests.Request.{Request}
@@ -13,7 +14,8 @@ use Rattle.z_read.specs.declared.fault.ReadFault.TheVariants.{Memory}
 use Rattle.unit_forms.specs.Tags as numbers
 
 -- an answer other than want of memory
-abbrev pub IsAnswer : {A : Type 0} → (List ℕ → Result A ReadFault → Type 0) → List ℕ → Result A ReadFault → Type 0
+abbrev pub IsAnswer : {A : Type 0} → (List ℕ → Result A ReadFault → Type 0) → List ℕ
+    → Result A ReadFault → Type 0
 IsAnswer IsRead octets answer = (answer ≢ Err Memory) × IsRead octets answer
 
 -- elements without those that have none of these tags
@@ -126,13 +128,15 @@ scan_response_fields =
     ∷ numbers.position_of_term
     ∷ numbers.scan_entries ∷ []
 
--- the tags of the fields of a request, by the number of its own; the attribute set of a Scan has a universal tag
+-- the tags of the fields of a request, by the number of its own; the attribute set of a Scan has a
+-- universal tag
 abbrev pub request_tags : ℕ → List Tag
 request_tags number =
     if number == numbers.init_request then contexts init_request_fields
     else (if number == numbers.search_request then contexts search_request_fields
     else (if number == numbers.present_request then contexts present_request_fields
-    else (if number == numbers.scan_request then universal numbers.object_identifier ∷ contexts scan_request_fields
+    else (if number == numbers.scan_request
+    then universal numbers.object_identifier ∷ contexts scan_request_fields
     else contexts close_fields)))
 
 -- the tags of the fields of a reply, by the number of its own
@@ -144,7 +148,8 @@ reply_tags number =
     else (if number == numbers.scan_response then contexts scan_response_fields
     else contexts close_fields)))
 
--- two units with one tag, and with the same elements of its fields' tags; whatever else stands in them
+-- two units with one tag, and with the same elements of its fields' tags; whatever else stands in
+-- them
 pub record HaveSameFields (tags : ℕ → List Tag) (a b : List ℕ) : Type 0 where
   pub tag : Tag
   pub contents : List ℕ
@@ -156,9 +161,11 @@ pub record HaveSameFields (tags : ℕ → List Tag) (a b : List ℕ) : Type 0 wh
   pub same : kept (tags tag.number) fields ≡ kept (tags tag.number) more
 
 -- elements that are skipped change nothing: units with the same fields have the same answers
-abbrev pub SkippedChangeNothing : {A : Type 0} → (ℕ → List Tag) → (List ℕ → Result A ReadFault → Type 0) → Type 0
+abbrev pub SkippedChangeNothing : {A : Type 0} → (ℕ → List Tag)
+    → (List ℕ → Result A ReadFault → Type 0) → Type 0
 SkippedChangeNothing {A} tags IsRead =
-    (a b : List ℕ) (answer : Result A ReadFault) → HaveSameFields tags a b → IsRead a answer → IsRead b answer
+    (a b : List ℕ) (answer : Result A ReadFault) → HaveSameFields tags a b → IsRead a answer
+    → IsRead b answer
 
 -- the numbers of every request that a unit's tree is read as are in the ranges of their fields
 abbrev pub ReadRequestsHaveNumbers : Type 0

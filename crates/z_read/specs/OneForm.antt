@@ -9,7 +9,8 @@ use Rattle.z_ber.specs.Place.{IsUnit}
 use Rattle.unit_forms.specs.Tags as numbers
 use Rattle.z_read.specs.declared.fault.ReadFault.{ReadFault}
 
--- what an element holds: octets that are kept as they are, all lengths among them; other octets; an INTEGER; a BOOLEAN
+-- what an element holds: octets that are kept as they are, all lengths among them; other octets; an
+-- INTEGER; a BOOLEAN
 pub data Kind : Type 0 where
   whole : Kind
   octets : Kind
@@ -37,7 +38,8 @@ one_truth [] = []
 one_truth (octet ∷ []) = (if nat_lt 0 octet then 255 else 0) ∷ []
 one_truth (octet ∷ second ∷ rest) = octet ∷ second ∷ rest
 
--- the contents octets of an element that holds this, constructed or primitive; those of a constructed one have its lengths
+-- the contents octets of an element that holds this, constructed or primitive; those of a
+-- constructed one have its lengths
 abbrev pub shown : Kind → Bool → List ℕ → List ℕ
 shown whole constructed contents = contents
 shown octets true contents = []
@@ -57,10 +59,12 @@ abbrev pub holding : List ℕ → List ℕ → ℕ → Kind
 holding integers truths number =
     if is_among integers number then integer else (if is_among truths number then truth else octets)
 
--- what elements within a field hold: INTEGERs are an INTEGER itself, whose number is that of occurrences too, the type and the value of an attribute and the numeric term
+-- what elements within a field hold: INTEGERs are an INTEGER itself, whose number is that of
+-- occurrences too, the type and the value of an attribute and the numeric term
 abbrev pub inner_kind : ℕ → Kind
 inner_kind =
-    holding (numbers.integer ∷ numbers.attribute_type ∷ numbers.attribute_value_numeric ∷ numbers.numeric_term ∷ []) []
+    holding (numbers.integer ∷ numbers.attribute_type ∷ numbers.attribute_value_numeric
+    ∷ numbers.numeric_term ∷ []) []
 
 -- an EXTERNAL holds octets that are kept as they are
 abbrev pub kind_in : ℕ → ℕ → Kind
@@ -86,13 +90,15 @@ sizes = numbers.preferred_message_size ∷ numbers.exceptional_record_size ∷ [
 abbrev pub init_kind : ℕ → Kind
 init_kind number = if number == numbers.id_authentication then whole else holding sizes [] number
 
--- what the fields of a request hold, by the number of its tag; the number of numberOfTermsRequested is also that of an OBJECT IDENTIFIER, and such elements of a scanRequest are left as they are
+-- what the fields of a request hold, by the number of its tag; the number of numberOfTermsRequested
+-- is also that of an OBJECT IDENTIFIER, and such elements of a scanRequest are left as they are
 abbrev pub request_kind : ℕ → ℕ → Kind
 request_kind unit =
     if unit == numbers.init_request then init_kind
     else if unit == numbers.search_request then
     holding
-    (numbers.small_set_upper_bound ∷ numbers.large_set_lower_bound ∷ numbers.medium_set_present_number ∷ [])
+    (numbers.small_set_upper_bound ∷ numbers.large_set_lower_bound
+    ∷ numbers.medium_set_present_number ∷ [])
     (numbers.replace_indicator ∷ [])
     else if unit == numbers.present_request then
     holding (numbers.number_of_records_requested ∷ numbers.result_set_start_point ∷ []) []
@@ -102,16 +108,20 @@ request_kind unit =
 
 -- how many records a reply has, where the next one stands, and whether all came
 abbrev pub counts : List ℕ
-counts = numbers.number_of_records_returned ∷ numbers.next_result_set_position ∷ numbers.present_status ∷ []
+counts =
+    numbers.number_of_records_returned ∷ numbers.next_result_set_position
+    ∷ numbers.present_status ∷ []
 
 -- what the fields of a reply hold, by the number of its tag
 abbrev pub reply_kind : ℕ → ℕ → Kind
 reply_kind unit =
     if unit == numbers.init_response then holding sizes (numbers.init_result ∷ [])
-    else if unit == numbers.search_response then holding (numbers.result_count ∷ counts) (numbers.search_status ∷ [])
+    else if unit == numbers.search_response
+    then holding (numbers.result_count ∷ counts) (numbers.search_status ∷ [])
     else if unit == numbers.present_response then holding counts []
     else if unit == numbers.scan_response then
-    holding (numbers.scan_status ∷ numbers.number_of_entries_returned ∷ numbers.position_of_term ∷ []) []
+    holding (numbers.scan_status ∷ numbers.number_of_entries_returned
+    ∷ numbers.position_of_term ∷ []) []
     else holding (numbers.close_reason ∷ []) []
 
 -- two units with one tag, of which the elements are the same in one form
@@ -125,7 +135,10 @@ pub record HaveOneForm (kinds : ℕ → ℕ → Kind) (a b : List ℕ) : Type 0 
   pub second : IsUnit b (branch tag others more none)
   pub same : in_one_form (kinds tag.number) fields ≡ in_one_form (kinds tag.number) more
 
--- the form changes nothing: definite and indefinite lengths, longer INTEGERs and another TRUE have the same answers
-abbrev pub FormChangesNothing : {A : Type 0} → (ℕ → ℕ → Kind) → (List ℕ → Result A ReadFault → Type 0) → Type 0
+-- the form changes nothing: definite and indefinite lengths, longer INTEGERs and another TRUE have
+-- the same answers
+abbrev pub FormChangesNothing : {A : Type 0} → (ℕ → ℕ → Kind)
+    → (List ℕ → Result A ReadFault → Type 0) → Type 0
 FormChangesNothing {A} kinds IsRead =
-    (a b : List ℕ) (answer : Result A ReadFault) → HaveOneForm kinds a b → IsRead a answer → IsRead b answer
+    (a b : List ℕ) (answer : Result A ReadFault) → HaveOneForm kinds a b → IsRead a answer
+    → IsRead b answer

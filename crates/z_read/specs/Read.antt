@@ -12,11 +12,14 @@ use Rattle.z_read.specs.declared.fault.ReadFault.{ReadFault}
 use Rattle.z_read.specs.declared.fault.ReadFault.TheVariants.{Ber, UnknownUnit, Missing, BadValue, LeftOut, Memory}
 
 -- octets are a unit, and this is what its tree is read as
-abbrev pub IsReadAs : {A : Type 0} → (Forest → Result A Refusal) → List ℕ → Result A Refusal → Type 0
+abbrev pub IsReadAs : {A : Type 0} → (Forest → Result A Refusal) → List ℕ
+    → Result A Refusal → Type 0
 IsReadAs value octets read = (tree : Forest) × IsUnit octets tree × (value tree ≡ read)
 
--- the value; or the place where octets are no unit; or the first refusal of the unit's tree; want of memory has no cause
-abbrev pub IsReadingBy : {A : Type 0} → (Forest → Result A Refusal) → List ℕ → Result A ReadFault → Type 0
+-- the value; or the place where octets are no unit; or the first refusal of the unit's tree; want
+-- of memory has no cause
+abbrev pub IsReadingBy : {A : Type 0} → (Forest → Result A Refusal) → List ℕ
+    → Result A ReadFault → Type 0
 IsReadingBy value octets (Ok read) = IsReadAs value octets (Ok read)
 IsReadingBy value octets (Err (Ber at)) = IsUnitPlace octets at
 IsReadingBy value octets (Err (UnknownUnit n)) = IsReadAs value octets (Err (refusal.UnknownUnit n))

@@ -26,7 +26,8 @@ pub record IsAskableQuery (query : RpnQuery) : Type 0 where
 abbrev pub HasPlainQuery : KnownSet → Type 0
 HasPlainQuery set = IsPlainTree set.query.root
 
--- where the numbers of a query are within their range, and the queries of the sets are plain, targets may be asked for
--- its expansion
+-- where the numbers of a query are within their range, and the queries of the sets are plain,
+-- targets may be asked for its expansion
 abbrev pub HasAskableExpansion : RpnQuery → List KnownSet → Result RpnQuery ExpandFault → Type 0
-HasAskableExpansion query sets answer = QueryHasNumbers query → All HasPlainQuery sets → IfOk answer IsAskableQuery
+HasAskableExpansion query sets answer =
+    QueryHasNumbers query → All HasPlainQuery sets → IfOk answer IsAskableQuery

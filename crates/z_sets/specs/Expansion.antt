@@ -1,4 +1,6 @@
--- A query with the client's result sets put in place of its operands (ANSI/NISO Z39.50-2003, RPNStructure and ResultSetId; that a set becomes its query, and the bounds, are this project's own)
+-- A query with the client's result sets put in place of its operands (ANSI/NISO Z39.50-2003,
+-- RPNStructure and ResultSetId; that a set becomes its query, and the bounds, are
+-- this project's own)
 use Rattle.std.specs.Prelude.{◌≡◌, ℕ, List, map, Option, None, Some, unwrap_or, Result, Ok, Err, if◌then◌else◌, nat_lt}
 use Rattle.z_types.specs.Bounds.{most_query_depth, most_query_nodes, most_query_cost, within32, within64}
 use Rattle.z_types.specs.declared.known_set.KnownSet.{KnownSet}
@@ -25,7 +27,8 @@ all_in_set arcs (and_not l r) = and_not (all_in_set arcs l) (all_in_set arcs r)
 
 -- a stored query inside one of this attribute set
 abbrev pub inside : List ℕ → RpnQuery → Tree
-inside arcs query = if is_same query.attr_set arcs then query.root else all_in_set query.attr_set query.root
+inside arcs query =
+    if is_same query.attr_set arcs then query.root else all_in_set query.attr_set query.root
 
 -- what stands for the result set of a name in a query of this attribute set and these legs
 abbrev pub in_place_of : List ℕ → List ℕ → List ℕ → Option StoredSet → Result Tree ExpandFault
@@ -34,28 +37,35 @@ in_place_of arcs legs name (Some set) =
     if is_same set.legs legs then Ok (inside arcs set.query) else Err (OtherLegs name)
 
 -- two sides under an operator, or the fault of the left one, or else of the right one
-abbrev pub under : (Tree → Tree → Tree) → Result Tree ExpandFault → Result Tree ExpandFault → Result Tree ExpandFault
+abbrev pub under : (Tree → Tree → Tree) → Result Tree ExpandFault → Result Tree ExpandFault
+    → Result Tree ExpandFault
 under operator (Err fault) r = Err fault
 under operator (Ok l) (Err fault) = Err fault
 under operator (Ok l) (Ok r) = Ok (operator l r)
 
--- a structure with stored queries in place of its operand sets, or the fault of the first from the left
+-- a structure with stored queries in place of its operand sets, or the fault of the first from the
+-- left
 abbrev pub substituted : List ℕ → List ℕ → List StoredSet → Tree → Result Tree ExpandFault
 substituted arcs legs sets (leaf attrs term) = Ok (leaf attrs term)
 substituted arcs legs sets (operand name) = in_place_of arcs legs name (set_named name sets)
-substituted arcs legs sets (and l r) = under and (substituted arcs legs sets l) (substituted arcs legs sets r)
-substituted arcs legs sets (or l r) = under or (substituted arcs legs sets l) (substituted arcs legs sets r)
-substituted arcs legs sets (and_not l r) = under and_not (substituted arcs legs sets l) (substituted arcs legs sets r)
+substituted arcs legs sets (and l r) =
+    under and (substituted arcs legs sets l) (substituted arcs legs sets r)
+substituted arcs legs sets (or l r) =
+    under or (substituted arcs legs sets l) (substituted arcs legs sets r)
+substituted arcs legs sets (and_not l r) =
+    under and_not (substituted arcs legs sets l) (substituted arcs legs sets r)
 
 -- the same, with the sets that the gateway keeps
 abbrev pub substituted_among : List ℕ → List ℕ → List KnownSet → Tree → Result Tree ExpandFault
 substituted_among arcs legs sets tree = substituted arcs legs (map stored sets) tree
 
--- a structure within the bounds, as a query of this attribute set; a number past its type's end is told as that end
+-- a structure within the bounds, as a query of this attribute set; a number past its type's end is
+-- told as that end
 abbrev pub bounded : List ℕ → Tree → Result RpnQuery ExpandFault
 bounded arcs root =
     if nat_lt most_query_nodes (tree_size root) then Err (TooLarge (within64 (tree_size root)))
-    else if nat_lt most_query_depth (tree_depth root) then Err (TooDeep (within32 (tree_depth root)))
+    else if nat_lt most_query_depth (tree_depth root)
+    then Err (TooDeep (within32 (tree_depth root)))
     else if nat_lt most_query_cost (tree_cost root) then Err (TooCostly (within64 (tree_cost root)))
     else Ok (record { attr_set = arcs; root = root })
 
@@ -66,7 +76,8 @@ then_bounded arcs (Ok root) = bounded arcs root
 
 -- a query over these legs, with these sets in place of its operands
 abbrev pub expanded : RpnQuery → List ℕ → List StoredSet → Result RpnQuery ExpandFault
-expanded query legs sets = then_bounded query.attr_set (substituted query.attr_set legs sets query.root)
+expanded query legs sets =
+    then_bounded query.attr_set (substituted query.attr_set legs sets query.root)
 
 -- the expansion of a query, or why it has none; want of memory has no cause
 abbrev pub IsExpansion : RpnQuery → List ℕ → List KnownSet → Result RpnQuery ExpandFault → Type 0

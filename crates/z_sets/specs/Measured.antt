@@ -22,15 +22,16 @@ measures_of_sets = map (λ set. measures_of set.query.root)
 
 -- those of the query that the set of a name stands for
 abbrev pub measures_named : List ℕ → List KnownSet → Option Measures
-measures_named name sets = option_map (λ set. measures_of set.query.root) (known_set_named name sets)
+measures_named name sets =
+    option_map (λ set. measures_of set.query.root) (known_set_named name sets)
 
 -- the measures of a structure, or why there is none
 abbrev pub measures_in : Result Tree ExpandFault → Result Measures ExpandFault
 measures_in (Ok tree) = Ok (measures_of tree)
 measures_in (Err fault) = Err fault
 
--- the measures of a structure with stored queries in place of its operand sets, or the fault of the first; they are the
--- same under each attribute set
+-- the measures of a structure with stored queries in place of its operand sets, or the fault of the
+-- first; they are the same under each attribute set
 abbrev pub expansion_measures : List ℕ → List KnownSet → Tree → Result Measures ExpandFault
 expansion_measures legs sets tree = measures_in (substituted [] legs (map stored sets) tree)
 

@@ -17,7 +17,8 @@ abbrev pub set_among : List ℕ → List ℕ → List KnownSet → Result KnownS
 set_among name legs sets = set_for name legs (known_set_named name sets)
 
 -- a value that is lent, or why there is none; want of memory has no cause
-abbrev pub IsLentOrMemory : {A : Type 0} → Result A ExpandFault → Result (Bor A) ExpandFault → Type 0
+abbrev pub IsLentOrMemory : {A : Type 0} → Result A ExpandFault
+    → Result (Bor A) ExpandFault → Type 0
 IsLentOrMemory wanted (Ok lent) = wanted ≡ Ok lent.now
 IsLentOrMemory wanted (Err Memory) = Unit {0}
 IsLentOrMemory wanted (Err fault) = wanted ≡ Err fault

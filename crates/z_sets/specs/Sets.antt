@@ -1,10 +1,12 @@
--- A client's result sets (ANSI/NISO Z39.50-2003, 3.2.2 Search, Result-set-name; that a set stands for legs and a query is this project's own)
+-- A client's result sets (ANSI/NISO Z39.50-2003, 3.2.2 Search, Result-set-name; that a set stands
+-- for legs and a query is this project's own)
 use Rattle.z_types.specs.Same.{is_same}
 use Rattle.std.specs.Prelude.{◌≡◌, ℕ, not, List, [], ◌∷◌, ◌++◌, Option, find, filter, map}
 use Rattle.z_types.specs.declared.query.RpnQuery.{RpnQuery}
 use Rattle.z_types.specs.declared.known_set.KnownSet.{KnownSet}
 
--- what a name stands for: legs, by their places in the route, and a query without operands that are result sets
+-- what a name stands for: legs, by their places in the route, and a query without operands that are
+-- result sets
 pub record StoredSet : Type 0 where
   pub name : List ℕ
   pub legs : List ℕ

@@ -1,4 +1,5 @@
--- The bib-1 diagnostic set (ANSI/NISO Z39.50-2003, Appendix 4 ERR): its conditions that the gateway and the test targets give or know
+-- The bib-1 diagnostic set (ANSI/NISO Z39.50-2003, Appendix 4 ERR): its conditions that the gateway
+-- and the test targets give or know
 use Rattle.std.specs.Prelude.{◌≡◌, ◌⊎◌, ℕ, Bool, ◌==◌, ◌&&◌, ◌||◌, List, [], ◌∷◌}
 use Rattle.z_types.specs.Same.{is_same}
 use Rattle.z_types.specs.declared.conditions.Condition.{Condition}

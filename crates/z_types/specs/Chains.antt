@@ -2,7 +2,8 @@
 use Rattle.std.specs.Prelude.{◌≡◌, List, [], ◌∷◌}
 
 module _ {P : Type 0} (Goes : (here next : P) → Type 0) where
-  -- steps were taken from the first to the last, by where it stood before this one, the latest first
+  -- steps were taken from the first to the last, by where it stood before this one, the latest
+  -- first
   abbrev pub HasStepped : (first : P) → List P → (last : P) → Type 0
   HasStepped first [] last = last ≡ first
   HasStepped first (mid ∷ earlier) last = HasStepped first earlier mid × Goes mid last

@@ -1,4 +1,6 @@
--- For contracts alone: tests and copies that are exact (this project's own): an `==` that says whether two values are one, and a clone that is its source. They are proved type by type in the folder `equality`.
+-- For contracts alone: tests and copies that are exact (this project's own): an `==` that says
+-- whether two values are one, and a clone that is its source. They are proved type by type in the
+-- folder `equality`.
 use Rattle.std.specs.Prelude.{◌≡◌, Bool, true}
 
 -- what the test passes is equal

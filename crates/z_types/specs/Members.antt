@@ -1,4 +1,5 @@
--- The addresses of the members of a class: a target's, or those of a group's targets (this project's own)
+-- The addresses of the members of a class: a target's, or those of a group's targets
+-- (this project's own)
 use Rattle.std.specs.Prelude.{◌<◌, ◌≤◌, List, length, All}
 use Rattle.z_types.specs.declared.address.Address.{Address}
 use Rattle.z_types.specs.declared.address.Address.TheVariants.{Test, Tcp, Login}

@@ -3,7 +3,8 @@ use Rattle.std.specs.Prelude.{ℕ, ◌+◌, List, [], ◌∷◌, flat_map, fold,
 use Rattle.std.specs.List.{range_with_len}
 use Rattle.z_types.specs.Bounds.{most_number}
 
--- a place of the result set: the record of this rank, from 1, of this leg, counted from 0 among the legs of the set
+-- a place of the result set: the record of this rank, from 1, of this leg, counted from 0 among the
+-- legs of the set
 pub record Place : Type 0 where
   pub leg : ℕ
   pub rank : ℕ
@@ -12,7 +13,8 @@ pub record Place : Type 0 where
 abbrev pub place_at : ℕ → ℕ → Place
 place_at leg rank = record { leg = leg; rank = rank }
 
--- the places of a rank: one of each leg with at least `rank` hits, in the order of the legs, which are counted from `leg` on
+-- the places of a rank: one of each leg with at least `rank` hits, in the order of the legs, which
+-- are counted from `leg` on
 abbrev pub of_rank_from : (leg : ℕ) (hits : List ℕ) (rank : ℕ) → List Place
 of_rank_from leg [] rank = []
 of_rank_from leg (n ∷ hits) rank =

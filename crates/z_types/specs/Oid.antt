@@ -1,4 +1,5 @@
--- Object identifiers (X.660; X.690:2021, 8.19): 2 to 32 numbers below 2^32. The bound of 32 is this project's own.
+-- Object identifiers (X.660; X.690:2021, 8.19): 2 to 32 numbers below 2^32. The bound of 32 is
+-- this project's own.
 use Rattle.std.specs.Prelude.{ℕ, ◌^◌, List, [], ◌∷◌, length, nat_lt, nat_le, ◌==◌, Bool, false, ◌&&◌, ◌||◌}
 use Rattle.std.specs.List.{list_all}
 use Rattle.z_types.specs.Bounds.{most_arcs}
@@ -11,4 +12,5 @@ has_root (first ∷ second ∷ rest) = (first == 2) || (nat_lt first 2 && nat_lt
 
 -- these numbers are an object identifier
 abbrev pub is_oid : List ℕ → Bool
-is_oid arcs = has_root arcs && (nat_le (length arcs) most_arcs && list_all (λ arc. nat_lt arc (2 ^ 32)) arcs)
+is_oid arcs =
+    has_root arcs && (nat_le (length arcs) most_arcs && list_all (λ arc. nat_lt arc (2 ^ 32)) arcs)

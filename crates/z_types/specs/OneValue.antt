@@ -7,4 +7,5 @@ HasOneValue {A} IsOfKind spell = (a b : A) → IsOfKind a → IsOfKind b → spe
 
 -- what octets are read as is one
 abbrev pub HasOneReading : {A : Type 0} → (List ℕ → A → Type 0) → Type 0
-HasOneReading {A} IsReadingOf = (octets : List ℕ) (a b : A) → IsReadingOf octets a → IsReadingOf octets b → a ≡ b
+HasOneReading {A} IsReadingOf =
+    (octets : List ℕ) (a b : A) → IsReadingOf octets a → IsReadingOf octets b → a ≡ b

@@ -1,7 +1,8 @@
 -- What a session with a target waits for (this project's own)
 use Rattle.z_types.specs.declared.ask.Ask.{Ask}
 
--- it rests; it waits for the reply to its Init or to an ask; or it is broken, once a call on it failed or had no memory
+-- it rests; it waits for the reply to its Init or to an ask; or it is broken, once a call on it
+-- failed or had no memory
 pub data Pending : Type 0 where
   resting : Pending
   opening : Pending

@@ -1,4 +1,5 @@
--- What is agreed on at an Init (ANSI/NISO Z39.50-2003, 3.2.1.1.3 Version and 3.2.1.1.4 Options); which of it is this project's own
+-- What is agreed on at an Init (ANSI/NISO Z39.50-2003, 3.2.1.1.3 Version and 3.2.1.1.4 Options);
+-- which of it is this project's own
 use Rattle.std.specs.Prelude.{ℕ, ◌+◌, ◌^◌, ◌==◌, not, bit_and, Bool}
 
 -- versions 1 to 3

@@ -51,7 +51,9 @@ term_again (Words text) = refl
 
 -- a term is stored as which it is, and its octets or number
 abbrev pub term_code : Coded Term
-term_code = code_by (List ℕ ⊎ (ℤ ⊎ List ℕ)) (coded⊎ text_code (coded⊎ coded_ℤ text_code)) term_parts term_made term_again
+term_code =
+    code_by (List ℕ ⊎ (ℤ ⊎ List ℕ))
+    (coded⊎ text_code (coded⊎ coded_ℤ text_code)) term_parts term_made term_again
 
 abbrev leaf_code : Coded (List Attr × Term)
 leaf_code = coded× (coded_list attr_code) term_code

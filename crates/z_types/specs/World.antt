@@ -10,10 +10,12 @@ use Rattle.z_types.specs.declared.records.Item.{Item}
 
 -- hits are a count that the protocol can tell
 abbrev pub HitsAreCounts : (Address → SetKey → Result ℕ Diag) → Type 0
-HitsAreCounts search = (address : Address) (key : SetKey) → IfOk (search address key) (λ hits. hits ≤ most_number)
+HitsAreCounts search =
+    (address : Address) (key : SetKey) → IfOk (search address key) (λ hits. hits ≤ most_number)
 
 -- a diagnostic in place of a whole present never says that the result set is gone
-abbrev pub WholeIsNotGone : (Address → SetKey → ℕ → Option (List ℕ) → Option (List ℕ) → Result Item Diag) → Type 0
+abbrev pub WholeIsNotGone : (Address → SetKey → ℕ → Option (List ℕ) → Option (List ℕ)
+    → Result Item Diag) → Type 0
 WholeIsNotGone record_at =
     (address : Address) (key : SetKey) (position : ℕ) (syntax element : Option (List ℕ)) →
     IfErr (record_at address key position syntax element) (λ diag. is_gone diag ≡ false)

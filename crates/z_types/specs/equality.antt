@@ -1,5 +1,6 @@
--- For proofs alone: that tests and copies are exact, for each shared type (this project's own). `Tests` has lists, options and
--- numbers, `Parts` what follows from the parts of a value, and each other file is named as the types' own.
+-- For proofs alone: that tests and copies are exact, for each shared type
+-- (this project's own). `Tests` has lists, options and numbers, `Parts` what follows from the parts
+-- of a value, and each other file is named as the types' own.
 pub mod Tests
 pub mod Parts
 pub mod Address

@@ -21,24 +21,29 @@ operator_lens (leaf attrs term) = []
 operator_lens (operand name) = []
 operator_lens (and l r) = (operator_lens r ++ operator_lens l) ++ operands_len l r and_operator ∷ []
 operator_lens (or l r) = (operator_lens r ++ operator_lens l) ++ operands_len l r or_operator ∷ []
-operator_lens (and_not l r) = (operator_lens r ++ operator_lens l) ++ operands_len l r and_not_operator ∷ []
+operator_lens (and_not l r) =
+    (operator_lens r ++ operator_lens l) ++ operands_len l r and_not_operator ∷ []
 
 -- the length of two structures of these lengths under an operator
 abbrev pub IsOperatorLength : ℕ → ℕ → ℕ → ℕ → Type 0
 IsOperatorLength first second operator total =
-    (l r : List ℕ) → length l ≡ first → length r ≡ second → total ≡ length (tree_field rpn_rpn_op (operands l r operator))
+    (l r : List ℕ) → length l ≡ first → length r ≡ second
+    → total ≡ length (tree_field rpn_rpn_op (operands l r operator))
 
 -- what is kept of them
 abbrev pub KeepsOperator : ℕ → ℕ → ℕ → List ℕ → List ℕ → Type 0
 KeepsOperator first second operator old new =
-    (l r : List ℕ) → length l ≡ first → length r ≡ second → new ≡ old ++ length (operands l r operator) ∷ []
+    (l r : List ℕ) → length l ≡ first → length r ≡ second
+    → new ≡ old ++ length (operands l r operator) ∷ []
 
 -- the length that was kept last is taken, and an element of it opened
 abbrev pub OpensOperator : List ℕ → List ℕ → List ℕ → List ℕ → Type 0
 OpensOperator old_lens new_lens old new =
-    (below : List ℕ) (len : ℕ) → old_lens ≡ below ++ len ∷ [] → (new_lens ≡ below) × Opens old (constructed rpn_rpn_op) len new
+    (below : List ℕ) (len : ℕ) → old_lens ≡ below ++ len ∷ []
+    → (new_lens ≡ below) × Opens old (constructed rpn_rpn_op) len new
 
 -- the lengths that were kept last are taken, and the structure of which they are is put
 abbrev pub PutsStructure : Tree → List ℕ → List ℕ → List ℕ → List ℕ → Type 0
 PutsStructure tree old_lens new_lens old new =
-    (below : List ℕ) → old_lens ≡ below ++ operator_lens tree → (new_lens ≡ below) × (new ≡ old ++ tree_octets tree)
+    (below : List ℕ) → old_lens ≡ below ++ operator_lens tree
+    → (new_lens ≡ below) × (new ≡ old ++ tree_octets tree)

@@ -41,8 +41,8 @@ use Rattle.front_http.specs.Heads.{IsHeadBegun}
 use Rattle.front_conn.specs.steps.States.{HasMeantHits, IsOneWork}
 use Rattle.front_conn.specs.steps.Totals.{totals_after, totals_for}
 
--- what answers a client: its session, where its GET stands, the request in work, what legs counted, the marks, and what is to be
--- written
+-- what answers a client: its session, where its GET stands, the request in work, what legs counted,
+-- the marks, and what is to be written
 pub record AnsweringState (S : Type 0) : Type 0 where
   pub session : SessionState
   pub stage : SruStage
@@ -53,7 +53,14 @@ pub record AnsweringState (S : Type 0) : Type 0 where
 
 -- nothing was answered
 abbrev pub nothing_answered : {S : Type 0} → AnsweringState S
-nothing_answered = record { session = new_session; stage = Idle; in_work = None; totals = []; marks = []; out = [] }
+nothing_answered = record {
+  session = new_session;
+  stage = Idle;
+  in_work = None;
+  totals = [];
+  marks = [];
+  out = [];
+}
 
 -- its session, and what was written
 abbrev pub served : {S : Type 0} → AnsweringState S → Served
@@ -65,7 +72,8 @@ get_served state = record { stage = state.stage; out = state.out }
 
 -- ---- a unit
 
--- a unit ends the connection by itself alone, if it does: it is a Close, none or out of its place, or beyond the last
+-- a unit ends the connection by itself alone, if it does: it is a Close, none or out of its place,
+-- or beyond the last
 abbrev pub EndsByUnit : Option End → Type 0
 EndsByUnit None = Unit {0}
 EndsByUnit (Some Closed) = Unit {0}
@@ -94,16 +102,17 @@ module _ {S : Type 0} where
     pub in_work : new.in_work ≡ None
     pub totals : AreMade route old.totals new.totals
 
--- the mark of a request is listed, and the connection ends so, if it does; without memory what was written is taken back
-abbrev pub IsListed : {S : Type 0} → Option Mark → Option End → (written : ℕ) → (old new : AnsweringState S)
-    → Result (Option End) NoMemory → Type 0
+-- the mark of a request is listed, and the connection ends so, if it does; without memory what was
+-- written is taken back
+abbrev pub IsListed : {S : Type 0} → Option Mark → Option End → (written : ℕ)
+    → (old new : AnsweringState S) → Result (Option End) NoMemory → Type 0
 IsListed mark end written old new (Ok ended) =
     (ended ≡ end) × (new ≡ record old { marks = old.marks ++ option_to_list mark })
 IsListed mark end written old new (Err memory) = new ≡ record old { out = take written old.out }
 
 module _ {S : Type 0} (route : Route) where
-  -- what is kept behind a unit: it was answered at once, and has ended the connection so, if it did; or the package of its work is
-  -- begun
+  -- what is kept behind a unit: it was answered at once, and has ended the connection so, if it
+  -- did; or the package of its work is begun
   abbrev pub IsKeptBehind : (old new : AnsweringState S) → Option End → Begun → Type 0
   IsKeptBehind old new ended (begun.Write mark end) =
       (ended ≡ end) × (new.marks ≡ old.marks ++ option_to_list mark) × (new.in_work ≡ None)
@@ -114,13 +123,15 @@ module _ {S : Type 0} (route : Route) where
   IsKeptBehind old new ended begun.Memory = ⊥
 
   -- a unit at an offset was begun, and what is kept behind it; no GET waits
-  pub record IsUnitBegun (at : ℕ) (unit : List ℕ) (old new : AnsweringState S) (ended : Option End) : Type 0 where
+  pub record IsUnitBegun (at : ℕ) (unit : List ℕ) (old new : AnsweringState S)
+      (ended : Option End) : Type 0 where
     pub answer : Begun
     pub begun : IsBegun route at unit (served old) (served new) answer
     pub kept : IsKeptBehind old new ended answer
     pub idle : new.stage ≡ Idle
 
-  -- what is kept behind a head: it was answered at once, and has ended the connection so; or the package of the GET's search is begun
+  -- what is kept behind a head: it was answered at once, and has ended the connection so; or the
+  -- package of the GET's search is begun
   abbrev pub IsKeptBehindHead : (old new : AnsweringState S) → Option End → sru_begun.Begun → Type 0
   IsKeptBehindHead old new ended (get.Write mark end) =
       (ended ≡ end) × (new.marks ≡ old.marks ++ option_to_list mark) × (new.in_work ≡ None)
@@ -131,7 +142,8 @@ module _ {S : Type 0} (route : Route) where
   IsKeptBehindHead old new ended get.Memory = ⊥
 
   -- a head was begun, and what is kept behind it; the session is no part of this
-  pub record IsHeadTaken (head : Result Get HeadFault) (old new : AnsweringState S) (ended : Option End) : Type 0 where
+  pub record IsHeadTaken (head : Result Get HeadFault) (old new : AnsweringState S)
+      (ended : Option End) : Type 0 where
     pub answer : sru_begun.Begun
     pub begun : IsHeadBegun route head (get_served old) (get_served new) answer
     pub kept : IsKeptBehindHead old new ended answer
@@ -152,60 +164,75 @@ module _ {S : Type 0} (route : Route) where
     pub marks : new.marks ≡ old.marks ++ (cause_in route view).mark ∷ []
 
   -- where memory could be had; this ends no connection
-  abbrev pub IsRequestEndedIf : PackageView S → (old new : AnsweringState S) → Result (Option End) NoMemory → Type 0
+  abbrev pub IsRequestEndedIf : PackageView S → (old new : AnsweringState S)
+      → Result (Option End) NoMemory → Type 0
   IsRequestEndedIf view old new (Ok ended) =
       (ended ≡ None) × (new.in_work ≡ None) × (new.stage ≡ old.stage) × IsAnsweredBy view old new
   IsRequestEndedIf view old new (Err memory) = IsUnwritten old new × (new.in_work ≡ None)
 
-  -- what is kept behind a work of a GET: the GET was answered under the mark of the cause of its legs, and has ended the connection so;
-  -- or the package of its fetch is begun
-  abbrev pub IsKeptBehindGet : PackageView S → (old new : AnsweringState S) → Option End → sru_begun.Begun → Type 0
+  -- what is kept behind a work of a GET: the GET was answered under the mark of the cause of its
+  -- legs, and has ended the connection so; or the package of its fetch is begun
+  abbrev pub IsKeptBehindGet : PackageView S → (old new : AnsweringState S) → Option End
+      → sru_begun.Begun → Type 0
   IsKeptBehindGet view old new ended (get.Write mark end) =
-      (ended ≡ end) × (new.marks ≡ old.marks ++ (cause_in route view).mark ∷ []) × (new.in_work ≡ None)
+      (ended ≡ end) × (new.marks ≡ old.marks ++ (cause_in route view).mark ∷ [])
+      × (new.in_work ≡ None)
   IsKeptBehindGet view old new ended (get.Work job) =
       (ended ≡ None) × (new.marks ≡ old.marks) × (new.in_work ≡ Some (new_package route job))
   IsKeptBehindGet view old new ended get.Memory = ⊥
 
-  -- the work that a GET waited for was ended by what came of its legs; the session is no part of this
-  pub record IsGetEnded (view : PackageView S) (old new : AnsweringState S) (ended : Option End) : Type 0 where
+  -- the work that a GET waited for was ended by what came of its legs; the session is no part of
+  -- this
+  pub record IsGetEnded (view : PackageView S) (old new : AnsweringState S)
+      (ended : Option End) : Type 0 where
     pub answer : sru_begun.Begun
     pub went : sru.IsEnded route (outcome_in route view) (get_served old) (get_served new) answer
     pub kept : IsKeptBehindGet view old new ended answer
     pub session : new.session ≡ old.session
 
   -- where memory could be had
-  abbrev pub IsGetEndedIf : PackageView S → (old new : AnsweringState S) → Result (Option End) NoMemory → Type 0
+  abbrev pub IsGetEndedIf : PackageView S → (old new : AnsweringState S)
+      → Result (Option End) NoMemory → Type 0
   IsGetEndedIf view old new (Ok ended) = IsGetEnded view old new ended
   IsGetEndedIf view old new (Err memory) = IsUnwritten old new × (new.in_work ≡ None)
 
   -- by where a GET stands that waits
-  abbrev pub EndsAt : SruStage → PackageView S → (old new : AnsweringState S) → Result (Option End) NoMemory → Type 0
+  abbrev pub EndsAt : SruStage → PackageView S → (old new : AnsweringState S)
+      → Result (Option End) NoMemory → Type 0
   EndsAt Idle view old new done = IsRequestEndedIf view old new done
   EndsAt stage view old new done = IsGetEndedIf view old new done
 
-  -- a package that is over: what its legs counted is added to the sums, and its request is answered, or a GET goes on
-  pub record EndsWork (view : PackageView S) (old new : AnsweringState S) (done : Result (Option End) NoMemory) : Type 0 where
+  -- a package that is over: what its legs counted is added to the sums, and its request is
+  -- answered, or a GET goes on
+  pub record EndsWork (view : PackageView S) (old new : AnsweringState S)
+      (done : Result (Option End) NoMemory) : Type 0 where
     pub over : IsOver view
     pub totals : new.totals ≡ totals_after old.totals (all_accounts view)
     pub went : EndsAt old.stage view old new done
 
   -- and how the connection has ended, and what the step answers
-  pub record IsOverThen (view : PackageView S) (old new : AnsweringState S) (answer : Stepped) (end : Option End) : Type 0 where
+  pub record IsOverThen (view : PackageView S) (old new : AnsweringState S) (answer : Stepped)
+      (end : Option End) : Type 0 where
     pub done : Result (Option End) NoMemory
     pub ends : EndsWork view old new done
     pub after : IsEndAfter done end answer
 
-  -- what a step answers, what is kept, and how the connection has ended, where the turn of the package in work answered this
-  abbrev pub WorksOn : Turned → PackageView S → (old new : AnsweringState S) → Stepped → Option End → Type 0
-  WorksOn turned.Went next old new answer end = (answer ≡ Went) × (new ≡ record old { in_work = Some next }) × (end ≡ None)
-  WorksOn turned.NotYet next old new answer end = (answer ≡ NotYet) × (new ≡ record old { in_work = Some next }) × (end ≡ None)
+  -- what a step answers, what is kept, and how the connection has ended, where the turn of the
+  -- package in work answered this
+  abbrev pub WorksOn : Turned → PackageView S → (old new : AnsweringState S) → Stepped
+      → Option End → Type 0
+  WorksOn turned.Went next old new answer end =
+      (answer ≡ Went) × (new ≡ record old { in_work = Some next }) × (end ≡ None)
+  WorksOn turned.NotYet next old new answer end =
+      (answer ≡ NotYet) × (new ≡ record old { in_work = Some next }) × (end ≡ None)
   WorksOn turned.Done next old new answer end = IsOverThen next old new answer end
   WorksOn turned.Memory next old new answer end =
       (answer ≡ Memory) × (new ≡ record old { in_work = Some next }) × (end ≡ Some how.Memory)
 
 module _ {W S : Type 0} (w : world.Ghosts W) (t : sitting.Ghosts S W) (route : Route) where
   -- a package of the route is begun; without memory nothing is
-  abbrev pub IsWorkBegun : Work → (old new : AnsweringState S) → Result (Option End) NoMemory → Type 0
+  abbrev pub IsWorkBegun : Work → (old new : AnsweringState S)
+      → Result (Option End) NoMemory → Type 0
   IsWorkBegun job old new (Ok ended) =
       (ended ≡ None) × (new ≡ with_package route job old)
       × ((most : ℕ) → IsPackageOf w t route most (new_package route job))
@@ -217,12 +244,14 @@ module _ {W S : Type 0} (w : world.Ghosts W) (t : sitting.Ghosts S W) (route : R
     pub one_work : IsOneWork route new.session.waiting new.stage new.in_work
 
   -- a unit was begun, and it is so behind it; without memory nothing was written
-  abbrev pub IsBegunSo : (at : ℕ) → (unit : List ℕ) → (old new : AnsweringState S) → Result (Option End) NoMemory → Type 0
+  abbrev pub IsBegunSo : (at : ℕ) → (unit : List ℕ) → (old new : AnsweringState S)
+      → Result (Option End) NoMemory → Type 0
   IsBegunSo at unit old new (Ok ended) = IsUnitBegun route at unit old new ended × IsReady new
   IsBegunSo at unit old new (Err memory) = IsUnbegun route old new
 
   -- the same of a head
-  abbrev pub IsHeadBegunSo : Result Get HeadFault → (old new : AnsweringState S) → Result (Option End) NoMemory → Type 0
+  abbrev pub IsHeadBegunSo : Result Get HeadFault → (old new : AnsweringState S)
+      → Result (Option End) NoMemory → Type 0
   IsHeadBegunSo head old new (Ok ended) = IsHeadTaken route head old new ended × IsReady new
   IsHeadBegunSo head old new (Err memory) = IsUnbegun route old new
 
@@ -231,13 +260,15 @@ pub record Outside (S : Type 0) : Type 0 where
   pub door : DoorView S
   pub backend : BackendView
 
--- the package in work had its turn, and all that was called is what its legs called; where the connection goes on, a package in
--- work is one of the route, and of the work that waits
-pub record TurnsWork {W S : Type 0} (w : world.Ghosts W) (t : sitting.Ghosts S W) (exact : Bool) (route : Route) (now : ℕ)
-    (view : PackageView S) (old new : AnsweringState S) (answer : Stepped) (end : Option End) (before behind : Outside S) : Type 0 where
+-- the package in work had its turn, and all that was called is what its legs called; where the
+-- connection goes on, a package in work is one of the route, and of the work that waits
+pub record TurnsWork {W S : Type 0} (w : world.Ghosts W) (t : sitting.Ghosts S W) (exact : Bool)
+    (route : Route) (now : ℕ) (view : PackageView S) (old new : AnsweringState S) (answer : Stepped)
+    (end : Option End) (before behind : Outside S) : Type 0 where
   pub next : PackageView S
   pub turned : Turned
-  pub law : IsPackageTurn w t exact route now view next turned before.door behind.door before.backend behind.backend
+  pub law : IsPackageTurn w t exact route now view next turned before.door behind.door
+      before.backend behind.backend
   pub of : IsPackageOf w t route behind.door.counts.most next
   pub works : WorksOn route turned next old new answer end
   pub ready : end ≡ None → IfSome new.in_work (IsPackageOf w t route behind.door.counts.most)
@@ -259,11 +290,14 @@ given_up state = record state { in_work = None; totals = totals_of_all state.in_
 
 -- ---- the answer
 
--- a request was answered under a cause as the targets mean it, and the sets have the hits that they mean
-pub record IsAnsweredUnder {W : Type 0} (w : world.Ghosts W) (route : Route) (request : Request) (cause : Cause)
-    (old new : Served) : Type 0 where
-  pub written : new.out ≡ old.out ++ spell_reply (answered w route (client_of old.session) request cause).reply
-  pub client : client_of new.session ≡ (answered w route (client_of old.session) request cause).client
+-- a request was answered under a cause as the targets mean it, and the sets have the hits that they
+-- mean
+pub record IsAnsweredUnder {W : Type 0} (w : world.Ghosts W) (route : Route) (request : Request)
+    (cause : Cause) (old new : Served) : Type 0 where
+  pub written : new.out
+      ≡ old.out ++ spell_reply (answered w route (client_of old.session) request cause).reply
+  pub client : client_of new.session
+      ≡ (answered w route (client_of old.session) request cause).client
   pub accepted : new.session.accepted ≡ (old.session.accepted || accepts (Some request))
   pub units : new.session.units ≡ old.session.units + 1
   pub waits_not : new.session.waiting ≡ None

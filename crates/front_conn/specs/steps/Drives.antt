@@ -1,4 +1,5 @@
--- For contracts alone: steps of a connection, one behind another, until its request in work is answered (this project's own)
+-- For contracts alone: steps of a connection, one behind another, until its request in work is
+-- answered (this project's own)
 use Rattle.std.specs.Prelude.{◌≡◌, ◌⊎◌, ℕ, Bool, Option, None, Some, Result, Ok, Err, IsSome, option_map}
 use Rattle.z_types.specs.Chains.{StepsFrom}
 use Rattle.z_types.specs.declared.marks.End.{End}
@@ -25,14 +26,16 @@ pub record ConnAt (S : Type 0) : Type 0 where
   pub outside : Outside S
 
 -- what is outside, as its door and its backend tell
-abbrev pub outside_of : {W S D B : Type 0} → door.Ghosts D W S → watched.Ghosts B → D → B → Outside S
+abbrev pub outside_of : {W S D B : Type 0} → door.Ghosts D W S → watched.Ghosts B → D
+    → B → Outside S
 outside_of d b pool sessions = record {
   door = record { pool = d.pool pool; counts = d.counts pool };
   backend = record { counts = b.counts sessions; happened = b.happened sessions };
 }
 
 -- and a connection there
-abbrev pub conn_at : {W S D B : Type 0} → door.Ghosts D W S → watched.Ghosts B → ConnectionState S → D → B → ConnAt S
+abbrev pub conn_at : {W S D B : Type 0} → door.Ghosts D W S → watched.Ghosts B → ConnectionState S
+    → D → B → ConnAt S
 conn_at d b state pool sessions = record { conn = state; outside = outside_of d b pool sessions }
 
 -- what the last step answers: that the request was answered, or want of memory
@@ -71,7 +74,8 @@ module _ {S : Type 0} where
     };
   }
 
-module _ {W S : Type 0} (w : world.Ghosts W) (t : sitting.Ghosts S W) (exact : Bool) (route : Route) where
+module _ {W S : Type 0} (w : world.Ghosts W) (t : sitting.Ghosts S W) (exact : Bool)
+    (route : Route) where
   -- a connection of the route took a step, at some moment
   pub record StepsTo (here next : ConnAt S) (answer : Stepped) : Type 0 where
     pub now : ℕ
@@ -91,15 +95,19 @@ module _ {W S : Type 0} (w : world.Ghosts W) (t : sitting.Ghosts S W) (exact : B
     pub goes : StepsFrom GoesOnTo first amid
     pub ends : StepsTo amid last answer
 
-  -- all steps of a connection that is driven: behind the last one its request is answered; or it lacked memory, and was given up then
+  -- all steps of a connection that is driven: behind the last one its request is answered; or it
+  -- lacked memory, and was given up then
   abbrev pub IsDriven : {A : Type 0} → (first last : ConnAt S) → Result A NoMemory → Type 0
   IsDriven first last (Ok done) = HasDriven first last Went × (last.conn.in_work ≡ None)
-  IsDriven first last (Err memory) = (lacking : ConnAt S) × HasDriven first lacking Memory × (last ≡ given_up_at lacking)
+  IsDriven first last (Err memory) =
+      (lacking : ConnAt S) × HasDriven first lacking Memory × (last ≡ given_up_at lacking)
 
-  -- the package in work had turns, one behind another, that went on; and with the last one it did what a turn does
-  pub record DrivesWork (view : PackageView S) (old new : AnsweringState S) (answer : Stepped) (end : Option End)
-      (before behind : Outside S) : Type 0 where
+  -- the package in work had turns, one behind another, that went on; and with the last one it did
+  -- what a turn does
+  pub record DrivesWork (view : PackageView S) (old new : AnsweringState S) (answer : Stepped)
+      (end : Option End) (before behind : Outside S) : Type 0 where
     pub amid : PackageAt S
     pub goes : StepsFrom (package_drives.GoesOnTo w t exact route) (package_in view before) amid
     pub now : ℕ
-    pub turns : TurnsWork w t exact route now amid.view (record old { in_work = Some amid.view }) new answer end (around amid) behind
+    pub turns : TurnsWork w t exact route now amid.view
+        (record old { in_work = Some amid.view }) new answer end (around amid) behind

@@ -29,7 +29,8 @@ module _ {S : Type 0} where
 
   -- no request is in work any more: what its legs counted is added to the sums
   abbrev pub without_work : ConnectionState S → ConnectionState S
-  without_work state = record state { in_work = None; totals = totals_of_all state.in_work state.totals }
+  without_work state =
+      record state { in_work = None; totals = totals_of_all state.in_work state.totals }
 
 module _ {W S : Type 0} (w : world.Ghosts W) (t : sitting.Ghosts S W) where
   -- a new connection stands at the start, whatever its sessions with targets
@@ -39,8 +40,9 @@ module _ {W S : Type 0} (w : world.Ghosts W) (t : sitting.Ghosts S W) where
   -- a piece that comes is fed
   abbrev pub StandsWhenFed : Type 0
   StandsWhenFed =
-      (route : Route) (fed written piece : List ℕ) (state : ConnectionState S) → state.has_ended ≡ false
-      → IsStateOf w route fed written state → IsStateOf w route (fed ++ piece) written (with_piece state piece)
+      (route : Route) (fed written piece : List ℕ) (state : ConnectionState S)
+      → state.has_ended ≡ false → IsStateOf w route fed written state
+      → IsStateOf w route (fed ++ piece) written (with_piece state piece)
 
   -- the end of the input changes nothing else
   abbrev pub StandsWhenEnded : Type 0
@@ -62,9 +64,12 @@ module _ {W S : Type 0} (w : world.Ghosts W) (t : sitting.Ghosts S W) where
     pub written : IsConnOf w t route most (without_out state)
 
   abbrev pub StaysOfRoute : Type 0
-  StaysOfRoute = (route : Route) (most : ℕ) (state : ConnectionState S) → IsConnOf w t route most state → StaysSo route most state
+  StaysOfRoute =
+      (route : Route) (most : ℕ) (state : ConnectionState S) → IsConnOf w t route most state
+      → StaysSo route most state
 
-  -- where the connection has ended, and so has the input, what was written is the answer to what was fed
+  -- where the connection has ended, and so has the input, what was written is the answer to what
+  -- was fed
   abbrev pub EndsAnswered : Type 0
   EndsAnswered =
       (route : Route) (fed written : List ℕ) (state : ConnectionState S) (end : End)

@@ -28,9 +28,9 @@ use Rattle.front_http.specs.front_sru.declared.state.SruStage.TheVariants.{Idle}
 use Rattle.front_http.specs.Gets.{StandsInGet}
 use Rattle.front_conn.specs.declared.totals.Total.{Total}
 
--- a connection: its session, where its GET stands, the legs of the request in work, what the legs of its other requests counted,
--- the marks, what is to be written; the offset of the octets that were not taken, these octets, whether the input has ended; and how
--- it ended, if it did
+-- a connection: its session, where its GET stands, the legs of the request in work, what the legs
+-- of its other requests counted, the marks, what is to be written; the offset of the octets that
+-- were not taken, these octets, whether the input has ended; and how it ended, if it did
 pub record ConnectionState (S : Type 0) : Type 0 where
   pub session : SessionState
   pub stage : SruStage
@@ -69,7 +69,8 @@ IsWaitedAt route waiting job Idle = IsWaitedFor waiting job
 IsWaitedAt route waiting job stage = work_of route stage ≡ Some job
 
 -- a package in work is of the work that waits
-abbrev pub IsOneWork : {S : Type 0} → Route → Option Waiting → SruStage → Option (PackageView S) → Type 0
+abbrev pub IsOneWork : {S : Type 0} → Route → Option Waiting → SruStage
+    → Option (PackageView S) → Type 0
 IsOneWork route waiting stage None = Unit {0}
 IsOneWork route waiting stage (Some view) = IsWaitedAt route waiting view.work stage
 
@@ -80,15 +81,19 @@ abbrev pub HasLegsOf : Route → KnownSet → Type 0
 HasLegsOf route set = All (λ leg. leg < length route.legs) set.legs
 
 -- the sets that are kept, and the package in work and the work that waits for it, are of the route
-pub record IsOfRoute {W S : Type 0} (w : world.Ghosts W) (t : sitting.Ghosts S W) (route : Route) (most : ℕ)
-    (session : SessionState) (stage : SruStage) (works : Option (PackageView S)) : Type 0 where
+pub record IsOfRoute {W S : Type 0} (w : world.Ghosts W) (t : sitting.Ghosts S W)
+    (route : Route) (most : ℕ) (session : SessionState) (stage : SruStage)
+    (works : Option (PackageView S)) : Type 0 where
   pub sets : AllByRecursion (HasLegsOf route) session.sets
   pub in_work : IfSome works (IsPackageOf w t route most)
   pub one_work : IsOneWork route session.waiting stage works
 
--- a connection whose steps are all given the route, and doors that open so many sessions of a class at most
-abbrev pub IsConnOf : {W S : Type 0} → world.Ghosts W → sitting.Ghosts S W → Route → (most : ℕ) → ConnectionState S → Type 0
-IsConnOf w t route most state = state.end ≡ None → IsOfRoute w t route most state.session state.stage state.in_work
+-- a connection whose steps are all given the route, and doors that open so many sessions of a class
+-- at most
+abbrev pub IsConnOf : {W S : Type 0} → world.Ghosts W → sitting.Ghosts S W → Route → (most : ℕ)
+    → ConnectionState S → Type 0
+IsConnOf w t route most state =
+    state.end ≡ None → IsOfRoute w t route most state.session state.stage state.in_work
 
 -- ---- in its session
 
@@ -96,10 +101,11 @@ IsConnOf w t route most state = state.end ≡ None → IsOfRoute w t route most 
 abbrev pub HasMeantHits : {W : Type 0} → world.Ghosts W → Route → KnownSet → Type 0
 HasMeantHits w route set = hits_of w route set.legs set.query ≡ Ok set.hits
 
--- Units were answered under causes that these marks are of, each allowed where it stands. The replies were written, and the
--- client is as they left it; its sets have the hits that the targets mean.
-pub record HasAnswered {W : Type 0} (w : world.Ghosts W) (route : Route) (units : List Received) (marks : List Mark)
-    (written : List ℕ) (session : SessionState) : Type 0 where
+-- Units were answered under causes that these marks are of, each allowed where it stands. The
+-- replies were written, and the client is as they left it; its sets have the hits that the targets
+-- mean.
+pub record HasAnswered {W : Type 0} (w : world.Ghosts W) (route : Route) (units : List Received)
+    (marks : List Mark) (written : List ℕ) (session : SessionState) : Type 0 where
   pub causes : List Cause
   pub of_marks : marks_of causes ≡ marks
   pub got : Run
@@ -119,9 +125,10 @@ abbrev pub MayCome : Bool → List ℕ → Type 0
 MayCome true more = more ≡ []
 MayCome false more = Unit {0}
 
-module _ {W S : Type 0} (w : world.Ghosts W) (route : Route) (fed written : List ℕ) (state : ConnectionState S) where
-  -- no request is in work: all units that were taken were answered; their replies were written, in part before and the others
-  -- still to be. Of an HTTP connection none is taken.
+module _ {W S : Type 0} (w : world.Ghosts W) (route : Route) (fed written : List ℕ)
+    (state : ConnectionState S) where
+  -- no request is in work: all units that were taken were answered; their replies were written, in
+  -- part before and the others still to be. Of an HTTP connection none is taken.
   pub record Rests : Type 0 where
     pub units : List Received
     pub spelled : fed ≡ octets_of units ++ state.left
@@ -130,8 +137,8 @@ module _ {W S : Type 0} (w : world.Ghosts W) (route : Route) (fed written : List
     pub answered : HasAnswered w route units state.marks (written ++ state.out) state.session
     pub waits_not : state.session.waiting ≡ None
 
-  -- the request of the last unit that was taken is in work, and the units before it were answered: the package is for what the
-  -- request asks of the targets
+  -- the request of the last unit that was taken is in work, and the units before it were answered:
+  -- the package is for what the request asks of the targets
   pub record Works (view : PackageView S) : Type 0 where
     pub units : List Received
     pub unit : Received
@@ -142,11 +149,14 @@ module _ {W S : Type 0} (w : world.Ghosts W) (route : Route) (fed written : List
     pub before : SessionState
     pub answered : HasAnswered w route units state.marks (written ++ state.out) before
     pub request : Request
-    pub is_due : met route (progress_of (length (octets_of units)) before) unit.request ≡ due request
+    pub is_due : met route (progress_of (length (octets_of units)) before) unit.request
+        ≡ due request
     pub asks : asked w route (client_of before) request ≡ works view.work
-    pub waits : state.session ≡ waits before request (record { request = request; work = view.work })
+    pub waits : state.session
+        ≡ waits before request (record { request = request; work = view.work })
 
-  -- the octets begin with a GET, and the package is for the work that it waits for; nothing was written, and no mark listed
+  -- the octets begin with a GET, and the package is for the work that it waits for; nothing was
+  -- written, and no mark listed
   pub record WorksOnGet (view : PackageView S) : Type 0 where
     pub kind : kind_of fed ≡ kind.letter
     pub stands : StandsInGet w route fed state.stage
@@ -162,7 +172,8 @@ module _ {W S : Type 0} (w : world.Ghosts W) (route : Route) (fed written : List
   -- the octets were answered whole, whatever may still come
   abbrev pub HasEnded : End → Type 0
   HasEnded end =
-      (more : List ℕ) → MayCome state.has_ended more → Answers w route (fed ++ more) state.marks (written ++ state.out) end
+      (more : List ℕ) → MayCome state.has_ended more
+      → Answers w route (fed ++ more) state.marks (written ++ state.out) end
 
   -- where a connection stands, or how it ended
   abbrev pub StandsOrEnded : Option End → Option (PackageView S) → Type 0

@@ -34,7 +34,8 @@ module _ {S : Type 0} where
   abbrev pub BeginsWithLetter : ConnectionState S → ℕ → Type 0
   BeginsWithLetter state octet = (state.at ≡ 0) × IsTrue (is_ascii_alphabetic octet)
 
-  -- no whole unit stands in these octets, and more can make one; or behind a letter at the start no head, and more are needed
+  -- no whole unit stands in these octets, and more can make one; or behind a letter at the start no
+  -- head, and more are needed
   pub record IsUnfinished (state : ConnectionState S) (octet : ℕ) (octets : List ℕ) : Type 0 where
     pub head : BeginsWithLetter state octet → IsHeadAnswer (octet ∷ octets) (Ok NeedMore)
     pub unit : ¬ BeginsWithLetter state octet → IsOpen (octet ∷ octets)
@@ -70,7 +71,8 @@ module _ {S : Type 0} where
     pub begun : IsUnitBegun route old.at unit (answering_of old) (answering_of new) new.end
     pub ended : EndsByUnit new.end
 
-  -- the head of an HTTP connection was begun, of which no octets are taken away; it has ended the connection by itself alone, if it has
+  -- the head of an HTTP connection was begun, of which no octets are taken away; it has ended the
+  -- connection by itself alone, if it has
   pub record TakesHead (route : Route) (old new : ConnectionState S) : Type 0 where
     pub at_start : old.at ≡ 0
     pub first : kind_of old.left ≡ letter
@@ -81,7 +83,8 @@ module _ {S : Type 0} where
     pub taken : IsHeadTaken route head (answering_of old) (answering_of new) new.end
     pub ended : EndsByUnit new.end
 
-  -- no unit was taken, and the connection has ended by the end of its input, where that has come, or by octets that begin no unit
+  -- no unit was taken, and the connection has ended by the end of its input, where that has come,
+  -- or by octets that begin no unit
   pub record EndsByRest (old new : ConnectionState S) : Type 0 where
     pub left : new.left ≡ old.left
     pub at : new.at ≡ old.at
@@ -91,19 +94,21 @@ module _ {S : Type 0} where
     pub marks : new.marks ≡ old.marks
     pub ended : EndsAtRest old.has_ended new.end
 
-  -- the connection has ended for want of memory: nothing was written, no mark listed, and no package begun
+  -- the connection has ended for want of memory: nothing was written, no mark listed, and no
+  -- package begun
   pub record IsOutOfMemory (route : Route) (old new : ConnectionState S) : Type 0 where
     pub ended : new.end ≡ Some how.Memory
     pub has_ended : new.has_ended ≡ old.has_ended
     pub unbegun : IsUnbegun route (answering_of old) (answering_of new)
 
-  -- it changed nothing, exactly where there is nothing to do; or it took one unit, one head or one end; without memory it ended the
-  -- connection so
+  -- it changed nothing, exactly where there is nothing to do; or it took one unit, one head or one
+  -- end; without memory it ended the connection so
   abbrev pub GoesAhead : Route → (old new : ConnectionState S) → Stepped → Type 0
   GoesAhead route old new Idle = NothingWaits old × (new ≡ old)
   GoesAhead route old new NotYet = ⊥
   GoesAhead route old new Went =
-      ¬ NothingWaits old × (new.has_ended ≡ old.has_ended) × (TakesUnit route old new ⊎ TakesHead route old new ⊎ EndsByRest old new)
+      ¬ NothingWaits old × (new.has_ended ≡ old.has_ended)
+      × (TakesUnit route old new ⊎ TakesHead route old new ⊎ EndsByRest old new)
   GoesAhead route old new Memory = IsOutOfMemory route old new
 
   -- ---- what is done where one is
@@ -114,28 +119,39 @@ module _ {S : Type 0} where
     pub left : new.left ≡ old.left
     pub has_ended : new.has_ended ≡ old.has_ended
 
-module _ {W S : Type 0} (w : world.Ghosts W) (t : sitting.Ghosts S W) (exact : Bool) (route : Route) (now : ℕ) where
+module _ {W S : Type 0} (w : world.Ghosts W) (t : sitting.Ghosts S W) (exact : Bool) (route : Route)
+    (now : ℕ) where
   -- the request in work had its turn, and nothing was taken
-  pub record HasTurned (view : PackageView S) (old new : ConnectionState S) (answer : Stepped) (before behind : Outside S)
+  pub record HasTurned (view : PackageView S) (old new : ConnectionState S) (answer : Stepped)
+      (before behind : Outside S)
       : Type 0 where
-    pub turns : TurnsWork w t exact route now view (answering_of old) (answering_of new) answer new.end before behind
+    pub turns : TurnsWork w t exact route now view (answering_of old)
+        (answering_of new) answer new.end before behind
     pub input : IsInputKept old new
 
-  -- a connection that has ended does nothing more; one with a request in work turns its package, and takes nothing; another goes
-  -- ahead, and calls nothing
-  abbrev pub StepsFrom : Option End → Option (PackageView S) → (old new : ConnectionState S) → Stepped
+  -- a connection that has ended does nothing more; one with a request in work turns its package,
+  -- and takes nothing; another goes ahead, and calls nothing
+  abbrev pub StepsFrom : Option End → Option (PackageView S)
+      → (old new : ConnectionState S) → Stepped → (before behind : Outside S) → Type 0
+  StepsFrom (Some end) in_work old new answer before behind =
+      (answer ≡ Idle) × (new ≡ old) × (behind ≡ before)
+  StepsFrom None None old new answer before behind =
+      GoesAhead route old new answer × (behind ≡ before)
+  StepsFrom None (Some view) old new answer before behind =
+      HasTurned view old new answer before behind
+
+  abbrev pub IsStepped : (old new : ConnectionState S) → Stepped
       → (before behind : Outside S) → Type 0
-  StepsFrom (Some end) in_work old new answer before behind = (answer ≡ Idle) × (new ≡ old) × (behind ≡ before)
-  StepsFrom None None old new answer before behind = GoesAhead route old new answer × (behind ≡ before)
-  StepsFrom None (Some view) old new answer before behind = HasTurned view old new answer before behind
+  IsStepped old new answer before behind =
+      StepsFrom old.end old.in_work old new answer before behind
 
-  abbrev pub IsStepped : (old new : ConnectionState S) → Stepped → (before behind : Outside S) → Type 0
-  IsStepped old new answer before behind = StepsFrom old.end old.in_work old new answer before behind
-
--- on a fair route, whatever was fed and written before, the connection stands in the session as before, or has ended
-abbrev pub KeepsState : {W S : Type 0} → world.Ghosts W → Route → (old new : ConnectionState S) → Type 0
+-- on a fair route, whatever was fed and written before, the connection stands in the session as
+-- before, or has ended
+abbrev pub KeepsState : {W S : Type 0} → world.Ghosts W → Route
+    → (old new : ConnectionState S) → Type 0
 KeepsState w route old new =
-    IsFair w route → (fed written : List ℕ) → IsStateOf w route fed written old → IsStateOf w route fed written new
+    IsFair w route → (fed written : List ℕ) → IsStateOf w route fed written old
+    → IsStateOf w route fed written new
 
 -- this holds of a step that did not run out of memory
 abbrev pub UnlessMemory : Stepped → Type 0 → Type 0

@@ -23,13 +23,15 @@ in_total faults total = total.faults
 
 -- a sum for each class of the route, in their order
 abbrev pub AreTotalsOf : Route → List Total → Type 0
-AreTotalsOf route totals = map (λ total. total.class) totals ≡ range_with_len 0 (length route.classes)
+AreTotalsOf route totals =
+    map (λ total. total.class) totals ≡ range_with_len 0 (length route.classes)
 
 module _ {S : Type 0} where
   -- all its legs have counted: those of requests that are answered, by class, and those in work
   abbrev pub counted_on : Number → ConnectionState S → ℕ
   counted_on number state =
-      sum_by (in_total number) state.totals + sum_by (λ leg. in_account number leg.account) (legs_in state.in_work)
+      sum_by (in_total number) state.totals
+      + sum_by (λ leg. in_account number leg.account) (legs_in state.in_work)
 
   -- its sums are the route's, or not made yet; they are made where a request is in work
   pub record HasTotals (route : Route) (state : ConnectionState S) : Type 0 where
@@ -54,7 +56,8 @@ module _ {S : Type 0} where
   -- how often their cause was met at least, with what the legs in work met
   abbrev pub met_on : PoolNumbers → Caused → ConnectionState S → ℕ
   met_on pool kind state =
-      weight pool kind * marks_of kind state.marks + sum_by (λ leg. met_by kind leg.account) (legs_in state.in_work)
+      weight pool kind * marks_of kind state.marks
+      + sum_by (λ leg. met_by kind leg.account) (legs_in state.in_work)
 
   -- what is counted of it outside
   abbrev pub outside_meets : Caused → Outside S → ℕ
@@ -70,7 +73,8 @@ module _ {S : Type 0} where
   -- its searches and the addresses that the door named were paid for, at some cost
   pub record PaysFor (old new : ConnectionState S) (before behind : Outside S) : Type 0 where
     pub cost : Cost
-    pub raised : IsRaised cost before.door.counts behind.door.counts before.backend.counts behind.backend.counts
+    pub raised : IsRaised cost before.door.counts behind.door.counts before.backend.counts
+        behind.backend.counts
     pub paid : IsPaid cost (dues_on old) (dues_on new)
 
   -- no count of these stands at its end

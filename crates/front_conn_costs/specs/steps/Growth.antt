@@ -13,8 +13,8 @@ abbrev pub RisesAsMuch : (old new before behind : ℕ) → Type 0
 RisesAsMuch old new before behind =
     (others : ℕ) → within64 (others + old) ≡ before → within64 (others + new) ≡ behind
 
--- where a count was at least what one of several and the others owe, so it is for what that one owes
--- then: the count rose by as much at least
+-- where a count was at least what one of several and the others owe, so it is for what that one
+-- owes then: the count rose by as much at least
 abbrev pub RisesEnough : (old new before behind : ℕ) → Type 0
 RisesEnough old new before behind =
     (others : ℕ) → within64 (others + old) ≤ before → within64 (others + new) ≤ behind

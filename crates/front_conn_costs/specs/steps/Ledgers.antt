@@ -1,5 +1,5 @@
--- What the turns of legs have paid for (this project's own). Each search was booked at the door, or follows
--- a Gone or a fault; each address that the door named was dialled, or failed, or is due
+-- What the turns of legs have paid for (this project's own). Each search was booked at the door, or
+-- follows a Gone or a fault; each address that the door named was dialled, or failed, or is due
 use Rattle.std.specs.Prelude.{ℕ, ◌+◌, ◌≤◌, List}
 use Rattle.std.specs.List.{sum_by}
 use Rattle.gw_outside.specs.Counts.{Counts}
@@ -18,7 +18,8 @@ pub record Cost : Type 0 where
   pub booked : ℕ
   pub opens : ℕ
 
--- the searches, and the door's counts, rose by just so much; links made, Gones and faults by as much at least
+-- the searches, and the door's counts, rose by just so much; links made, Gones and faults by as
+-- much at least
 pub record IsRaised (cost : Cost) (door after : DoorCounts) (backend moved : Counts) : Type 0 where
   pub searches : RisesAsMuch 0 cost.searches backend.searches moved.searches
   pub booked : RisesAsMuch 0 cost.booked door.booked after.booked
@@ -42,9 +43,13 @@ module _ {S : Type 0} where
 
   -- and of some legs
   abbrev pub dues_in : List (LegView S) → Dues
-  dues_in legs = record { searches = sum_by (λ leg. (dues_of leg).searches) legs; unused = sum_by (λ leg. (dues_of leg).unused) legs }
+  dues_in legs = record {
+    searches = sum_by (λ leg. (dues_of leg).searches) legs;
+    unused = sum_by (λ leg. (dues_of leg).unused) legs;
+  }
 
 -- searches are paid by bookings, Gones and faults; named addresses by links made and faults
 pub record IsPaid (cost : Cost) (old new : Dues) : Type 0 where
-  pub searches : cost.searches + new.searches ≤ cost.booked + cost.gones + cost.faults + old.searches
+  pub searches : cost.searches + new.searches
+      ≤ cost.booked + cost.gones + cost.faults + old.searches
   pub opens : cost.opens + old.unused ≤ cost.dials + cost.faults + new.unused

@@ -52,7 +52,8 @@ is_of gone mark.Gone = true
 is_of full (mark.Full sessions) = true
 is_of kind other = false
 
--- how often its cause was met at least: a fault, as many looks as there is patience for, a Gone more than are repeated, a full door
+-- how often its cause was met at least: a fault, as many looks as there is patience for, a Gone
+-- more than are repeated, a full door
 abbrev pub weight : PoolNumbers → Caused → ℕ
 weight pool link = 1
 weight pool silent = pool.patience

@@ -1,5 +1,5 @@
--- For contracts alone: which seats are out of a pool, and who holds them (this project's own). Of a pool that is not told nothing
--- is known, and nothing is said here
+-- For contracts alone: which seats are out of a pool, and who holds them (this project's own). Of a
+-- pool that is not told nothing is known, and nothing is said here
 use Rattle.std.specs.Prelude.{◌≡◌, ℕ, ◌+◌, ◌==◌, ◌&&◌, Bool, if◌then◌else◌, List, Option, None, Some}
 use Rattle.std.specs.List.{AllByRecursion, sum_by}
 use Rattle.pool_sets.specs.Plain.{Ascends, Pool, out_of}
@@ -49,17 +49,20 @@ module _ {S : Type 0} where
   -- a leg that scans searches for no set, and only one that wants records fetches any
   abbrev pub DoesItsTask : Phase S → Task → Type 0
   DoesItsTask (Searching held items slot looks) (Scan scan) = ⊥
-  DoesItsTask (Fetching held items slot hits looks) (Records key first count syntax element) = Unit {0}
+  DoesItsTask (Fetching held items slot hits looks) (Records key first count syntax element) =
+      Unit {0}
   DoesItsTask (Fetching held items slot hits looks) task = ⊥
   DoesItsTask phase task = Unit {0}
 
   -- a leg does its task, and each seat that is out is its own, or is out for others
-  pub record IsHeld (phase : Phase S) (task : Task) (others : Seat → ℕ) (pool : Option (Pool S)) : Type 0 where
+  pub record IsHeld (phase : Phase S) (task : Task) (others : Seat → ℕ)
+      (pool : Option (Pool S)) : Type 0 where
     pub tasks : DoesItsTask phase task
     pub out : AreOutOf (held_at (seat_of phase)) others pool
 
   -- legs do their tasks, and each seat that is out is held by one of them, or is out for others
-  pub record AreHeld (legs : List (LegView S)) (others : Seat → ℕ) (pool : Option (Pool S)) : Type 0 where
+  pub record AreHeld (legs : List (LegView S)) (others : Seat → ℕ)
+      (pool : Option (Pool S)) : Type 0 where
     pub tasks : AllByRecursion (λ leg. DoesItsTask leg.phase leg.task) legs
     pub out : AreOutOf (held_in legs) others pool
 

@@ -1,4 +1,5 @@
--- For contracts alone: all that a connection over a told pool goes through, at want of memory too (this project's own)
+-- For contracts alone: all that a connection over a told pool goes through, at want of memory too
+-- (this project's own)
 use Rattle.std.specs.Prelude.{◌≡◌, ◌⊎◌, ℕ, Bool, List, Some}
 use Rattle.z_types.specs.declared.sitting.Sitting as sitting
 use Rattle.z_types.specs.declared.world.World as world
@@ -44,7 +45,8 @@ module _ {S : Type 0} where
     pub state : new.state ≡ old.state
     pub parted : IsParted new
 
-module _ {W S : Type 0} (w : world.Ghosts W) (t : sitting.Ghosts S W) (exact : Bool) (route : Route) where
+module _ {W S : Type 0} (w : world.Ghosts W) (t : sitting.Ghosts S W) (exact : Bool)
+    (route : Route) where
   -- it takes a step at some moment, whatever the step answers
   pub record TakesStep (old new : Point S) : Type 0 where
     pub now : ℕ

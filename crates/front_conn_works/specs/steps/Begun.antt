@@ -28,7 +28,8 @@ module _ {W : Type 0} (w : world.Ghosts W) (route : Route) where
     pub works : begun ≡ works_of w route new_client whole causes
 
   -- the octets in front of the rest are units, and these are the works that they ask
-  pub record AreWorksBefore (rest bytes : List ℕ) (marks : List Mark) (begun : List Work) : Type 0 where
+  pub record AreWorksBefore (rest bytes : List ℕ) (marks : List Mark)
+      (begun : List Work) : Type 0 where
     pub units : List Received
     pub each : AllByRecursion IsReceived units
     pub spelled : bytes ≡ octets_of units ++ rest
@@ -40,11 +41,15 @@ module _ {W : Type 0} (w : world.Ghosts W) (route : Route) where
     pub is_whole : IsConnection route bytes whole
     pub works : AreWorksOf whole marks begun
 
-module _ {W S : Type 0} (w : world.Ghosts W) (route : Route) (fed : List ℕ) (state : ConnectionState S) (begun : List Work) where
-  -- by whether the connection has ended: the works of the units that were taken; or those of all octets, whatever may still come
+module _ {W S : Type 0} (w : world.Ghosts W) (route : Route) (fed : List ℕ)
+    (state : ConnectionState S) (begun : List Work) where
+  -- by whether the connection has ended: the works of the units that were taken; or those of all
+  -- octets, whatever may still come
   abbrev pub HasBegunBy : Option End → Type 0
   HasBegunBy None = AreWorksBefore w route state.left fed state.marks begun
-  HasBegunBy (Some end) = (more : List ℕ) → MayCome state.has_ended more → AreWorksIn w route (fed ++ more) state.marks begun
+  HasBegunBy (Some end) =
+      (more : List ℕ) → MayCome state.has_ended more
+      → AreWorksIn w route (fed ++ more) state.marks begun
 
   -- these works were begun, in this order, of a connection of units that was fed such octets
   abbrev pub HasBegun : Type 0

@@ -1,5 +1,5 @@
--- For contracts alone: what a connection goes through (this project's own): steps, pieces that come, the end of its input, and
--- what is written to its client, one behind another
+-- For contracts alone: what a connection goes through (this project's own): steps, pieces that
+-- come, the end of its input, and what is written to its client, one behind another
 use Rattle.std.specs.Prelude.{◌≡◌, ◌≢◌, ◌⊎◌, ℕ, Bool, false, List, [], ◌∷◌, ◌++◌}
 use Rattle.std.specs.List.{AllByRecursion}
 use Rattle.z_types.specs.Bounds.{within64}
@@ -44,14 +44,17 @@ module _ {S : Type 0} where
 
   -- what was to be written is
   abbrev pub IsWritten : (old new : Point S) → Type 0
-  IsWritten old new = new ≡ record old { state = without_out old.state; written = old.written ++ old.state.out }
+  IsWritten old new =
+      new ≡ record old { state = without_out old.state; written = old.written ++ old.state.out }
 
   -- what is begun from point to point
   abbrev pub begun_through : Point S → List (Point S) → List Work
   begun_through point [] = []
-  begun_through point (next ∷ points) = begun_by point.state.in_work next.state.in_work ++ begun_through next points
+  begun_through point (next ∷ points) =
+      begun_by point.state.in_work next.state.in_work ++ begun_through next points
 
-module _ {W S : Type 0} (w : world.Ghosts W) (t : sitting.Ghosts S W) (exact : Bool) (route : Route) where
+module _ {W S : Type 0} (w : world.Ghosts W) (t : sitting.Ghosts S W) (exact : Bool)
+    (route : Route) where
   -- it takes a step that does not run out of memory, at some moment, whatever stands outside
   pub record TakesStep (old new : Point S) : Type 0 where
     pub now : ℕ
@@ -70,9 +73,11 @@ module _ {W S : Type 0} (w : world.Ghosts W) (t : sitting.Ghosts S W) (exact : B
 
 -- ---- since a connection rested
 
--- the works of the units that were taken since: octets that came behind those that were not taken yet are these units and what
--- is not taken now, and marks were listed for causes under which the client, as it was then, asks these works
-pub record AreWorksSince {W S : Type 0} (w : world.Ghosts W) (route : Route) (old new : Point S) (works : List Work) : Type 0 where
+-- the works of the units that were taken since: octets that came behind those that were not taken
+-- yet are these units and what is not taken now, and marks were listed for causes under which the
+-- client, as it was then, asks these works
+pub record AreWorksSince {W S : Type 0} (w : world.Ghosts W) (route : Route) (old new : Point S)
+    (works : List Work) : Type 0 where
   pub more : List ℕ
   pub fed : new.fed ≡ old.fed ++ more
   pub units : List Received
@@ -83,4 +88,5 @@ pub record AreWorksSince {W S : Type 0} (w : world.Ghosts W) (route : Route) (ol
   pub at : ℕ
   pub is_at : old.state.at ≡ within64 at
   pub are : works
-      ≡ works_of w route (client_of old.state.session) (course route (progress_of at old.state.session) units) causes
+      ≡ works_of w route (client_of old.state.session)
+      (course route (progress_of at old.state.session) units) causes

@@ -34,7 +34,8 @@ pub record IsSmall (a : Account) : Type 0 where
   pub looks : a.looks < last32
 
 -- a turn may be counted in a phase
-pub record MayCount (S : Type 0) (terms : Terms) (task : Task) (phase : Phase S) (a : Account) : Type 0 where
+pub record MayCount (S : Type 0) (terms : Terms) (task : Task) (phase : Phase S)
+    (a : Account) : Type 0 where
   pub account : AccountKept (ahead_of (want_of task) phase) (looks_of phase) a
   pub within : IsWithin terms.pool phase a
   pub pool : ArePoolNumbers terms.pool
@@ -44,7 +45,8 @@ pub record MayCount (S : Type 0) (terms : Terms) (task : Task) (phase : Phase S)
 abbrev pub GoesOn : {S : Type 0} → (wanted left : Phase S) → Turned → Phase S → Type 0
 GoesOn wanted left answer new = Ends perhaps wanted left turned.Went answer new
 
-module _ {W S : Type 0} (w : world.Ghosts W) (t : sitting.Ghosts S W) (terms : Terms) (task : Task) where
+module _ {W S : Type 0} (w : world.Ghosts W) (t : sitting.Ghosts S W) (terms : Terms)
+    (task : Task) where
   -- what holds of a leg
   pub record Holds (most : ℕ) (phase : Phase S) (a : Account) : Type 0 where
     pub kept : LegKept w t task phase a
@@ -53,15 +55,17 @@ module _ {W S : Type 0} (w : world.Ghosts W) (t : sitting.Ghosts S W) (terms : T
 
   module _ (now : ℕ) where
     -- the rules say where the leg goes and what it counts, and what holds of a leg holds again
-    pub record Follows (most : ℕ) (deed : Deed S) (old new : Phase S) (a b : Account) (answer : Turned) : Type 0 where
+    pub record Follows (most : ℕ) (deed : Deed S) (old new : Phase S) (a b : Account)
+        (answer : Turned) : Type 0 where
       pub goes : Becomes deed (next terms task now b.gones old deed) (left_by old deed) answer new
-      pub account : b ≡ counted terms.class (rises_of (want_of task) deed) (is_given old) (looks_after (looks_of old) deed) a
+      pub account : b ≡ counted terms.class (rises_of (want_of task) deed) (is_given old)
+          (looks_after (looks_of old) deed) a
       pub done : is_done_answer answer ≡ is_done new
       pub holds : Holds most new b
 
     -- a step is a turn, and what holds of a leg holds again
-    pub record IsStep (exact : Bool) (old new : Phase S) (a b : Account) (answer : Turned) (door after : DoorView S)
-        (backend moved : BackendView) : Type 0 where
+    pub record IsStep (exact : Bool) (old new : Phase S) (a b : Account) (answer : Turned)
+        (door after : DoorView S) (backend moved : BackendView) : Type 0 where
       pub law : IsTurn w t exact terms task now old new a b answer door after backend moved
       pub done : is_done_answer answer ≡ is_done new
       pub holds : Holds after.counts.most new b

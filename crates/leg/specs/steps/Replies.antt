@@ -1,4 +1,5 @@
--- For contracts alone: what is known of a session once it was asked or looked at (this project's own)
+-- For contracts alone: what is known of a session once it was asked or looked at
+-- (this project's own)
 use Rattle.std.specs.Prelude.{◌≡◌, ℕ, ◌+◌, ◌<◌, ◌≤◌, ◌^◌, List, length, None, Some, Result, Ok, Err}
 use Rattle.z_types.specs.Bounds.{most_number}
 use Rattle.z_types.specs.Pending.{resting, opening}
@@ -81,18 +82,22 @@ module _ {W S : Type 0} (w : world.Ghosts W) (t : sitting.Ghosts S W) where
   AreNext (Records key first count syntax element) held items others =
       (1 ≤ length others) × (length items + length others ≤ count)
       × (w.told held.parts.address
-      → AreRecords (λ position. w.record_ held.parts.address key position syntax element) (first + length items) others)
+      → AreRecords (λ position. w.record_ held.parts.address key position syntax element)
+      (first + length items) others)
   AreNext task held items others = ⊥
 
   abbrev pub IsNextRefused : Task → Held S → List Item → Diag → Type 0
   IsNextRefused (Records key first count syntax element) held items diag =
-      w.told held.parts.address → w.record_ held.parts.address key (first + length items) syntax element ≡ Err diag
+      w.told held.parts.address
+      → w.record_ held.parts.address key (first + length items) syntax element ≡ Err diag
   IsNextRefused task held items diag = ⊥
 
   -- the reply to a present of the records that are left
   abbrev pub PresentHeard : Task → Held S → List Item → (slot : ℕ) → Heard → Type 0
-  PresentHeard task held items slot (look.Items others) = IsHeld w t resting held × AreNext task held items others
-  PresentHeard task held items slot (look.Refused diag) = IsHeld w t resting held × IsNextRefused task held items diag
+  PresentHeard task held items slot (look.Items others) =
+      IsHeld w t resting held × AreNext task held items others
+  PresentHeard task held items slot (look.Refused diag) =
+      IsHeld w t resting held × IsNextRefused task held items diag
   PresentHeard task held items slot look.Gone = IsHeld w t resting held
   PresentHeard task held items slot look.NotYet = IsFetching w t (next_ask task items slot) held
   PresentHeard task held items slot look.Failed = Unit {0}
@@ -101,13 +106,16 @@ module _ {W S : Type 0} (w : world.Ghosts W) (t : sitting.Ghosts S W) where
 
   -- the leg's own scan was answered as the world says
   abbrev pub ScanIs : Terms → Task → Held S → Result ScanAnswer Diag → Type 0
-  ScanIs terms (Scan scan) held found = w.told held.parts.address → w.scan held.parts.address terms.dbs scan ≡ found
+  ScanIs terms (Scan scan) held found =
+      w.told held.parts.address → w.scan held.parts.address terms.dbs scan ≡ found
   ScanIs terms task held found = ⊥
 
   -- the reply to a scan
   abbrev pub ScanHeard : Terms → Task → Held S → Heard → Type 0
-  ScanHeard terms task held (look.Scanned entries) = IsHeld w t resting held × ScanIs terms task held (Ok entries)
-  ScanHeard terms task held (look.Refused diag) = IsHeld w t resting held × ScanIs terms task held (Err diag)
+  ScanHeard terms task held (look.Scanned entries) =
+      IsHeld w t resting held × ScanIs terms task held (Ok entries)
+  ScanHeard terms task held (look.Refused diag) =
+      IsHeld w t resting held × ScanIs terms task held (Err diag)
   ScanHeard terms task held look.NotYet = TableKept w t held.parts × IsScanning w t terms task held
   ScanHeard terms task held look.Failed = Unit {0}
   ScanHeard terms task held look.Memory = Unit {0}

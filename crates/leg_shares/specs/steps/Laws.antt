@@ -40,46 +40,59 @@ StaysOnce S =
 -- what is kept of a class is decided by the last uses of it and of its keys
 abbrev pub LastUsesDecide : {W : Type 0} → world.Ghosts W → Type 0 → Type 0
 LastUsesDecide w S =
-    (route : Route) (class now : ℕ) (at : List Address) (uses others : List Use) (os : List (Session S))
-    → HaveSameLast class uses others → AreKept w route class at now uses os → AreKept w route class at now others os
+    (route : Route) (class now : ℕ) (at : List Address) (uses others : List Use)
+    (os : List (Session S))
+    → HaveSameLast class uses others → AreKept w route class at now uses os
+    → AreKept w route class at now others os
 
--- a class that was used now, with that key, needs no dial, and no search but where the target refuses it
+-- a class that was used now, with that key, needs no dial, and no search but where the target
+-- refuses it
 abbrev pub AgainNeedsNone : {W : Type 0} → world.Ghosts W → Type 0
 AgainNeedsNone w =
     (route : Route) (class now : ℕ) (before : List Use) (key : SetKey)
-    → ArePoolNumbers route.pool → last_at (is_in class) before ≡ Some now → last_at (is_set_in class key) before ≡ Some now
-    → (dial_due route class now before ≡ false) × (search_due w route class now before (Some key) ≡ is_refused w route class key)
+    → ArePoolNumbers route.pool → last_at (is_in class) before ≡ Some now
+    → last_at (is_set_in class key) before ≡ Some now
+    → (dial_due route class now before ≡ false)
+    × (search_due w route class now before (Some key) ≡ is_refused w route class key)
 
 module _ {W S : Type 0} (w : world.Ghosts W) (t : sitting.Ghosts S W) where
   -- a turn goes on as the leg's use of its class needs, and leaves the other classes
   abbrev pub TurnsShare : Type 0
   TurnsShare =
-      (exact : Bool) (route : Route) (place now : ℕ) (before : List Use) (task : Task) (old new : Phase S) (a b : Account) (answer : Turned)
-      (door after : DoorView S) (backend moved : BackendView) (pool : Pool S)
-      → MayUse w route (class_of route place) now before (want_of task) → door.pool ≡ Some pool → IsPoolOf route pool
-      → IsTurn w t exact (terms_of route place) task now old new a b answer door after backend moved → WentOn answer b
+      (exact : Bool) (route : Route) (place now : ℕ) (before : List Use) (task : Task)
+      (old new : Phase S) (a b : Account) (answer : Turned) (door after : DoorView S)
+      (backend moved : BackendView) (pool : Pool S)
+      → MayUse w route (class_of route place) now before (want_of task) → door.pool ≡ Some pool
+      → IsPoolOf route pool → IsTurn w t exact
+      (terms_of route place) task now old new a b answer door after backend moved → WentOn answer b
       → Shares w t route (class_of route place) now before task old a pool
       → SharesThen w t route (class_of route place) now before task new b pool after.pool
 
   -- what others do with other classes leaves the leg where it stands
   abbrev pub OthersShare : Type 0
   OthersShare =
-      (route : Route) (class now : ℕ) (before : List Use) (task : Task) (phase : Phase S) (account : Account) (old new : Pool S)
+      (route : Route) (class now : ℕ) (before : List Use) (task : Task) (phase : Phase S)
+      (account : Account) (old new : Pool S)
       → StayOrExpire route now (of_class class old.sessions) (of_class class new.sessions)
-      → Shares w t route class now before task phase account old → Shares w t route class now before task phase account new
+      → Shares w t route class now before task phase account old
+      → Shares w t route class now before task phase account new
 
-  -- a leg over a class that is kept, once it is done: it dialled exactly where a dial was needed, it searched exactly where a
-  -- search was, and the class is kept with its use
-  pub record IsShared (route : Route) (class now : ℕ) (before : List Use) (task : Task) (point : Point S) : Type 0 where
+  -- a leg over a class that is kept, once it is done: it dialled exactly where a dial was needed,
+  -- it searched exactly where a search was, and the class is kept with its use
+  pub record IsShared (route : Route) (class now : ℕ) (before : List Use) (task : Task)
+      (point : Point S) : Type 0 where
     pub dials : point.account.dials ≡ one_if (dial_due route class now before)
-    pub searches : point.account.searches ≡ one_if (search_due w route class now before (want_of task))
+    pub searches : point.account.searches
+        ≡ one_if (search_due w route class now before (want_of task))
     pub of : IsPoolOf route point.pool
     pub kept : IsKeptBehind w route class now (with_use class now before task) point.pool
 
   abbrev pub LegsShare : Type 0
   LegsShare =
-      (exact : Bool) (route : Route) (place now : ℕ) (before : List Use) (task : Task) (pool : Pool S) (points : List (Point S))
+      (exact : Bool) (route : Route) (place now : ℕ) (before : List Use) (task : Task)
+      (pool : Pool S) (points : List (Point S))
       → MayUse w route (class_of route place) now before (want_of task) → IsPoolOf route pool
       → IsKeptBehind w route (class_of route place) now before pool
-      → GoesThrough (GoesOn w t exact route place task now) (at_first pool) points → IsDone (last_of (at_first pool) points).phase
+      → GoesThrough (GoesOn w t exact route place task now) (at_first pool) points
+      → IsDone (last_of (at_first pool) points).phase
       → IsShared route (class_of route place) now before task (last_of (at_first pool) points)

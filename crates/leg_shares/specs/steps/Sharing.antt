@@ -1,5 +1,6 @@
--- For contracts alone: where a leg stands that shares the session of its class, over a told pool that uses left so (this
--- project's own). All of it goes on at one moment, and nothing goes wrong: a leg that lost its session shares none
+-- For contracts alone: where a leg stands that shares the session of its class, over a told pool
+-- that uses left so (this project's own). All of it goes on at one moment, and nothing goes wrong:
+-- a leg that lost its session shares none
 use Rattle.std.specs.Prelude.{◌≡◌, ◌≢◌, ℕ, ◌<◌, true, List, ◌∷◌, length, is_some, Option, Some}
 use Rattle.z_types.specs.Pending.{opening, asked}
 use Rattle.z_types.specs.declared.ask.Ask.{Ask}
@@ -27,7 +28,8 @@ use Rattle.sharing_rules.specs.Uses.{Use}
 use Rattle.leg_shares.specs.steps.Pools.{IsPoolOf, LeavesRest}
 use Rattle.sharing_rules.specs.steps.Shared.{AreKept, HoldsUsed, IsLent, IsOutWith, dial_due, of_class, search_due, use_now}
 
--- a turn had memory, and up to it no call of the leg failed, no look was in vain and no set was gone
+-- a turn had memory, and up to it no call of the leg failed, no look was in vain and no set was
+-- gone
 pub record WentOn (answer : Turned) (account : Account) : Type 0 where
   pub memory : answer ≢ turned.Memory
   pub faults : account.faults ≡ 0
@@ -37,7 +39,8 @@ pub record WentOn (answer : Turned) (account : Account) : Type 0 where
 -- ---- what it waits for
 
 -- the reply to such an ask is awaited
-pub record Awaits {W S : Type 0} (t : sitting.Ghosts S W) (IsSo : Ask → Type 0) (session : S) : Type 0 where
+pub record Awaits {W S : Type 0} (t : sitting.Ghosts S W) (IsSo : Ask → Type 0)
+    (session : S) : Type 0 where
   pub asks : Ask
   pub waits : t.pending session ≡ asked asks
   pub is_so : IsSo asks
@@ -49,7 +52,8 @@ IsOwnSearch want asks = ⊥
 
 -- a Present, where records are wanted
 abbrev pub IsOwnPresent : Task → Ask → Type 0
-IsOwnPresent (Records key first count syntax element) (ask.Present name from most form set) = Unit {0}
+IsOwnPresent (Records key first count syntax element) (ask.Present name from most form set) =
+    Unit {0}
 IsOwnPresent task asks = ⊥
 
 abbrev pub IsScan : Ask → Type 0
@@ -70,26 +74,31 @@ module _ {S : Type 0} where
   dials_by route class now before phase = one_if (dial_due route class now before)
 
   -- and the searches: that which its use needs, once it is sent
-  abbrev pub searches_by : {W : Type 0} → world.Ghosts W → Route → (class now : ℕ) → (before : List Use) → Option SetKey → Phase S → ℕ
+  abbrev pub searches_by : {W : Type 0} → world.Ghosts W → Route → (class now : ℕ)
+      → (before : List Use) → Option SetKey → Phase S → ℕ
   searches_by w route class now before want Begin = 0
   searches_by w route class now before want (Dialling seat member) = 0
   searches_by w route class now before want (Dialled held looks) = 0
   searches_by w route class now before want (Ready held items) = 0
-  searches_by w route class now before want phase = one_if (search_due w route class now before want)
+  searches_by w route class now before want phase =
+      one_if (search_due w route class now before want)
 
 -- ---- where it stands
 
 module _ {W S : Type 0} (w : world.Ghosts W) (route : Route) (class now : ℕ) where
   -- the class is kept behind these uses
   abbrev pub IsKeptBehind : List Use → Pool S → Type 0
-  IsKeptBehind uses pool = AreKept w route class (members_of route class) now uses (of_class class pool.sessions)
+  IsKeptBehind uses pool =
+      AreKept w route class (members_of route class) now uses (of_class class pool.sessions)
 
   -- the one session of the class is out for the leg, with what these uses left in its table
   abbrev pub IsOutBehind : List Use → Held S → Pool S → Type 0
-  IsOutBehind uses held pool = IsOutWith w route class (members_of route class) now uses held.seat held.parts pool.sessions
+  IsOutBehind uses held pool =
+      IsOutWith w route class (members_of route class) now uses held.seat held.parts pool.sessions
 
   -- the class has no session, and so one is dialled for the leg
-  pub record IsToDial (before : List Use) (want : Option SetKey) (seat : Seat) (member : ℕ) (pool : Pool S) : Type 0 where
+  pub record IsToDial (before : List Use) (want : Option SetKey) (seat : Seat) (member : ℕ)
+      (pool : Pool S) : Type 0 where
     pub own : seat.class ≡ class
     pub out : IsLent class seat pool.sessions
     pub place : member < length (members_of route class)
@@ -97,7 +106,8 @@ module _ {W S : Type 0} (w : world.Ghosts W) (route : Route) (class now : ℕ) w
     pub dial : dial_due route class now before ≡ true
     pub search : search_due w route class now before want ≡ is_some want
 
-module _ {W S : Type 0} (w : world.Ghosts W) (t : sitting.Ghosts S W) (route : Route) (class now : ℕ) (before : List Use) where
+module _ {W S : Type 0} (w : world.Ghosts W) (t : sitting.Ghosts S W) (route : Route)
+    (class now : ℕ) (before : List Use) where
   -- it holds no set that is wanted, which is then to be searched for
   pub record IsBeforeUse (want : Option SetKey) (held : Held S) (pool : Pool S) : Type 0 where
     pub out : IsOutBehind w route class now before held pool
@@ -106,7 +116,8 @@ module _ {W S : Type 0} (w : world.Ghosts W) (t : sitting.Ghosts S W) (route : R
     pub search : search_due w route class now before want ≡ is_some want
 
   -- the set is searched for under a slot that no other has
-  pub record IsInSearch (want : Option SetKey) (held : Held S) (slot : ℕ) (pool : Pool S) : Type 0 where
+  pub record IsInSearch (want : Option SetKey) (held : Held S) (slot : ℕ)
+      (pool : Pool S) : Type 0 where
     pub session : IsBeforeUse want held pool
     pub free : is_free held.parts.table.entries slot ≡ true
     pub awaits : Awaits t (IsOwnSearch want) held.parts.session
@@ -116,18 +127,23 @@ module _ {W S : Type 0} (w : world.Ghosts W) (t : sitting.Ghosts S W) (route : R
     abbrev pub IsUsed : Held S → Pool S → Type 0
     IsUsed held pool = IsOutBehind w route class now (with_use class now before task) held pool
 
-    -- before the take the class is kept, and once its session is put back it is kept with the use; in between the leg has it
+    -- before the take the class is kept, and once its session is put back it is kept with the use;
+    -- in between the leg has it
     abbrev pub StandsBy : Phase S → Pool S → Type 0
     StandsBy Begin pool = IsKeptBehind w route class now before pool
-    StandsBy (Dialling seat member) pool = IsToDial w route class now before (want_of task) seat member pool
-    StandsBy (Dialled held looks) pool = IsBeforeUse (want_of task) held pool × (t.pending held.parts.session ≡ opening)
+    StandsBy (Dialling seat member) pool =
+        IsToDial w route class now before (want_of task) seat member pool
+    StandsBy (Dialled held looks) pool =
+        IsBeforeUse (want_of task) held pool × (t.pending held.parts.session ≡ opening)
     StandsBy (Ready held items) pool = IsBeforeUse (want_of task) held pool
     StandsBy (Searching held items slot looks) pool = IsInSearch (want_of task) held slot pool
     StandsBy (Presenting held items slot hits) pool = IsUsed held pool
-    StandsBy (Fetching held items slot hits looks) pool = IsUsed held pool × Awaits t (IsOwnPresent task) held.parts.session
+    StandsBy (Fetching held items slot hits looks) pool =
+        IsUsed held pool × Awaits t (IsOwnPresent task) held.parts.session
     StandsBy (Scanning held looks) pool = IsUsed held pool × Awaits t IsScan held.parts.session
     StandsBy (Returning held answer) pool = IsUsed held pool
-    StandsBy (Done answer) pool = IsKeptBehind w route class now (with_use class now before task) pool
+    StandsBy (Done answer) pool =
+        IsKeptBehind w route class now (with_use class now before task) pool
     StandsBy phase pool = ⊥
 
     -- a leg stands so, and had no more and no fewer dials and searches than its use needs
@@ -137,7 +153,8 @@ module _ {W S : Type 0} (w : world.Ghosts W) (t : sitting.Ghosts S W) (route : R
       pub searches : account.searches ≡ searches_by w route class now before (want_of task) phase
 
     -- so behind a turn over a pool that is told, which left the other classes
-    pub record SharesThen (phase : Phase S) (account : Account) (old : Pool S) (after : Option (Pool S)) : Type 0 where
+    pub record SharesThen (phase : Phase S) (account : Account) (old : Pool S)
+        (after : Option (Pool S)) : Type 0 where
       pub pool : Pool S
       pub told : after ≡ Some pool
       pub of : IsPoolOf route pool

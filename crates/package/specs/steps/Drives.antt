@@ -1,4 +1,5 @@
--- For contracts alone: turns of a package, one behind another, until none of its legs is left to turn (this project's own)
+-- For contracts alone: turns of a package, one behind another, until none of its legs is left to
+-- turn (this project's own)
 use Rattle.std.specs.Prelude.{◌≡◌, ◌⊎◌, ℕ, Bool, Result, Ok, Err}
 use Rattle.futures.specs.declared.task.Poll.{Poll}
 use Rattle.futures.specs.declared.task.Poll.TheVariants.{Ready, Pending}
@@ -23,7 +24,8 @@ pub record PackageAt (S : Type 0) : Type 0 where
   pub backend : BackendView
 
 -- as its door and its backend tell
-abbrev pub package_at : {W S D B : Type 0} → door.Ghosts D W S → watched.Ghosts B → PackageView S → D → B → PackageAt S
+abbrev pub package_at : {W S D B : Type 0} → door.Ghosts D W S → watched.Ghosts B → PackageView S
+    → D → B → PackageAt S
 package_at d b view pool sessions = record {
   view = view;
   door = record { pool = d.pool pool; counts = d.counts pool };
@@ -39,11 +41,13 @@ last_answer (Err memory) = turned.Memory
 abbrev pub IsAwaited : Turned → Type 0
 IsAwaited answer = (answer ≡ turned.Went) ⊎ (answer ≡ turned.NotYet)
 
-module _ {W S : Type 0} (w : world.Ghosts W) (t : sitting.Ghosts S W) (exact : Bool) (route : Route) where
+module _ {W S : Type 0} (w : world.Ghosts W) (t : sitting.Ghosts S W) (exact : Bool)
+    (route : Route) where
   -- a turn, at some moment, behind which it is a package of the route
   pub record TurnsTo (here next : PackageAt S) (answer : Turned) : Type 0 where
     pub now : ℕ
-    pub law : IsPackageTurn w t exact route now here.view next.view answer here.door next.door here.backend next.backend
+    pub law : IsPackageTurn w t exact route now here.view next.view answer here.door next.door
+        here.backend next.backend
     pub of : IsPackageOf w t route next.door.counts.most next.view
 
   -- a turn behind which another one is due
@@ -57,7 +61,8 @@ module _ {W S : Type 0} (w : world.Ghosts W) (t : sitting.Ghosts S W) (exact : B
   IsTurnOf here next Pending = GoesOnTo here next
   IsTurnOf here next (Ready out) = TurnsTo here next (last_answer out)
 
-  -- all turns of a package that is driven: behind the last one all legs are done, or it lacked memory
+  -- all turns of a package that is driven: behind the last one all legs are done, or it lacked
+  -- memory
   pub record IsDriven {A : Type 0} (first last : PackageAt S) (out : Result A Memory) : Type 0 where
     pub amid : PackageAt S
     pub goes : StepsFrom GoesOnTo first amid

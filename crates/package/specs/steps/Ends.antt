@@ -44,7 +44,8 @@ module _ {S : Type 0} where
 
   -- the hits of a leg, or its target's diagnostic where it is not hidden
   abbrev pub hits_in : Route → LegView S → Result ℕ Diag
-  hits_in route leg = hidden (hides route leg.leg) (option_map_or hits_said (answered leg.phase) (Ok 0))
+  hits_in route leg =
+      hidden (hides route leg.leg) (option_map_or hits_said (answered leg.phase) (Ok 0))
 
   -- ---- what a package that is over gives
 
@@ -98,7 +99,9 @@ abbrev pub given_next : ℕ → Option (Span × Answered) → Option (Result Ite
 given_next given fetch = option_and_then (λ it. item_said it.1.answer given) fetch
 
 abbrev pub named_next : Route → ℕ → Option (Span × Answered) → Option (Result NamedRecord Diag)
-named_next route given fetch = option_and_then (λ it. option_and_then (named_at route it.1.leg) (item_said it.1.answer given)) fetch
+named_next route given fetch =
+    option_and_then
+    (λ it. option_and_then (named_at route it.1.leg) (item_said it.1.answer given)) fetch
 
 -- the answer of the leg at a place among those of the work
 abbrev pub fetch_of : List (Span × Answered) → ℕ → Option (Span × Answered)

@@ -39,7 +39,8 @@ module _ {S : Type 0} where
 
 -- ---- what a flight may give
 
-module _ {W S : Type 0} (w : world.Ghosts W) (t : sitting.Ghosts S W) (route : Route) (most : ℕ) where
+module _ {W S : Type 0} (w : world.Ghosts W) (t : sitting.Ghosts S W) (route : Route)
+    (most : ℕ) where
   -- the answers of legs of the route that are asked so and are all done, in their order
   pub record AreAnswers (asked : List Asked) (said : List Said) : Type 0 where
     pub legs : List (LegView S)
@@ -55,17 +56,23 @@ module _ {W S : Type 0} (w : world.Ghosts W) (t : sitting.Ghosts S W) (route : R
 -- ---- a poll
 
 module _ {S : Type 0} where
-  -- the legs that were turned stay in the list that was lent while some are not done, and without memory: where a leg lacked it in
-  -- its turn, or all are done and there is no room for their answers; once all are done their answers are given, and none stays
-  abbrev pub Leaves : (lacks : Bool) → (turned left : List (LegView S)) → Poll (Result (List Said) Memory) → Type 0
+  -- the legs that were turned stay in the list that was lent while some are not done, and without
+  -- memory: where a leg lacked it in its turn, or all are done and there is no room for their
+  -- answers; once all are done their answers are given, and none stays
+  abbrev pub Leaves : (lacks : Bool) → (turned left : List (LegView S))
+      → Poll (Result (List Said) Memory) → Type 0
   Leaves lacks turned left Pending = (left ≡ turned) × (lacks ≡ false) × (all_done turned ≡ false)
-  Leaves lacks turned left (Ready (Ok said)) = (left ≡ []) × (lacks ≡ false) × AreDone turned × AreSaid turned said
-  Leaves lacks turned left (Ready (Err memory)) = (left ≡ turned) × ((lacks ≡ true) ⊎ (all_done turned ≡ true))
+  Leaves lacks turned left (Ready (Ok said)) =
+      (left ≡ []) × (lacks ≡ false) × AreDone turned × AreSaid turned said
+  Leaves lacks turned left (Ready (Err memory)) =
+      (left ≡ turned) × ((lacks ≡ true) ⊎ (all_done turned ≡ true))
 
-module _ {W S : Type 0} (w : world.Ghosts W) (t : sitting.Ghosts S W) (exact : Bool) (route : Route) where
-  -- at one moment each leg that is not done has one turn, one after another, and stays a leg of the route that is asked so
-  pub record IsPoll (old new : List (LegView S)) (given : Poll (Result (List Said) Memory)) (door after : DoorView S)
-      (backend moved : BackendView) : Type 0 where
+module _ {W S : Type 0} (w : world.Ghosts W) (t : sitting.Ghosts S W) (exact : Bool)
+    (route : Route) where
+  -- at one moment each leg that is not done has one turn, one after another, and stays a leg of the
+  -- route that is asked so
+  pub record IsPoll (old new : List (LegView S)) (given : Poll (Result (List Said) Memory))
+      (door after : DoorView S) (backend moved : BackendView) : Type 0 where
     pub now : ℕ
     pub turned : List (LegView S)
     pub round : Round

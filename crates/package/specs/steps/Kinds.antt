@@ -4,7 +4,8 @@ use Rattle.z_types.specs.declared.work.Work.TheVariants as work
 
 -- the work of a Search
 abbrev pub IsSearch : Work → Type 0
-IsSearch (work.Search login legs query small large medium small_element medium_element syntax room) =
+IsSearch (work.Search login legs query small large medium small_element medium_element
+    syntax room) =
     Unit {0}
 IsSearch other = ⊥
 

@@ -18,7 +18,8 @@ use Rattle.package_rules.specs.declared.answered.Answered.{Answered}
 use Rattle.package_rules.specs.Asked.{Asked, first_asked}
 use Rattle.package_rules.specs.Planned.{AreThere, then_asked_by}
 
--- a request's work, the legs for what is asked first, the legs for what is asked then, and whether it is known what that is
+-- a request's work, the legs for what is asked first, the legs for what is asked then, and whether
+-- it is known what that is
 pub record PackageView (S : Type 0) : Type 0 where
   pub work : Work
   pub first : List (LegView S)
@@ -43,7 +44,12 @@ module _ {S : Type 0} where
   -- a package that is begun
   abbrev pub new_package : Route → Work → PackageView S
   new_package route work =
-      record { work = work; first = map begun (first_asked route work); later = []; planned = false }
+      record {
+        work = work;
+        first = map begun (first_asked route work);
+        later = [];
+        planned = false;
+      }
 
   -- the accounts of legs
   abbrev pub accounts_of : List (LegView S) → List Account
@@ -78,7 +84,8 @@ module _ {S : Type 0} where
   abbrev pub IsPlanned : (planned : Bool) → Route → PackageView S → Type 0
   IsPlanned false route view = view.later ≡ []
   IsPlanned true route view =
-      AreDone view.first × (map asked_of view.later ≡ then_asked_by route view.work (answers_of view.first))
+      AreDone view.first
+      × (map asked_of view.later ≡ then_asked_by route view.work (answers_of view.first))
 
   -- its legs are asked what its work asks, which may be begun and asked
   pub record AsksSo (route : Route) (view : PackageView S) : Type 0 where
@@ -89,8 +96,8 @@ module _ {S : Type 0} where
     pub then : IsPlanned view.planned route view
 
 -- and each is a leg of the route, at a door that opens so many sessions of a class at most
-pub record IsPackageOf {W S : Type 0} (w : world.Ghosts W) (t : sitting.Ghosts S W) (route : Route) (most : ℕ)
-    (view : PackageView S) : Type 0 where
+pub record IsPackageOf {W S : Type 0} (w : world.Ghosts W) (t : sitting.Ghosts S W)
+    (route : Route) (most : ℕ) (view : PackageView S) : Type 0 where
   pub asks : AsksSo route view
   pub first : All (IsLegOf w t route most) view.first
   pub later : All (IsLegOf w t route most) view.later

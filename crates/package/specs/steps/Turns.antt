@@ -1,4 +1,5 @@
--- For contracts alone: what a turn does to the legs of a request, their door and their backend (this project's own)
+-- For contracts alone: what a turn does to the legs of a request, their door and their backend
+-- (this project's own)
 use Rattle.std.specs.Prelude.{◌≡◌, ℕ, ◌&&◌, ◌||◌, Bool, true, false, List, [], ◌∷◌, map, if◌then◌else◌}
 use Rattle.z_types.specs.declared.sitting.Sitting as sitting
 use Rattle.z_types.specs.declared.world.World as world
@@ -36,8 +37,8 @@ round_after round answer = record {
   lacks = round.lacks || is_memory answer;
 }
 
--- what the turn of a package answers: want of memory where a leg lacked it; that all legs are done; that some were not done before
--- it, and each of these heard nothing; or that it went on
+-- what the turn of a package answers: want of memory where a leg lacked it; that all legs are done;
+-- that some were not done before it, and each of these heard nothing; or that it went on
 abbrev pub round_answer : (over : Bool) → Round → Turned
 round_answer over round =
     if round.lacks then turned.Memory
@@ -58,7 +59,8 @@ all_done (leg ∷ legs) = is_done leg.phase && all_done legs
 
 -- ---- what is asked then
 
--- nothing more is known to be asked: while some of the first legs are not done, or for want of memory
+-- nothing more is known to be asked: while some of the first legs are not done, or for want of
+-- memory
 pub record IsUnplanned {S : Type 0} (new : PackageView S) : Type 0 where
   pub planned : new.planned ≡ false
   pub later : new.later ≡ []
@@ -73,25 +75,31 @@ abbrev pub Plans : {S : Type 0} → Route → PackageView S → Turned → Type 
 Plans route new turned.Memory = IsUnplanned new
 Plans route new answer = IsPlannedNow route new × (answer ≡ done_or_went (all_done new.later))
 
-module _ {W S : Type 0} (w : world.Ghosts W) (t : sitting.Ghosts S W) (exact : Bool) (route : Route) (now : ℕ) where
+module _ {W S : Type 0} (w : world.Ghosts W) (t : sitting.Ghosts S W) (exact : Bool) (route : Route)
+    (now : ℕ) where
   -- a leg had its turn, by its law
-  pub record HadTurn (old new : LegView S) (answer : Turned) (door after : DoorView S) (backend moved : BackendView) : Type 0 where
+  pub record HadTurn (old new : LegView S) (answer : Turned) (door after : DoorView S)
+      (backend moved : BackendView) : Type 0 where
     pub leg : new.leg ≡ old.leg
     pub task : new.task ≡ old.task
-    pub law : IsTurn w t exact (terms_of route old.leg) old.task now old.phase new.phase old.account new.account answer
+    pub law : IsTurn w t exact
+        (terms_of route old.leg) old.task now old.phase new.phase old.account new.account answer
         door after backend moved
 
   -- a leg that is done stays as it is, and nothing is called; any other has its turn
-  abbrev pub HasTurned : (done : Bool) → (old new : LegView S) → (round next : Round) → (door after : DoorView S)
-      → (backend moved : BackendView) → Type 0
+  abbrev pub HasTurned : (done : Bool) → (old new : LegView S) → (round next : Round)
+      → (door after : DoorView S) → (backend moved : BackendView) → Type 0
   HasTurned true old new round next door after backend moved =
       (new ≡ old) × (next ≡ round) × (after ≡ door) × (moved ≡ backend)
   HasTurned false old new round next door after backend moved =
-      (answer : Turned) × (next ≡ round_after round answer) × HadTurn old new answer door after backend moved
+      (answer : Turned) × (next ≡ round_after round answer)
+      × HadTurn old new answer door after backend moved
 
   -- the first has its turn, and the others go on from there
-  pub record HasTurnedFirst (Others : (round : Round) → (door : DoorView S) → (backend : BackendView) → Type 0)
-      (old new : LegView S) (round : Round) (door : DoorView S) (backend : BackendView) : Type 0 where
+  pub record HasTurnedFirst
+      (Others : (round : Round) → (door : DoorView S) → (backend : BackendView) → Type 0)
+      (old new : LegView S) (round : Round) (door : DoorView S)
+      (backend : BackendView) : Type 0 where
     pub next : Round
     pub between : DoorView S
     pub amid : BackendView
@@ -99,11 +107,13 @@ module _ {W S : Type 0} (w : world.Ghosts W) (t : sitting.Ghosts S W) (exact : B
     pub others : Others next between amid
 
   -- each leg that is not done has one turn, one after another
-  abbrev pub HaveTurned : (old new : List (LegView S)) → (round last : Round) → (door after : DoorView S)
-      → (backend moved : BackendView) → Type 0
-  HaveTurned [] [] round last door after backend moved = (last ≡ round) × (after ≡ door) × (moved ≡ backend)
+  abbrev pub HaveTurned : (old new : List (LegView S)) → (round last : Round)
+      → (door after : DoorView S) → (backend moved : BackendView) → Type 0
+  HaveTurned [] [] round last door after backend moved =
+      (last ≡ round) × (after ≡ door) × (moved ≡ backend)
   HaveTurned (old ∷ olds) (new ∷ news) round last door after backend moved =
-      HasTurnedFirst (λ next between amid. HaveTurned olds news next last between after amid moved) old new round door backend
+      HasTurnedFirst (λ next between amid. HaveTurned olds news next last between after amid moved)
+      old new round door backend
   HaveTurned olds news round last door after backend moved = ⊥
 
   -- ---- the turn of a package
@@ -113,9 +123,10 @@ module _ {W S : Type 0} (w : world.Ghosts W) (t : sitting.Ghosts S W) (exact : B
   GoesOn false new round answer = IsUnplanned new × (answer ≡ round_answer false round)
   GoesOn true new round answer = Plans route new answer
 
-  -- the first legs have their turns until all are done; then, from the next turn on, those for what is asked then
-  abbrev pub TakesTurn : (planned : Bool) → (old new : PackageView S) → Turned → (round : Round) → (door after : DoorView S)
-      → (backend moved : BackendView) → Type 0
+  -- the first legs have their turns until all are done; then, from the next turn on, those for what
+  -- is asked then
+  abbrev pub TakesTurn : (planned : Bool) → (old new : PackageView S) → Turned → (round : Round)
+      → (door after : DoorView S) → (backend moved : BackendView) → Type 0
   TakesTurn false old new answer round door after backend moved =
       HaveTurned old.first new.first no_round round door after backend moved
       × GoesOn (all_done new.first) new round answer
@@ -124,7 +135,8 @@ module _ {W S : Type 0} (w : world.Ghosts W) (t : sitting.Ghosts S W) (exact : B
       × HaveTurned old.later new.later no_round round door after backend moved
       × (answer ≡ round_answer (all_done new.later) round)
 
-  pub record IsPackageTurn (old new : PackageView S) (answer : Turned) (door after : DoorView S) (backend moved : BackendView)
+  pub record IsPackageTurn (old new : PackageView S) (answer : Turned) (door after : DoorView S)
+      (backend moved : BackendView)
       : Type 0 where
     pub work : new.work ≡ old.work
     pub round : Round

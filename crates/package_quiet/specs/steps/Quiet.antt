@@ -1,4 +1,5 @@
--- For contracts alone: what it is that nothing goes wrong over a quiet backend, at addresses that are told (this project's own)
+-- For contracts alone: what it is that nothing goes wrong over a quiet backend, at addresses that
+-- are told (this project's own)
 use Rattle.std.specs.Prelude.{◌≡◌, List, Contains, Option}
 use Rattle.std.specs.List.{AllByRecursion}
 use Rattle.z_types.specs.declared.address.Address.{Address}
@@ -21,7 +22,8 @@ abbrev pub AreTold : {W : Type 0} → world.Ghosts W → List Address → Type 0
 AreTold w at = (address : Address) → Contains at address → w.told address
 
 -- nothing is made to happen to any link, and the sessions of the pool that are idle are whole
-pub record IsCalm {W S : Type 0} (w : world.Ghosts W) (t : sitting.Ghosts S W) (pool : Option (Pool S)) (backend : BackendView)
+pub record IsCalm {W S : Type 0} (w : world.Ghosts W) (t : sitting.Ghosts S W)
+    (pool : Option (Pool S)) (backend : BackendView)
     : Type 0 where
   pub quiet : AreQuiet backend.happened
   pub sessions : IsWholePool w t pool
@@ -41,7 +43,8 @@ pub record HasNoCause (account : Account) : Type 0 where
 
 module _ {W S : Type 0} (w : world.Ghosts W) (t : sitting.Ghosts S W) where
   -- nothing went wrong, and nothing can behind it
-  pub record WentWell (had_memory : Type 0) (after : Option (Pool S)) (backend moved : BackendView) : Type 0 where
+  pub record WentWell (had_memory : Type 0) (after : Option (Pool S))
+      (backend moved : BackendView) : Type 0 where
     pub calm : IsCalm w t after moved
     pub counts : CountsStay had_memory backend.counts moved.counts
 

@@ -1,5 +1,6 @@
--- For contracts alone: sessions with targets that are whole (this project's own): over a quiet backend nothing cuts their links, the
--- reply that they wait for comes at the first look, and the sets that they made are there
+-- For contracts alone: sessions with targets that are whole (this project's own): over a quiet
+-- backend nothing cuts their links, the reply that they wait for comes at the first look, and the
+-- sets that they made are there
 use Rattle.std.specs.Prelude.{◌≡◌, ℕ, ◌≤◌, Bool, true, false, if◌then◌else◌, is_some, List, [], ◌∷◌, Option, None, Some}
 use Rattle.std.specs.List.{AllByRecursion}
 use Rattle.z_types.specs.Links.{LinkView}
@@ -39,10 +40,12 @@ RepliesAtOnce broken link = ⊥
 module _ {W : Type 0} (w : world.Ghosts W) (address : Address) where
   -- whether a set stands under a name once the search is answered that is awaited
   abbrev pub will_stand : Pending → Made → List ℕ → Bool
-  will_stand (asked (Search own key)) made name = if is_same own name then is_good (w.search address key) else is_some (made name)
+  will_stand (asked (Search own key)) made name =
+      if is_same own name then is_good (w.search address key) else is_some (made name)
   will_stand waits made name = is_some (made name)
 
-  -- of a session at an address, by what it waits for, what it made, and how its link stands: the target holds what it made
+  -- of a session at an address, by what it waits for, what it made, and how its link stands: the
+  -- target holds what it made
   pub record IsWholeAs (pending : Pending) (made : Made) (link : LinkView) : Type 0 where
     pub told : w.told address
     pub linked : 1 ≤ link.number
@@ -52,7 +55,8 @@ module _ {W : Type 0} (w : world.Ghosts W) (address : Address) where
 module _ {W S : Type 0} (w : world.Ghosts W) (t : sitting.Ghosts S W) where
   -- a session is whole; one that is broken is not
   abbrev pub IsWhole : S → Type 0
-  IsWhole session = IsWholeAs w (t.address session) (t.pending session) (t.made session) (t.link session)
+  IsWhole session =
+      IsWholeAs w (t.address session) (t.pending session) (t.made session) (t.link session)
 
   -- and waits for this
   pub record IsWholeAt (pending : Pending) (session : S) : Type 0 where
@@ -86,8 +90,10 @@ module _ {W S : Type 0} (w : world.Ghosts W) (t : sitting.Ghosts S W) where
   IsWholeIn terms (Dialling seat member) = w.told (opened_at terms member)
   IsWholeIn terms (Dialled held looks) = IsWholeAt w t opening held.parts.session
   IsWholeIn terms (Ready held items) = IsWholeAt w t resting held.parts.session
-  IsWholeIn terms (Searching held items slot looks) = IsWholeAsked w t (IsSearchUnder slot) held.parts.session
-  IsWholeIn terms (Presenting held items slot hits) = IsWholeAt w t resting held.parts.session × HasMade slot held.parts.session
+  IsWholeIn terms (Searching held items slot looks) =
+      IsWholeAsked w t (IsSearchUnder slot) held.parts.session
+  IsWholeIn terms (Presenting held items slot hits) =
+      IsWholeAt w t resting held.parts.session × HasMade slot held.parts.session
   IsWholeIn terms (Fetching held items slot hits looks) =
       IsWholeAsked w t IsPresent held.parts.session × HasMade slot held.parts.session
   IsWholeIn terms (Scanning held looks) = IsWholeAsked w t IsScan held.parts.session

@@ -1,4 +1,5 @@
--- For contracts alone: the legs of a request that share their classes, over a told pool at one moment (this project's own)
+-- For contracts alone: the legs of a request that share their classes, over a told pool at one
+-- moment (this project's own)
 use Rattle.std.specs.Prelude.{◌≡◌, ◌⊎◌, ℕ, Bool, true, false, List, [], Option, Some}
 use Rattle.std.specs.List.{AllByRecursion}
 use Rattle.z_types.specs.declared.sitting.Sitting as sitting
@@ -22,11 +23,13 @@ module _ {W S : Type 0} (w : world.Ghosts W) (route : Route) (now : ℕ) (before
     pub first : MayShare w route now before view.first
     pub later : MayShare w route now (uses_behind route now before view.first) view.later
 
-module _ {W S : Type 0} (w : world.Ghosts W) (t : sitting.Ghosts S W) (route : Route) (now : ℕ) (before : List Use) where
-  -- the first legs share their classes; once all are done, and it is known what is asked then, the legs for that share
-  -- theirs behind the uses of the first
+module _ {W S : Type 0} (w : world.Ghosts W) (t : sitting.Ghosts S W) (route : Route) (now : ℕ)
+    (before : List Use) where
+  -- the first legs share their classes; once all are done, and it is known what is asked then, the
+  -- legs for that share theirs behind the uses of the first
   abbrev pub PackageShares : (planned : Bool) → PackageView S → Pool S → Type 0
-  PackageShares false view pool = AreSharing w t route now before view.first pool × (view.later ≡ [])
+  PackageShares false view pool =
+      AreSharing w t route now before view.first pool × (view.later ≡ [])
   PackageShares true view pool =
       AllByRecursion (HadItsCost w route now before) view.first
       × AreSharing w t route now (uses_behind route now before view.first) view.later pool

@@ -1,5 +1,6 @@
--- For contracts alone: a request from its first turn to its last, over a told pool at one moment. Its legs share the sessions of their
--- classes, and cost what the uses of its work need (this project's own)
+-- For contracts alone: a request from its first turn to its last, over a told pool at one moment.
+-- Its legs share the sessions of their classes, and cost what the uses of its work need
+-- (this project's own)
 use Rattle.std.specs.Prelude.{◌≡◌, ◌≢◌, ℕ, ◌≤◌, ◌==◌, nat_eq, true, Bool, if◌then◌else◌, List, [], ◌∷◌, ◌++◌, map, sum_by, Some}
 use Rattle.std.specs.List.{IsDistinct}
 use Rattle.z_types.specs.declared.sitting.Sitting as sitting
@@ -38,13 +39,15 @@ behind before (this ∷ uses) = behind (this ∷ before) uses
 abbrev pub uses_at : Route → (now : ℕ) → Work → List Use
 uses_at route now work = uses_by route (record { at = now; work = work })
 
--- a work may be done behind these uses: its legs are the route's and go to different classes, the uses before stand in order, and
--- the keys of each class that are used with those of the work find room in one session
+-- a work may be done behind these uses: its legs are the route's and go to different classes, the
+-- uses before stand in order, and the keys of each class that are used with those of the work find
+-- room in one session
 pub record MayWork (route : Route) (now : ℕ) (before : List Use) (work : Work) : Type 0 where
   pub there : AreThere route work
   pub apart : IsDistinct nat_eq (map (class_of route) (legs_named work))
   pub falls : AreInOrder now before
-  pub few : (class : ℕ) → keys_used class (behind before (uses_at route now work)) ≤ route.pool.sets_max
+  pub few : (class : ℕ)
+      → keys_used class (behind before (uses_at route now work)) ≤ route.pool.sets_max
 
 -- ---- what its legs count
 
@@ -57,12 +60,14 @@ searches_in class account = if account.class == class then account.searches else
 
 -- ---- from its first turn to its last
 
-module _ {W S : Type 0} (w : world.Ghosts W) (t : sitting.Ghosts S W) (exact : Bool) (route : Route) (now : ℕ) where
+module _ {W S : Type 0} (w : world.Ghosts W) (t : sitting.Ghosts S W) (exact : Bool) (route : Route)
+    (now : ℕ) where
   -- a turn with memory, behind which it is a package of the route
   pub record IsTurnTo (here next : PackageAt S) : Type 0 where
     pub answer : Turned
     pub memory : answer ≢ turned.Memory
-    pub law : IsPackageTurn w t exact route now here.view next.view answer here.door next.door here.backend next.backend
+    pub law : IsPackageTurn w t exact route now here.view next.view answer here.door next.door
+        here.backend next.backend
     pub of : IsPackageOf w t route next.door.counts.most next.view
 
   -- such turns at one moment, by where it stood before each of them, the latest first
@@ -70,7 +75,8 @@ module _ {W S : Type 0} (w : world.Ghosts W) (t : sitting.Ghosts S W) (exact : B
   AreTurns first [] last = last ≡ first
   AreTurns first (mid ∷ earlier) last = AreTurns first earlier mid × IsTurnTo mid last
 
-module _ {W S : Type 0} (w : world.Ghosts W) (t : sitting.Ghosts S W) (route : Route) (now : ℕ) where
+module _ {W S : Type 0} (w : world.Ghosts W) (t : sitting.Ghosts S W) (route : Route)
+    (now : ℕ) where
   -- a door with this pool over a quiet backend: each class is kept behind these uses
   pub record IsKeptAt (uses : List Use) (here : PackageAt S) : Type 0 where
     pub pool : Pool S
@@ -78,16 +84,18 @@ module _ {W S : Type 0} (w : world.Ghosts W) (t : sitting.Ghosts S W) (route : R
     pub kept : AreAllKept w route now uses pool
     pub calm : IsCalm w t here.door.pool here.backend
 
-  -- behind the turns of a work's request each class is kept with its uses; nothing went wrong, no leg is marked, and the dials and
-  -- searches of each class are those that the uses need
+  -- behind the turns of a work's request each class is kept with its uses; nothing went wrong, no
+  -- leg is marked, and the dials and searches of each class are those that the uses need
   pub record HasShared (before : List Use) (work : Work) (last : PackageAt S) : Type 0 where
     pub kept : IsKeptAt (behind before (uses_at route now work)) last
     pub undisturbed : AreUndisturbed (last.view.first ++ last.view.later)
     pub unmarked : cause_in route last.view ≡ plain
     pub dials : (class : ℕ)
-        → sum_by (dials_in class) (all_accounts last.view) ≡ count_after (needs_dial route class) before (uses_at route now work)
+        → sum_by (dials_in class) (all_accounts last.view)
+        ≡ count_after (needs_dial route class) before (uses_at route now work)
     pub searches : (class : ℕ)
-        → sum_by (searches_in class) (all_accounts last.view) ≡ count_after (needs_search w route class) before (uses_at route now work)
+        → sum_by (searches_in class) (all_accounts last.view)
+        ≡ count_after (needs_search w route class) before (uses_at route now work)
 
 module _ {W S : Type 0} (w : world.Ghosts W) (t : sitting.Ghosts S W) where
   -- the legs of a work that may be done may share their classes, when its package is begun
@@ -104,10 +112,12 @@ module _ {W S : Type 0} (w : world.Ghosts W) (t : sitting.Ghosts S W) where
       → IsFair w route → ArePoolNumbers route.pool → MayWork route now before work
       → view.work ≡ work → IsPackageOf w t route most view → MayPackageShare w route now before view
 
--- a request that is begun, has its turns with memory over a quiet backend that counts exactly, on a fair route, and is over
+-- a request that is begun, has its turns with memory over a quiet backend that counts exactly, on a
+-- fair route, and is over
 abbrev pub RequestsShare : {W S : Type 0} → world.Ghosts W → sitting.Ghosts S W → Type 0
 RequestsShare {W} {S} w t =
-    (exact : Bool) (route : Route) (now : ℕ) (before : List Use) (work : Work) (first last : PackageAt S) (earlier : List (PackageAt S))
+    (exact : Bool) (route : Route) (now : ℕ) (before : List Use) (work : Work)
+    (first last : PackageAt S) (earlier : List (PackageAt S))
     → exact ≡ true → IsFair w route → ArePoolNumbers route.pool → MayWork route now before work
     → first.view ≡ new_package route work → IsKeptAt w t route now before first
     → AreTurns w t exact route now first earlier last → IsOver last.view

@@ -1,4 +1,5 @@
--- For contracts alone: legs together over a told pool at one moment, each of a class of its own (this project's own)
+-- For contracts alone: legs together over a told pool at one moment, each of a class of its own
+-- (this project's own)
 use Rattle.std.specs.Prelude.{◌≡◌, ℕ, nat_eq, false, List, [], ◌∷◌, map, Option, Some}
 use Rattle.std.specs.List.{AllByRecursion, IsDistinct, list_any}
 use Rattle.z_types.specs.declared.sitting.Sitting as sitting
@@ -41,7 +42,8 @@ module _ {S : Type 0} where
   -- those of legs behind others, the last one first
   abbrev pub uses_behind : Route → ℕ → List Use → List (LegView S) → List Use
   uses_behind route now before [] = before
-  uses_behind route now before (leg ∷ legs) = uses_behind route now (use_of route now leg ∷ before) legs
+  uses_behind route now before (leg ∷ legs) =
+      uses_behind route now (use_of route now leg ∷ before) legs
 
   -- nothing went wrong with them
   abbrev pub AreUndisturbed : List (LegView S) → Type 0
@@ -56,19 +58,23 @@ module _ {W S : Type 0} (w : world.Ghosts W) (route : Route) (now : ℕ) (before
   -- legs go to different classes, which may be used
   pub record MayShare (legs : List (LegView S)) : Type 0 where
     pub apart : AreApart route legs
-    pub each : AllByRecursion (λ leg. MayUse w route (class_in route leg) now before (want_of leg.task)) legs
+    pub each : AllByRecursion
+        (λ leg. MayUse w route (class_in route leg) now before (want_of leg.task)) legs
 
   -- a leg that is done had the dials and searches that its use needs
   pub record HadItsCost (leg : LegView S) : Type 0 where
     pub done : IsDone leg.phase
     pub dials : leg.account.dials ≡ one_if (dial_due route (class_in route leg) now before)
-    pub searches : leg.account.searches ≡ one_if (search_due w route (class_in route leg) now before (want_of leg.task))
+    pub searches : leg.account.searches
+        ≡ one_if (search_due w route (class_in route leg) now before (want_of leg.task))
 
 -- ---- where they stand
 
-module _ {W S : Type 0} (w : world.Ghosts W) (t : sitting.Ghosts S W) (route : Route) (now : ℕ) (before : List Use) where
+module _ {W S : Type 0} (w : world.Ghosts W) (t : sitting.Ghosts S W) (route : Route) (now : ℕ)
+    (before : List Use) where
   abbrev pub IsSharing : Pool S → LegView S → Type 0
-  IsSharing pool leg = Shares w t route (class_in route leg) now before leg.task leg.phase leg.account pool
+  IsSharing pool leg =
+      Shares w t route (class_in route leg) now before leg.task leg.phase leg.account pool
 
   -- each shares its class, and the classes that none of them goes to are kept
   pub record AreSharing (legs : List (LegView S)) (pool : Pool S) : Type 0 where

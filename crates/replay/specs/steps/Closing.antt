@@ -10,7 +10,8 @@ use Rattle.replay.specs.Clients.{ClientState}
 use Rattle.replay.specs.steps.Costs.{AreCosted}
 use Rattle.replay.specs.steps.Clients.{AreClientsOf, AreClosedOf, AreEnded}
 
-module _ {W S : Type 0} (w : world.Ghosts W) (t : sitting.Ghosts S W) (exact : Bool) (route : Route) (now : ℕ) where
+module _ {W S : Type 0} (w : world.Ghosts W) (t : sitting.Ghosts S W) (exact : Bool) (route : Route)
+    (now : ℕ) where
   -- a client's input has ended, and it was run: so its connection has ended
   pub record IsClosedNow (old new : ClientState S) (before behind : Outside S) : Type 0 where
     pub run : HasRun w t exact route now (with_no_more old) new before behind
@@ -27,7 +28,9 @@ module _ {W S : Type 0} (w : world.Ghosts W) (t : sitting.Ghosts S W) (exact : B
     pub most : new.outside.door.counts.most ≡ old.outside.door.counts.most
     pub ended : AreEnded new.clients
     pub costed : AreCosted exact route old new
-    pub fed : (events : List Event) → AreClientsOf w t route old.outside.door.counts.most events old.clients
+    pub fed : (events : List Event)
+        → AreClientsOf w t route old.outside.door.counts.most events old.clients
         → AreClosedOf w t route old.outside.door.counts.most events new.clients
-    pub played : (events : List Event) → AreClientsOf w t route old.outside.door.counts.most events old.clients
+    pub played : (events : List Event)
+        → AreClientsOf w t route old.outside.door.counts.most events old.clients
         → ArePlayed w t exact route (closings events) now old new

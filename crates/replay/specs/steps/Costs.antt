@@ -28,8 +28,10 @@ module _ {S : Type 0} where
   -- each address that is named was dialled, or failed, or is not dialled yet
   pub record ArePaid (old new : Playing S) : Type 0 where
     pub cost : Cost
-    pub raised : IsRaised cost old.outside.door.counts new.outside.door.counts old.outside.backend.counts new.outside.backend.counts
-    pub opens : cost.opens + sum_by unused_at old.clients ≤ cost.dials + cost.faults + sum_by unused_at new.clients
+    pub raised : IsRaised cost old.outside.door.counts new.outside.door.counts
+        old.outside.backend.counts new.outside.backend.counts
+    pub opens : cost.opens + sum_by unused_at old.clients
+        ≤ cost.dials + cost.faults + sum_by unused_at new.clients
 
   -- its sums are kept, and no request is in work where it has ended
   pub record IsKept (route : Route) (client : ClientState S) : Type 0 where
@@ -39,13 +41,16 @@ module _ {S : Type 0} where
   abbrev pub AreKept : Route → List (Option (ClientState S)) → Type 0
   AreKept route clients = (place : ℕ) → IfSome (client_at clients place) (IsKept route)
 
-  -- what is counted of all clients rose just as it did outside, enough is counted for what their marks need, and all is paid for
+  -- what is counted of all clients rose just as it did outside, enough is counted for what their
+  -- marks need, and all is paid for
   pub record AreCosted (exact : Bool) (route : Route) (old new : Playing S) : Type 0 where
     pub kept : AreKept route old.clients → AreKept route new.clients
     pub counted : AreKept route old.clients → (number : Number) → IsTold exact number
-        → RisesAsMuch (sum_by (counted_at number) old.clients) (sum_by (counted_at number) new.clients)
+        → RisesAsMuch (sum_by (counted_at number) old.clients)
+        (sum_by (counted_at number) new.clients)
         (outside_counts number old.outside) (outside_counts number new.outside)
     pub met : (kind : Caused)
-        → RisesEnough (sum_by (met_at route.pool kind) old.clients) (sum_by (met_at route.pool kind) new.clients)
+        → RisesEnough (sum_by (met_at route.pool kind) old.clients)
+        (sum_by (met_at route.pool kind) new.clients)
         (outside_meets kind old.outside) (outside_meets kind new.outside)
     pub paid : ArePaid old new

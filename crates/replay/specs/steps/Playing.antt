@@ -29,8 +29,8 @@ CanTake (Feed number octets) client = client.conn.has_ended ≡ false
 CanTake other client = Unit {0}
 
 -- clients stand behind events that it may follow
-pub record CanPlay {W S : Type 0} (w : world.Ghosts W) (t : sitting.Ghosts S W) (route : Route) (most : ℕ) (event : Event)
-    (clients : List (Option (ClientState S))) : Type 0 where
+pub record CanPlay {W S : Type 0} (w : world.Ghosts W) (t : sitting.Ghosts S W) (route : Route)
+    (most : ℕ) (event : Event) (clients : List (Option (ClientState S))) : Type 0 where
   pub targets : ℕ
   pub is_event : IsEvent targets event
   pub before : List Event

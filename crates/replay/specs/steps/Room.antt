@@ -1,4 +1,5 @@
--- For contracts alone: where a new pool has places for the legs of all clients of a replay (this project's own)
+-- For contracts alone: where a new pool has places for the legs of all clients of a replay
+-- (this project's own)
 use Rattle.std.specs.Prelude.{◌≡◌, ℕ, ◌*◌, ◌≤◌, [], length, Option, None, Some}
 use Rattle.route_config.specs.declared.route.Route.{Route}
 use Rattle.pool_sets.specs.Plain.{Pool}
@@ -17,7 +18,9 @@ pub record IsNewDoor {S : Type 0} (door : DoorView S) : Type 0 where
   pub empty : IsEmptyPool door.counts.most door.pool
   pub unfull : door.counts.fulls ≡ 0
 
--- a new door that opens as many sessions of a class as the clients that are reported have legs at once, at most, was never full
+-- a new door that opens as many sessions of a class as the clients that are reported have legs at
+-- once, at most, was never full
 abbrev pub FindsRoom : {S : Type 0} → Route → Report → (before behind : Outside S) → Type 0
 FindsRoom route report before behind =
-    IsNewDoor before.door → length report.clients * most_at_once route ≤ before.door.counts.most → behind.door.counts.fulls ≡ 0
+    IsNewDoor before.door → length report.clients * most_at_once route ≤ before.door.counts.most
+    → behind.door.counts.fulls ≡ 0

@@ -33,7 +33,8 @@ module _ (number : Number) (class : ℕ) where
 
 -- ---- what uses need
 
--- a use of a class needs a dial, or a search, behind others; it needs no set that is gone, and no call that fails
+-- a use of a class needs a dial, or a search, behind others; it needs no set that is gone, and no
+-- call that fails
 abbrev pub is_needed : {W : Type 0} → world.Ghosts W → Route → Number → ℕ → List Use → Use → Bool
 is_needed w route dials class before this = needs_dial route class before this
 is_needed w route searches class before this = needs_search w route class before this

@@ -1,4 +1,5 @@
--- For contracts alone: where the clients of an orderly script and the pool stand between its runs (this project's own)
+-- For contracts alone: where the clients of an orderly script and the pool stand between its runs
+-- (this project's own)
 use Rattle.std.specs.Prelude.{◌≡◌, ℕ, ◌≤◌, ◌<◌, Bool, false, List, [], ◌++◌, length, Option, None, Some}
 use Prim.Native.Nat.{suc}
 use Rattle.std.specs.List.{AllByRecursion}
@@ -33,11 +34,14 @@ use Rattle.replay_shares.specs.steps.Costs.{cost_of_all}
 
 -- ---- a client
 
-module _ {W S : Type 0} (w : world.Ghosts W) (route : Route) (octets : List ℕ) (conn : ConnectionState S) (asked : List Work) where
-  -- an HTTP connection asks nothing until its GET is answered, and then what its GET asks, whatever may still come
+module _ {W S : Type 0} (w : world.Ghosts W) (route : Route) (octets : List ℕ)
+    (conn : ConnectionState S) (asked : List Work) where
+  -- an HTTP connection asks nothing until its GET is answered, and then what its GET asks, whatever
+  -- may still come
   abbrev pub HasAskedGet : Option End → Type 0
   HasAskedGet None = asked ≡ []
-  HasAskedGet (Some end) = (more : List ℕ) → MayCome conn.has_ended more → AskByHead w route (octets ++ more) asked
+  HasAskedGet (Some end) =
+      (more : List ℕ) → MayCome conn.has_ended more → AskByHead w route (octets ++ more) asked
 
   -- by the kind of a connection
   abbrev pub HasAskedAs : Kind → Type 0
@@ -48,10 +52,12 @@ module _ {W S : Type 0} (w : world.Ghosts W) (route : Route) (octets : List ℕ)
   abbrev pub HasAsked : Type 0
   HasAsked = HasAskedAs (kind_of octets)
 
--- A client that was fed these octets, whose input has ended or not, has no request in work: it has asked these works, and each of
--- its requests was answered under the mark Plain. Before anything comes its connection goes on.
-pub record IsResting {W S : Type 0} (w : world.Ghosts W) (t : sitting.Ghosts S W) (route : Route) (most : ℕ) (octets : List ℕ)
-    (ended : Bool) (asked : List Work) (client : ClientState S) : Type 0 where
+-- A client that was fed these octets, whose input has ended or not, has no request in work: it has
+-- asked these works, and each of its requests was answered under the mark Plain. Before anything
+-- comes its connection goes on.
+pub record IsResting {W S : Type 0} (w : world.Ghosts W) (t : sitting.Ghosts S W) (route : Route)
+    (most : ℕ) (octets : List ℕ) (ended : Bool) (asked : List Work)
+    (client : ClientState S) : Type 0 where
   pub of : IsConnOf w t route most client.conn
   pub stands : IsStateOf w route octets client.written client.conn
   pub input : client.conn.has_ended ≡ ended
@@ -64,8 +70,8 @@ pub record IsResting {W S : Type 0} (w : world.Ghosts W) (t : sitting.Ghosts S W
 -- ---- the pool
 
 -- a pool that is told is kept behind these uses, over a quiet backend
-pub record IsKeptOver {W S : Type 0} (w : world.Ghosts W) (t : sitting.Ghosts S W) (route : Route) (now : ℕ) (uses : List Use)
-    (outside : Outside S) : Type 0 where
+pub record IsKeptOver {W S : Type 0} (w : world.Ghosts W) (t : sitting.Ghosts S W) (route : Route)
+    (now : ℕ) (uses : List Use) (outside : Outside S) : Type 0 where
   pub pool : Pool S
   pub told : outside.door.pool ≡ Some pool
   pub kept : AreAllKept w route now uses pool
@@ -73,22 +79,28 @@ pub record IsKeptOver {W S : Type 0} (w : world.Ghosts W) (t : sitting.Ghosts S 
 
 -- ---- works
 
--- works may be done, one behind another: each is of legs of different classes, and all keys that are used find room in one session
+-- works may be done, one behind another: each is of legs of different classes, and all keys that
+-- are used find room in one session
 pub record MayDo (route : Route) (before : List Use) (works : List DatedWork) : Type 0 where
   pub apart : AllByRecursion (IsApart route) works
-  pub few : (class : ℕ) → keys_used class (behind before (uses_of route works)) ≤ route.pool.sets_max
+  pub few : (class : ℕ)
+      → keys_used class (behind before (uses_of route works)) ≤ route.pool.sets_max
 
 -- ---- all clients
 
--- Behind events, with their runs, the last one first: each client rests, and has asked what it was to ask up to its last run; the pool
--- is kept behind the uses of all; and each class has cost so much.
-pub record StandBehind {W S : Type 0} (w : world.Ghosts W) (t : sitting.Ghosts S W) (route : Route) (most now : ℕ) (events : List Event)
-    (runs : List ClientRun) (uses : List Use) (spent : Number → ℕ → ℕ) (here : Playing S) : Type 0 where
+-- Behind events, with their runs, the last one first: each client rests, and has asked what it was
+-- to ask up to its last run; the pool is kept behind the uses of all; and each class has cost so
+-- much.
+pub record StandBehind {W S : Type 0} (w : world.Ghosts W) (t : sitting.Ghosts S W) (route : Route)
+    (most now : ℕ) (events : List Event) (runs : List ClientRun) (uses : List Use)
+    (spent : Number → ℕ → ℕ) (here : Playing S) : Type 0 where
   pub door : here.outside.door.counts.most ≡ most
   pub places : length here.clients ≡ most_clients
   pub falls : AreInOrder now uses
   pub kept : IsKeptOver w t route now uses here.outside
   pub each : (place : ℕ) → place < most_clients
-      → IsResting w t route most (fed events (suc place)) (has_ended events (suc place)) (asked_before (suc place) runs)
+      → IsResting w t route most (fed events (suc place)) (has_ended events (suc place))
+      (asked_before (suc place) runs)
       (client_or_new (client_at here.clients place))
-  pub cost : (number : Number) (class : ℕ) → within64 (cost_of_all number class here.clients) ≡ within64 (spent number class)
+  pub cost : (number : Number) (class : ℕ)
+      → within64 (cost_of_all number class here.clients) ≡ within64 (spent number class)

@@ -14,7 +14,8 @@ use Rattle.serve.specs.declared.working.Worked.TheVariants.{Ended, Failed, Memor
 use Rattle.serve.specs.declared.working.Worker.{Worker}
 use Rattle.serve_threads.specs.Serving.{HasFailed, HasNoneLeft, HasServed}
 
--- of two ends the one that is told: a failed accept before want of memory, and this before the plain end
+-- of two ends the one that is told: a failed accept before want of memory, and this before the
+-- plain end
 abbrev pub worse : Worked → Worked → Worked
 worse Failed other = Failed
 worse Ended other = other
@@ -37,17 +38,20 @@ abbrev pub amounts : (fulls opens booked : ℕ) → Amounts
 amounts fulls opens booked = record { fulls = fulls; opens = opens; booked = booked }
 
 -- what its door and the backend of its worker have counted
-abbrev pub tally_with : {A B C : Type 0} → watched.Ghosts B → (most : ℕ) → Amounts → Worker B A C → Tally
+abbrev pub tally_with : {A B C : Type 0} → watched.Ghosts B → (most : ℕ) → Amounts
+    → Worker B A C → Tally
 tally_with b most held worker = record {
   door = counts_of most held.fulls held.opens held.booked;
   backend = b.counts worker.backend;
 }
 
-module _ {W A B C I K : Type 0} (w : world.Ghosts W) (i : from.Ghosts I) (k : to.Ghosts K) (a : accept.Ghosts A I K) (b : watched.Ghosts B)
-    (route : Route) (most : ℕ) where
+module _ {W A B C I K : Type 0} (w : world.Ghosts W) (i : from.Ghosts I) (k : to.Ghosts K)
+    (a : accept.Ghosts A I K) (b : watched.Ghosts B) (route : Route) (most : ℕ) where
   -- a worker served, counting in these shares, and its loop ended so
-  pub record IsDone (old : Worker B A C) (before : Amounts) (new : Worker B A C) (behind : Amounts) (worked : Worked) : Type 0 where
+  pub record IsDone (old : Worker B A C) (before : Amounts) (new : Worker B A C) (behind : Amounts)
+      (worked : Worked) : Type 0 where
     pub served : HasServed w i k a b route most old new
-    pub cost : HaveCost route.pool old.served new.served (tally_with b most before old) (tally_with b most behind new)
+    pub cost : HaveCost route.pool old.served new.served (tally_with b most before old)
+        (tally_with b most behind new)
     pub ended : worked ≡ Ended → HasNoneLeft a new
     pub failed : worked ≡ Failed → HasFailed a old new

@@ -15,30 +15,39 @@ module _ {W : Type 0} (w : world.Ghosts W) (S : Type 0) where
   abbrev pub StartsKept : Type 0
   StartsKept = (route : Route) (now : ℕ) (p : Pool S) → p.sessions ≡ [] → IsShared w route now [] p
 
-  -- a take of a class that is kept gives a set where no search is needed and dials where a dial is, and leaves the other classes
+  -- a take of a class that is kept gives a set where no search is needed and dials where a dial is,
+  -- and leaves the other classes
   abbrev pub TakesAsNeeded : Type 0
   TakesAsNeeded =
-      (route : Route) (class : ℕ) (at : List Address) (now moment : ℕ) (before : List Use) (want : Option SetKey) (given : ℕ) (os : List (Session S))
-      → AreInOrder moment before → ArePoolNumbers route.pool → AreNumbered given os → AreKept w route class at now before (of_class class os)
+      (route : Route) (class : ℕ) (at : List Address) (now moment : ℕ) (before : List Use)
+      (want : Option SetKey) (given : ℕ) (os : List (Session S))
+      → AreInOrder moment before → ArePoolNumbers route.pool → AreNumbered given os
+      → AreKept w route class at now before (of_class class os)
       → TakesSo w route class at now before want
-      (take_of class at want now (pool_of route given os)).0 (take_of class at want now (pool_of route given os)).1.sessions
+      (take_of class at want now (pool_of route given os)).0
+      (take_of class at want now (pool_of route given os)).1.sessions
       × LeavesOthers route class now os (take_of class at want now (pool_of route given os)).1
 
   -- what is kept is kept later
   abbrev pub TimeKeeps : Type 0
   TimeKeeps =
-      (route : Route) (class : ℕ) (at : List Address) (earlier now : ℕ) (before : List Use) (os : List (Session S))
-      → earlier ≤ now → AreKept w route class at earlier before os → AreKept w route class at now before os
+      (route : Route) (class : ℕ) (at : List Address) (earlier now : ℕ) (before : List Use)
+      (os : List (Session S))
+      → earlier ≤ now → AreKept w route class at earlier before os
+      → AreKept w route class at now before os
 
   -- and behind a use of another class
   abbrev pub OthersKeep : Type 0
   OthersKeep =
-      (route : Route) (class own : ℕ) (at : List Address) (now : ℕ) (before : List Use) (key : Option SetKey) (os : List (Session S))
+      (route : Route) (class own : ℕ) (at : List Address) (now : ℕ) (before : List Use)
+      (key : Option SetKey) (os : List (Session S))
       → (own == class) ≡ false → AreKept w route class at now before os
       → AreKept w route class at now (use_now own now key ∷ before) os
 
   -- a use that comes twice at one moment counts once
   abbrev pub TwiceIsOnce : Type 0
   TwiceIsOnce =
-      (route : Route) (class now : ℕ) (at : List Address) (one : Use) (before : List Use) (os : List (Session S))
-      → AreKept w route class at now (one ∷ one ∷ before) os → AreKept w route class at now (one ∷ before) os
+      (route : Route) (class now : ℕ) (at : List Address) (one : Use) (before : List Use)
+      (os : List (Session S))
+      → AreKept w route class at now (one ∷ one ∷ before) os
+      → AreKept w route class at now (one ∷ before) os

@@ -1,6 +1,6 @@
--- What a pool keeps of an orderly script whenever no request is in work (this project's own): of each
--- class at most one session, idle since the class was last used, with the sets that were used lately.
--- Uses stand with the last one first.
+-- What a pool keeps of an orderly script whenever no request is in work (this project's own): of
+-- each class at most one session, idle since the class was last used, with the sets that were used
+-- lately. Uses stand with the last one first.
 use Rattle.std.specs.Prelude.{◌≡◌, ℕ, ◌≤◌, ◌==◌, nat_eq, true, false, List, [], ◌∷◌, map, filter, slice_get, is_some, Bool, Option, Some}
 use Rattle.std.specs.List.{AllByRecursion, IsDistinct}
 use Rattle.z_types.specs.declared.address.Address.{Address}
@@ -25,8 +25,8 @@ use Rattle.sharing_rules.specs.Needed.{is_in, is_set_in, last_at, is_late, is_re
 abbrev pub IsUsedLast : ℕ → (before : List Use) → Entry → Type 0
 IsUsedLast class before e = last_at (is_set_in class e.key) before ≡ Some e.used
 
--- a table of a class holds no set twice and none that the target refuses, under slots of their own, each as it was
--- last used, and every other that was used less than its time to live ago
+-- a table of a class holds no set twice and none that the target refuses, under slots of their own,
+-- each as it was last used, and every other that was used less than its time to live ago
 pub record HoldsUsed {W : Type 0} (w : world.Ghosts W) (route : Route) (class now : ℕ)
     (before : List Use) (table : Table) : Type 0 where
   pub most : table.most ≡ route.pool.sets_max
@@ -72,7 +72,8 @@ IsShared w route now before pool =
     (class : ℕ) (found : Class) → slice_get route.classes class ≡ Some found
     → AreKept w route class found.addresses now before (of_class class pool.sessions)
 
--- the one session of a class is out, for this seat: so it is while a leg of a request in work holds it
+-- the one session of a class is out, for this seat: so it is while a leg of a request in work holds
+-- it
 abbrev pub IsLent : {S : Type 0} → ℕ → Seat → List (Session S) → Type 0
 IsLent {S} class seat os = (o : Session S) × (of_class class os ≡ o ∷ []) × (is_seat seat o ≡ true)
 
@@ -93,11 +94,13 @@ pub record AreNumbered {S : Type 0} (given : ℕ) (os : List (Session S)) : Type
   pub each : AllByRecursion (λ o. (o.class ≡ class_of o.number) × (o.number ≤ given)) os
 
 -- what a take of a class leaves of a pool of a route: the sessions of the other classes expired
-pub record LeavesOthers {S : Type 0} (route : Route) (class now : ℕ) (os : List (Session S)) (q : Pool S) : Type 0 where
+pub record LeavesOthers {S : Type 0} (route : Route) (class now : ℕ) (os : List (Session S))
+    (q : Pool S) : Type 0 where
   pub numbers : q ≡ pool_of route q.given q.sessions
   pub numbered : AreNumbered q.given q.sessions
   pub others : (other : ℕ) → (other == class) ≡ false
-      → of_class other q.sessions ≡ fresh_sessions now route.pool.session_ttl route.pool.set_ttl (of_class other os)
+      → of_class other q.sessions
+      ≡ fresh_sessions now route.pool.session_ttl route.pool.set_ttl (of_class other os)
 
 -- ---- one use of a class now, behind these uses
 
@@ -106,31 +109,39 @@ abbrev pub use_now : (class now : ℕ) → (want : Option SetKey) → Use
 use_now class now want = record { class = class; key = want; at = now }
 
 -- whether it needs a search, and a dial
-abbrev pub search_due : {W : Type 0} → world.Ghosts W → Route → (class now : ℕ) → (before : List Use) → (want : Option SetKey) → Bool
+abbrev pub search_due : {W : Type 0} → world.Ghosts W → Route → (class now : ℕ)
+    → (before : List Use) → (want : Option SetKey) → Bool
 search_due w route class now before want = searches_for w route before (use_now class now want) want
 
 abbrev pub dial_due : Route → (class now : ℕ) → (before : List Use) → Bool
 dial_due route class now before = is_late route.pool.session_ttl now (last_at (is_in class) before)
 
-module _ {W S : Type 0} (w : world.Ghosts W) (route : Route) (class : ℕ) (at : List Address) (now : ℕ) where
+module _ {W S : Type 0} (w : world.Ghosts W) (route : Route) (class : ℕ) (at : List Address)
+    (now : ℕ) where
   -- the session of a seat is out, and its table holds what these uses left
-  pub record IsOutWith (uses : List Use) (seat : Seat) (parts : Parts S) (os : List (Session S)) : Type 0 where
+  pub record IsOutWith (uses : List Use) (seat : Seat) (parts : Parts S)
+      (os : List (Session S)) : Type 0 where
     pub own : seat.class ≡ class
     pub out : IsLent class seat os
     pub among : is_among at parts.address ≡ true
     pub holds : HoldsUsed w route class now uses parts.table
 
-  -- what a take gives: a set that is wanted where no search is needed, a session without it, or a member to dial where a dial is
-  -- needed; it is never full
-  abbrev pub TakesSo : (before : List Use) → (want : Option SetKey) → Taken S → List (Session S) → Type 0
+  -- what a take gives: a set that is wanted where no search is needed, a session without it, or a
+  -- member to dial where a dial is needed; it is never full
+  abbrev pub TakesSo : (before : List Use) → (want : Option SetKey) → Taken S
+      → List (Session S) → Type 0
   TakesSo before want (Reuse seat parts slot hits) os =
       IsOutWith (use_now class now want ∷ before) seat parts os
-      × (search_due w route class now before want ≡ false) × (dial_due route class now before ≡ false)
+      × (search_due w route class now before want ≡ false)
+      × (dial_due route class now before ≡ false)
   TakesSo before want (Fresh seat parts) os =
       IsOutWith before seat parts os
-      × (search_due w route class now before want ≡ is_some want) × (dial_due route class now before ≡ false)
+      × (search_due w route class now before want ≡ is_some want)
+      × (dial_due route class now before ≡ false)
   TakesSo before want (Dial seat member) os =
-      (seat.class ≡ class) × IsLent class seat os × HoldsUsed w route class now before (empty_table route.pool.sets_max)
-      × (search_due w route class now before want ≡ is_some want) × (dial_due route class now before ≡ true)
+      (seat.class ≡ class) × IsLent class seat os
+      × HoldsUsed w route class now before (empty_table route.pool.sets_max)
+      × (search_due w route class now before want ≡ is_some want)
+      × (dial_due route class now before ≡ true)
   TakesSo before want (Full open_) os = ⊥
   TakesSo before want Memory os = Unit {0}

@@ -11,8 +11,8 @@ use Rattle.sru_rules.specs.Asking.{fetch_work}
 use Rattle.sru_rules.specs.Run.{next_of}
 use Rattle.sru_rules.specs.Settling.{fetches}
 
--- a retrieval is within the bounds of works: its legs are not too many, and targets may be asked for its query; its first
--- record is counted from 1, and its records are not too many
+-- a retrieval is within the bounds of works: its legs are not too many, and targets may be asked
+-- for its query; its first record is counted from 1, and its records are not too many
 pub record IsRetrieval (retrieval : Retrieval) : Type 0 where
   pub few_legs : length retrieval.legs ≤ most_legs
   pub askable : IsAskableQuery retrieval.query

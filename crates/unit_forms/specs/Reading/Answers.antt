@@ -1,4 +1,6 @@
--- What reading answers: a value, or the first refusal of the lowest rank; and in a query, in element names and in a composition the diagnostic of a form that is not served (this project's own).
+-- What reading answers: a value, or the first refusal of the lowest rank; and in a query, in
+-- element names and in a composition the diagnostic of a form that is not served
+-- (this project's own).
 use Rattle.std.specs.Prelude.{ℕ, List, [], ◌∷◌, Bool, Option, Some, None, Result, Ok, Err, nat_le, if◌then◌else◌}
 use Rattle.z_types.specs.declared.requests.Asked.{Asked}
 use Rattle.z_types.specs.declared.requests.Asked.TheVariants.{Good, Bad}
@@ -7,7 +9,8 @@ use Rattle.unit_forms.specs.declared.refusal.Refusal.{Refusal}
 use Rattle.unit_forms.specs.declared.refusal.Refusal.TheVariants.{UnknownUnit, Missing, BadValue, LeftOut}
 use Rattle.unit_forms.specs.Reading.Elements.{Field, field_of}
 
--- a unit that is not known goes before missing fields, these before bad values, and these before what is left out
+-- a unit that is not known goes before missing fields, these before bad values, and these before
+-- what is left out
 abbrev pub rank : Refusal → ℕ
 rank (UnknownUnit n) = 2
 rank (Missing n) = 3
@@ -37,27 +40,33 @@ value_or refusal (Some value) = Ok value
 value_or refusal None = Err refusal
 
 -- a field that is there is read; else it is a refusal
-abbrev pub read_or : {A : Type 0} → Refusal → (Field → Result A Refusal) → Option Field → Result A Refusal
+abbrev pub read_or : {A : Type 0} → Refusal → (Field → Result A Refusal) → Option Field
+    → Result A Refusal
 read_or refusal read None = Err refusal
 read_or refusal read (Some field) = read field
 
 -- a field that may be absent
-abbrev pub read_if : {A : Type 0} → (Field → Result A Refusal) → Option Field → Result (Option A) Refusal
+abbrev pub read_if : {A : Type 0} → (Field → Result A Refusal) → Option Field
+    → Result (Option A) Refusal
 read_if read None = Ok None
 read_if read (Some field) = read_as Some (read field)
 
 -- one more in front of a list
-abbrev pub in_front : {A : Type 0} → Result A Refusal → Result (List A) Refusal → Result (List A) Refusal
+abbrev pub in_front : {A : Type 0} → Result A Refusal → Result (List A) Refusal
+    → Result (List A) Refusal
 in_front first rest = read_as (λ p. p.0 ∷ p.1) (first ⊗ rest)
 
 -- all elements that are wanted, each read, in their order
-abbrev pub each : {A : Type 0} → (Field → Bool) → (Field → Result A Refusal) → Forest → Result (List A) Refusal
+abbrev pub each : {A : Type 0} → (Field → Bool) → (Field → Result A Refusal) → Forest
+    → Result (List A) Refusal
 each wanted read none = Ok []
 each wanted read (leaf tag contents others) =
-    if wanted (field_of tag contents none) then in_front (read (field_of tag contents none)) (each wanted read others)
+    if wanted (field_of tag contents none)
+    then in_front (read (field_of tag contents none)) (each wanted read others)
     else each wanted read others
 each wanted read (branch tag contents inner others) =
-    if wanted (field_of tag contents inner) then in_front (read (field_of tag contents inner)) (each wanted read others)
+    if wanted (field_of tag contents inner)
+    then in_front (read (field_of tag contents inner)) (each wanted read others)
     else each wanted read others
 
 -- of two parts the first that is not served, or both

@@ -1,4 +1,5 @@
--- Attributes and terms as they are read (ANSI/NISO Z39.50-2003, AttributesPlusTerm, AttributeElement, Term).
+-- Attributes and terms as they are read (ANSI/NISO Z39.50-2003, AttributesPlusTerm,
+-- AttributeElement, Term).
 use Rattle.std.specs.Prelude.{ℕ, List, [], ◌∷◌, Bool, true, ◌==◌, Option, Some, None, Result, Ok, Err, if◌then◌else◌}
 use Rattle.z_types.specs.declared.query.Attr.{Attr}
 use Rattle.z_types.specs.declared.query.Term.{Term}
@@ -18,11 +19,13 @@ use Rattle.unit_forms.specs.Tags as numbers
 -- attributeValue: numeric [121], or complex [224], which is not served
 abbrev pub value_of : Field → Result (Asked ℕ) Refusal
 value_of field =
-    if field.tag.number == numbers.attribute_value_complex then Ok (Bad (other_form numbers.attribute_value_complex))
+    if field.tag.number == numbers.attribute_value_complex
+    then Ok (Bad (other_form numbers.attribute_value_complex))
     else read_as Good (number_of field)
 
 abbrev pub value_choice : List Tag
-value_choice = context numbers.attribute_value_numeric ∷ context numbers.attribute_value_complex ∷ []
+value_choice =
+    context numbers.attribute_value_numeric ∷ context numbers.attribute_value_complex ∷ []
 
 abbrev attr_with : Option (List ℕ) → ℕ → ℕ → Attr
 attr_with set kind value = record { set = set; kind = kind; value = value }
@@ -40,7 +43,9 @@ attr_in fields =
 
 -- each attribute is a SEQUENCE
 abbrev pub attr_of : Field → Result (Asked Attr) Refusal
-attr_of field = if has_tag field.tag (universal numbers.sequence) then within attr_in field else Err (BadValue field.tag.number)
+attr_of field =
+    if has_tag field.tag (universal numbers.sequence) then within attr_in field
+    else Err (BadValue field.tag.number)
 
 -- AttributeList [44]: every element in it
 unfoldable pub attrs_in : Forest → Result (Asked (List Attr)) Refusal
@@ -63,9 +68,12 @@ term_choice =
 
 abbrev pub term_of : Field → Result (Asked Term) Refusal
 term_of field =
-    if field.tag.number == numbers.general_term then read_as (λ octets. Good (General octets)) (octets_of field)
-    else (if field.tag.number == numbers.numeric_term then read_as (λ number. Good (Number number)) (integer_of field)
-    else (if field.tag.number == numbers.character_string_term then read_as (λ octets. Good (Words octets)) (octets_of field)
+    if field.tag.number == numbers.general_term
+    then read_as (λ octets. Good (General octets)) (octets_of field)
+    else (if field.tag.number == numbers.numeric_term
+    then read_as (λ number. Good (Number number)) (integer_of field)
+    else (if field.tag.number == numbers.character_string_term
+    then read_as (λ octets. Good (Words octets)) (octets_of field)
     else Ok (Bad (other_form field.tag.number))))
 
 -- whether the attributes stand before the term
@@ -76,10 +84,13 @@ is_attributes_first (Some field) = field.tag.number == numbers.attribute_list
 -- attributes and a term, of which the first from the left tells what is not served
 abbrev pub operand_asked : Bool → Asked (List Attr) × Asked Term → Asked (List Attr × Term)
 operand_asked attributes_first (attrs, term) =
-    if attributes_first then both_asked attrs term else asked_as (λ q. (q.1, q.0)) (both_asked term attrs)
+    if attributes_first then both_asked attrs term
+    else asked_as (λ q. (q.1, q.0)) (both_asked term attrs)
 
 -- AttributesPlusTerm: AttributeList [44], Term
 unfoldable pub attrs_and_term_in : Forest → Result (Asked (List Attr × Term)) Refusal
 attrs_and_term_in fields =
-    read_as (operand_asked (is_attributes_first (first_of (context numbers.attribute_list ∷ term_choice) fields)))
-    (required numbers.attribute_list attrs_of fields ⊗ required_of numbers.general_term term_choice term_of fields)
+    read_as (operand_asked
+    (is_attributes_first (first_of (context numbers.attribute_list ∷ term_choice) fields)))
+    (required numbers.attribute_list attrs_of fields
+    ⊗ required_of numbers.general_term term_choice term_of fields)

@@ -1,4 +1,5 @@
--- Diagnostics as they are read (ANSI/NISO Z39.50-2003, DefaultDiagFormat), and those of forms that are not served.
+-- Diagnostics as they are read (ANSI/NISO Z39.50-2003, DefaultDiagFormat), and those of forms that
+-- are not served.
 use Rattle.std.specs.Prelude.{ℕ, List, [], ◌∷◌, Result, codes}
 use Rattle.std.specs.Fmt.{decimal}
 use Rattle.z_types.specs.Bib1.{bib1}
@@ -14,13 +15,15 @@ use Rattle.unit_forms.specs.Reading.Rows.{octets_of, number_of, oid_of, universa
 abbrev as_diag : List ℕ × (ℕ × List ℕ) → Diag
 as_diag (set, (condition, addinfo)) = record { set = set; condition = condition; addinfo = addinfo }
 
--- diagnosticSetId, an OBJECT IDENTIFIER; condition, an INTEGER; addinfo, a VisibleString or a GeneralString
+-- diagnosticSetId, an OBJECT IDENTIFIER; condition, an INTEGER; addinfo, a VisibleString or a
+-- GeneralString
 unfoldable pub diag_in : Forest → Result Diag Refusal
 diag_in fields =
     read_as as_diag (
     required_universal numbers.object_identifier oid_of fields
     ⊗ required_universal numbers.integer number_of fields
-    ⊗ required_of numbers.general_string (universal numbers.visible_string ∷ universal numbers.general_string ∷ []) octets_of fields)
+    ⊗ required_of numbers.general_string
+    (universal numbers.visible_string ∷ universal numbers.general_string ∷ []) octets_of fields)
 
 -- DefaultDiagFormat, in its own tag or another
 abbrev pub diag_of : Field → Result Diag Refusal

@@ -1,4 +1,5 @@
--- Element set names as they are read (ANSI/NISO Z39.50-2003, ElementSetNames), and the composition of records that a Present asks for.
+-- Element set names as they are read (ANSI/NISO Z39.50-2003, ElementSetNames), and the composition
+-- of records that a Present asks for.
 use Rattle.std.specs.Prelude.{ℕ, List, [], ◌∷◌, ◌==◌, Option, Some, None, Result, Ok, if◌then◌else◌}
 use Rattle.z_types.specs.declared.requests.Asked.{Asked}
 use Rattle.z_types.specs.declared.requests.Asked.TheVariants.{Good, Bad}
@@ -12,12 +13,15 @@ use Rattle.unit_forms.specs.Tags as numbers
 
 -- genericElementSetName [0], or databaseSpecific [1], which is not served
 abbrev pub name_of : Field → Result (Asked (List ℕ)) Refusal
-name_of field = if field.tag.number == numbers.generic_element_set_name then read_as Good (octets_of field) else Ok (Bad specific_names)
+name_of field =
+    if field.tag.number == numbers.generic_element_set_name then read_as Good (octets_of field)
+    else Ok (Bad specific_names)
 
 unfoldable pub names_in : Forest → Result (Asked (List ℕ)) Refusal
 names_in elements =
     required_of numbers.generic_element_set_name
-    (context numbers.generic_element_set_name ∷ context numbers.database_specific ∷ []) name_of elements
+    (context numbers.generic_element_set_name ∷ context numbers.database_specific ∷ [])
+    name_of elements
 
 abbrev pub names_of : Field → Result (Asked (List ℕ)) Refusal
 names_of field = within names_in field
@@ -25,7 +29,8 @@ names_of field = within names_in field
 -- recordComposition: simple [19], or complex [209], which is not served
 abbrev pub composition_of : Field → Result (Asked (Option (List ℕ))) Refusal
 composition_of field =
-    if field.tag.number == numbers.record_composition_simple then read_as (asked_as Some) (names_of field) else Ok (Bad complex_composition)
+    if field.tag.number == numbers.record_composition_simple
+    then read_as (asked_as Some) (names_of field) else Ok (Bad complex_composition)
 
 abbrev pub composition_or_none : Option Field → Result (Asked (Option (List ℕ))) Refusal
 composition_or_none None = Ok (Good None)
@@ -39,4 +44,6 @@ without_ranges (Some field) asked = Bad additional_ranges
 unfoldable pub composition_in : Forest → Result (Asked (Option (List ℕ))) Refusal
 composition_in fields =
     read_as (without_ranges (first_of (context numbers.additional_ranges ∷ []) fields))
-    (composition_or_none (first_of (context numbers.record_composition_simple ∷ context numbers.record_composition_complex ∷ []) fields))
+    (composition_or_none (first_of
+    (context numbers.record_composition_simple ∷ context numbers.record_composition_complex ∷ [])
+    fields))

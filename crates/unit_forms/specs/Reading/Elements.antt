@@ -49,9 +49,11 @@ is_constructed wanted tag = tag.constructed && has_tag tag wanted
 abbrev pub first_constructed : Tag → Forest → Option Field
 first_constructed wanted none = None
 first_constructed wanted (leaf tag contents others) =
-    if is_constructed wanted tag then Some (field_of tag contents none) else first_constructed wanted others
+    if is_constructed wanted tag then Some (field_of tag contents none)
+    else first_constructed wanted others
 first_constructed wanted (branch tag contents inner others) =
-    if is_constructed wanted tag then Some (field_of tag contents inner) else first_constructed wanted others
+    if is_constructed wanted tag then Some (field_of tag contents inner)
+    else first_constructed wanted others
 
 -- the first element of the context class
 abbrev pub first_context : Forest → Option Field

@@ -28,7 +28,8 @@ as_init ((ref_id, (versions, (options, (preferred, exceptional)))), login) = rec
 abbrev pub as_answered : Shared → Init
 as_answered shared = as_init (shared, None)
 
--- what both have: referenceId [2] OPTIONAL, protocolVersion [3], options [4], preferredMessageSize [5], exceptionalRecordSize [6]
+-- what both have: referenceId [2] OPTIONAL, protocolVersion [3], options [4], preferredMessageSize
+-- [5], exceptionalRecordSize [6]
 unfoldable pub shared_in : Forest → Result Shared Refusal
 shared_in fields =
     optional numbers.reference_id octets_of fields
@@ -40,7 +41,8 @@ shared_in fields =
 -- a login: the contents octets as they stand, whatever elements they are, but not too many
 abbrev pub login_of : Field → Result (List ℕ) Refusal
 login_of field =
-    if nat_lt most_login_octets (length field.contents) then Err (BadValue field.tag.number) else Ok field.contents
+    if nat_lt most_login_octets (length field.contents) then Err (BadValue field.tag.number)
+    else Ok field.contents
 
 -- idAuthentication [7] OPTIONAL: the first constructed one counts, and primitive ones are skipped
 unfoldable pub login_in : Forest → Result (Option (List ℕ)) Refusal
@@ -52,4 +54,5 @@ init_in fields = read_as as_init (shared_in fields ⊗ login_in fields)
 
 -- what a response has, and result [12]; its [7] is skipped
 unfoldable pub init_response_in : Forest → Result (Init × Bool) Refusal
-init_response_in fields = read_as as_answered (shared_in fields) ⊗ required numbers.init_result truth_of fields
+init_response_in fields =
+    read_as as_answered (shared_in fields) ⊗ required numbers.init_result truth_of fields

@@ -9,7 +9,8 @@ use Rattle.unit_forms.specs.Reading.ElementNames.{composition_in}
 use Rattle.unit_forms.specs.Reading.Rows.{octets_of, integer_of, number_of, oid_of, required, optional}
 use Rattle.unit_forms.specs.Tags as numbers
 
--- referenceId [2] OPTIONAL, resultSetId [31], resultSetStartPoint [30], numberOfRecordsRequested [29]
+-- referenceId [2] OPTIONAL, resultSetId [31], resultSetStartPoint [30], numberOfRecordsRequested
+-- [29]
 abbrev pub Place : Type 0
 Place = Option (List ℕ) × (List ℕ × (ℤ × ℕ))
 

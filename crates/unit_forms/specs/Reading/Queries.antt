@@ -19,21 +19,27 @@ use Rattle.unit_forms.specs.Tags as numbers
 
 -- Operand: AttributesPlusTerm [102], ResultSetId [31], or resultAttr [214], which is not served
 abbrev pub operand_choice : List Tag
-operand_choice = context numbers.attributes_plus_term ∷ context numbers.result_set_id ∷ context numbers.result_set_plus_attributes ∷ []
+operand_choice =
+    context numbers.attributes_plus_term ∷ context numbers.result_set_id
+    ∷ context numbers.result_set_plus_attributes ∷ []
 
 abbrev pub operand_of : Field → Result (Asked Tree) Refusal
 operand_of field =
-    if field.tag.number == numbers.attributes_plus_term then read_as (asked_as (λ p. leaf_node p.0 p.1)) (within attrs_and_term_in field)
-    else (if field.tag.number == numbers.result_set_id then read_as (λ name. Good (operand name)) (octets_of field)
+    if field.tag.number == numbers.attributes_plus_term
+    then read_as (asked_as (λ p. leaf_node p.0 p.1)) (within attrs_and_term_in field)
+    else (if field.tag.number == numbers.result_set_id
+    then read_as (λ name. Good (operand name)) (octets_of field)
     else Ok (Bad (other_form field.tag.number)))
 
 unfoldable pub operand_in : Forest → Result (Asked Tree) Refusal
 operand_in elements = required_of numbers.attributes_plus_term operand_choice operand_of elements
 
--- Operator: and [0], or [1], and-not [2], or prox [3], which is not served; its contents are not looked at
+-- Operator: and [0], or [1], and-not [2], or prox [3], which is not served; its contents are not
+-- looked at
 abbrev pub operator_choice : List Tag
 operator_choice =
-    context numbers.and_operator ∷ context numbers.or_operator ∷ context numbers.and_not_operator ∷ context numbers.proximity_operator ∷ []
+    context numbers.and_operator ∷ context numbers.or_operator ∷ context numbers.and_not_operator
+    ∷ context numbers.proximity_operator ∷ []
 
 abbrev pub operator_of : Field → Result (Asked Operator) Refusal
 operator_of field =
@@ -44,7 +50,9 @@ operator_of field =
 
 -- the operator [46] of a structure
 unfoldable pub operator_in : Forest → Result (Asked Operator) Refusal
-operator_in elements = required numbers.operator (within (required_of numbers.and_operator operator_choice operator_of)) elements
+operator_in elements =
+    required numbers.operator
+    (within (required_of numbers.and_operator operator_choice operator_of)) elements
 
 abbrev pub joined : Tree × (Tree × Operator) → Tree
 joined (l, (r, And)) = and l r
@@ -57,30 +65,39 @@ join_asked (left, (right, operator)) = asked_as joined (both_asked left (both_as
 
 -- two structures and an operator, each read or refused
 abbrev pub joined_of :
-    Result (Asked Tree) Refusal → Result (Asked Tree) Refusal → Result (Asked Operator) Refusal → Result (Asked Tree) Refusal
+    Result (Asked Tree) Refusal → Result (Asked Tree) Refusal → Result (Asked Operator) Refusal
+    → Result (Asked Tree) Refusal
 joined_of left right operator = read_as join_asked (left ⊗ right ⊗ operator)
 
--- RPNStructure: [0] round an operand, or [1] round two structures and an operator; an element of another tag or form has a bad value
-abbrev pub structure_with : Tag → Result (Asked Tree) Refusal → Result (Asked Tree) Refusal → Result (Asked Tree) Refusal
+-- RPNStructure: [0] round an operand, or [1] round two structures and an operator; an element of
+-- another tag or form has a bad value
+abbrev pub structure_with : Tag → Result (Asked Tree) Refusal → Result (Asked Tree) Refusal
+    → Result (Asked Tree) Refusal
 structure_with tag alone both =
     if has_tag tag (context numbers.operand) || has_tag tag (context numbers.rpn_rpn_op)
-    then (if tag.constructed then (if tag.number == numbers.operand then alone else both) else Err (BadValue tag.number))
+    then (if tag.constructed then (if tag.number == numbers.operand then alone else both)
+    else Err (BadValue tag.number))
     else Err (BadValue tag.number)
 
--- the structure that the element at a place is, which is missing where no element is there; an element without elements in it has no structure in it
+-- the structure that the element at a place is, which is missing where no element is there; an
+-- element without elements in it has no structure in it
 unfoldable pub structure_at : ℕ → Forest → Result (Asked Tree) Refusal
 structure_at place none = Err (Missing numbers.operand)
 structure_at (suc place) (leaf tag contents others) = structure_at place others
 structure_at (suc place) (branch tag contents inner others) = structure_at place others
 structure_at zero (leaf tag contents others) =
-    structure_with tag (operand_in none) (joined_of (Err (Missing numbers.operand)) (Err (Missing numbers.operand)) (operator_in none))
+    structure_with tag (operand_in none)
+    (joined_of (Err (Missing numbers.operand)) (Err (Missing numbers.operand)) (operator_in none))
 structure_at zero (branch tag contents inner others) =
-    structure_with tag (operand_in inner) (joined_of (structure_at 0 inner) (structure_at 1 inner) (operator_in inner))
+    structure_with tag (operand_in inner)
+    (joined_of (structure_at 0 inner) (structure_at 1 inner) (operator_in inner))
 
 -- the attribute set of a query, its first element, which has the tag of an OBJECT IDENTIFIER
 abbrev pub set_of : Option Field → Result (List ℕ) Refusal
 set_of None = Err (Missing numbers.object_identifier)
-set_of (Some field) = if has_tag field.tag (universal numbers.object_identifier) then oid_of field else Err (BadValue field.tag.number)
+set_of (Some field) =
+    if has_tag field.tag (universal numbers.object_identifier) then oid_of field
+    else Err (BadValue field.tag.number)
 
 abbrev query_with : List ℕ → Tree → RpnQuery
 query_with set root = record { attr_set = set; root = root }
@@ -95,7 +112,8 @@ rpn_query_in elements = read_as as_query (set_of (first_element elements) ⊗ st
 -- Query: type-1 [1], type-101 [101], or another type, which is not served
 abbrev pub query_of : Field → Result (Asked RpnQuery) Refusal
 query_of field =
-    if (field.tag.number == numbers.type_1_query) || (field.tag.number == numbers.type_101_query) then within rpn_query_in field
+    if (field.tag.number == numbers.type_1_query) || (field.tag.number == numbers.type_101_query)
+    then within rpn_query_in field
     else Ok (Bad (other_query_type field.tag.number))
 
 -- the first element of the context class decides

@@ -32,20 +32,26 @@ single_or_none (Some first) None octets = Some octets
 single_or_none (Some first) (Some second) octets = None
 
 abbrev pub is_single : Forest → List ℕ → Option (List ℕ)
-is_single elements octets = single_or_none (first_element elements) (first_element (other_elements elements)) octets
+is_single elements octets =
+    single_or_none (first_element elements) (first_element (other_elements elements)) octets
 
 -- X.690, 8.18: single-ASN1-type [0], octet-aligned [1], arbitrary [2]
 abbrev pub encoding_choice : List Tag
-encoding_choice = context numbers.single_asn1_type ∷ context numbers.octet_aligned ∷ context numbers.arbitrary ∷ []
+encoding_choice =
+    context numbers.single_asn1_type ∷ context numbers.octet_aligned
+    ∷ context numbers.arbitrary ∷ []
 
 abbrev pub encoding_of : Field → Result (Form × List ℕ) Refusal
 encoding_of field =
     if field.tag.number == numbers.single_asn1_type
     then read_as (λ octets. (Single, octets))
-    (within (λ inner. value_or (BadValue numbers.single_asn1_type) (is_single inner field.contents)) field)
-    else (if field.tag.number == numbers.octet_aligned then read_as (λ octets. (Octets, octets)) (octets_of field)
+    (within
+    (λ inner. value_or (BadValue numbers.single_asn1_type) (is_single inner field.contents)) field)
+    else (if field.tag.number == numbers.octet_aligned
+    then read_as (λ octets. (Octets, octets)) (octets_of field)
     else (if field.tag.constructed then Err (LeftOut numbers.arbitrary)
-    else read_as (λ octets. (Arbitrary, octets)) (value_or (BadValue numbers.arbitrary) (kept_if field.contents (bits_in field.contents)))))
+    else read_as (λ octets. (Arbitrary, octets))
+    (value_or (BadValue numbers.arbitrary) (kept_if field.contents (bits_in field.contents)))))
 
 abbrev as_record : List ℕ × (Form × List ℕ) → Item
 as_record (syntax, (form, octets)) = Record syntax form octets
@@ -60,12 +66,14 @@ external_in fields =
 -- retrievalRecord [1], round an EXTERNAL, or surrogateDiagnostic [2], round a diagnostic
 abbrev pub item_of : Field → Result Item Refusal
 item_of field =
-    if field.tag.number == numbers.retrieval_record then within (required_universal numbers.external (within external_in)) field
+    if field.tag.number == numbers.retrieval_record
+    then within (required_universal numbers.external (within external_in)) field
     else read_as Surrogate (within (required_universal numbers.sequence diag_of) field)
 
 unfoldable pub item_in : Forest → Result Item Refusal
 item_in elements =
-    required_of numbers.retrieval_record (context numbers.retrieval_record ∷ context numbers.surrogate_diagnostic ∷ []) item_of elements
+    required_of numbers.retrieval_record
+    (context numbers.retrieval_record ∷ context numbers.surrogate_diagnostic ∷ []) item_of elements
 
 abbrev as_named : Option (List ℕ) × Item → NamedRecord
 as_named (name, item) = record { name = name; item = item }
@@ -91,8 +99,10 @@ diags_in elements = each_with (universal numbers.sequence) diag_of elements
 -- Records: responseRecords [28], nonSurrogateDiagnostic [130], multipleNonSurDiagnostics [205]
 abbrev pub body_of : Field → Result Body Refusal
 body_of field =
-    if field.tag.number == numbers.response_records then read_as body.Records (within records_in field)
-    else (if field.tag.number == numbers.non_surrogate_diagnostic then read_as body.Diag (diag_of field)
+    if field.tag.number == numbers.response_records
+    then read_as body.Records (within records_in field)
+    else (if field.tag.number == numbers.non_surrogate_diagnostic
+    then read_as body.Diag (diag_of field)
     else read_as body.Diags (within diags_in field))
 
 abbrev pub body_or_none : Option Field → Result Body Refusal

@@ -28,7 +28,8 @@ as_init_reply (init, result) = reply.Init init result
 unfoldable pub init_reply_in : Forest → Result Reply Refusal
 init_reply_in fields = read_as as_init_reply (init_response_in fields)
 
--- referenceId [2] OPTIONAL, resultCount [23], numberOfRecordsReturned [24], nextResultSetPosition [25]
+-- referenceId [2] OPTIONAL, resultCount [23], numberOfRecordsReturned [24], nextResultSetPosition
+-- [25]
 abbrev pub Counts : Type 0
 Counts = Option (List ℕ) × (ℕ × (ℕ × ℕ))
 
@@ -45,10 +46,12 @@ Found = Bool × (Option ℕ × Body)
 
 unfoldable pub found_in : Forest → Result Found Refusal
 found_in fields =
-    required numbers.search_status truth_of fields ⊗ optional numbers.present_status number_of fields ⊗ body_in fields
+    required numbers.search_status truth_of fields
+    ⊗ optional numbers.present_status number_of fields ⊗ body_in fields
 
 abbrev as_search_reply : Counts × Found → Reply
-as_search_reply ((ref_id, (count, (returned, next))), (ok, (status, body))) = reply.Search ref_id count returned next ok status body
+as_search_reply ((ref_id, (count, (returned, next))), (ok, (status, body))) =
+    reply.Search ref_id count returned next ok status body
 
 -- SearchResponse
 unfoldable pub search_reply_in : Forest → Result Reply Refusal
@@ -69,7 +72,8 @@ unfoldable pub presented_in : Forest → Result (ℕ × Body) Refusal
 presented_in fields = required numbers.present_status number_of fields ⊗ body_in fields
 
 abbrev as_present_reply : Returned × (ℕ × Body) → Reply
-as_present_reply ((ref_id, (returned, next)), (status, body)) = reply.Present ref_id returned next status body
+as_present_reply ((ref_id, (returned, next)), (status, body)) =
+    reply.Present ref_id returned next status body
 
 -- PresentResponse
 unfoldable pub present_reply_in : Forest → Result Reply Refusal
@@ -125,7 +129,8 @@ listed_or_nothing (Some listed) = listed
 
 -- entries [7] OPTIONAL
 unfoldable pub listing_in : Forest → Result Listed Refusal
-listing_in fields = read_as listed_or_nothing (optional numbers.scan_entries (within listed_in) fields)
+listing_in fields =
+    read_as listed_or_nothing (optional numbers.scan_entries (within listed_in) fields)
 
 -- referenceId [2] OPTIONAL, scanStatus [4], numberOfEntriesReturned [5]
 abbrev pub Scanned : Type 0
@@ -142,9 +147,11 @@ answer_with position entries = record { position = position; entries = entries }
 
 -- the number of entries is not compared with them
 abbrev as_scan_reply : Scanned × (Option ℕ × Listed) → Reply
-as_scan_reply ((ref_id, (status, number)), (position, (entries, diags))) = reply.Scan ref_id status (answer_with position entries) diags
+as_scan_reply ((ref_id, (status, number)), (position, (entries, diags))) =
+    reply.Scan ref_id status (answer_with position entries) diags
 
 -- ScanResponse, with positionOfTerm [6] OPTIONAL
 unfoldable pub scan_reply_in : Forest → Result Reply Refusal
 scan_reply_in fields =
-    read_as as_scan_reply (scanned_in fields ⊗ (optional numbers.position_of_term number_of fields ⊗ listing_in fields))
+    read_as as_scan_reply
+    (scanned_in fields ⊗ (optional numbers.position_of_term number_of fields ⊗ listing_in fields))

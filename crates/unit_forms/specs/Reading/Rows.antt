@@ -1,4 +1,5 @@
--- Kinds of fields (X.690:2021, 8.2 to 8.9, 8.19, 8.23), and the rows that tables of fields have of them (this project's own).
+-- Kinds of fields (X.690:2021, 8.2 to 8.9, 8.19, 8.23), and the rows that tables of fields have of
+-- them (this project's own).
 use Rattle.std.specs.Prelude.{ℕ, ℤ, List, [], ◌∷◌, Bool, false, Option, Result, Ok, Err, if◌then◌else◌}
 use Rattle.z_ber.specs.declared.tag.Tag.{Tag}
 use Rattle.z_ber.specs.Element.{Forest}
@@ -11,7 +12,8 @@ use Rattle.unit_forms.specs.Reading.Answers.{value_or, read_or, read_if, each}
 
 -- a string is read in primitive form alone; in constructed form it is left out
 abbrev pub octets_of : Field → Result (List ℕ) Refusal
-octets_of field = if field.tag.constructed then Err (LeftOut field.tag.number) else Ok field.contents
+octets_of field =
+    if field.tag.constructed then Err (LeftOut field.tag.number) else Ok field.contents
 
 -- BIT STRING, likewise
 abbrev pub bits_of : Field → Result ℕ Refusal
@@ -41,7 +43,8 @@ oid_of field = primitive_of oid_in field
 
 -- a constructed type: what the elements in it are read as
 abbrev pub within : {A : Type 0} → (Forest → Result A Refusal) → Field → Result A Refusal
-within read field = if field.tag.constructed then read field.inner else Err (BadValue field.tag.number)
+within read field =
+    if field.tag.constructed then read field.inner else Err (BadValue field.tag.number)
 
 -- the context tag of a number
 abbrev pub context : ℕ → Tag
@@ -52,22 +55,27 @@ abbrev pub universal : ℕ → Tag
 universal number = record { class = 0; constructed = false; number = number }
 
 -- a field with one of these tags, which has to be there; the number is told where it is not
-abbrev pub required_of : {A : Type 0} → ℕ → List Tag → (Field → Result A Refusal) → Forest → Result A Refusal
+abbrev pub required_of : {A : Type 0} → ℕ → List Tag → (Field → Result A Refusal) → Forest
+    → Result A Refusal
 required_of number choice read fields = read_or (Missing number) read (first_of choice fields)
 
 abbrev pub required : {A : Type 0} → ℕ → (Field → Result A Refusal) → Forest → Result A Refusal
 required number read fields = required_of number (context number ∷ []) read fields
 
-abbrev pub required_universal : {A : Type 0} → ℕ → (Field → Result A Refusal) → Forest → Result A Refusal
+abbrev pub required_universal : {A : Type 0} → ℕ → (Field → Result A Refusal) → Forest
+    → Result A Refusal
 required_universal number read fields = required_of number (universal number ∷ []) read fields
 
 -- one that may be absent
-abbrev pub optional_of : {A : Type 0} → List Tag → (Field → Result A Refusal) → Forest → Result (Option A) Refusal
+abbrev pub optional_of : {A : Type 0} → List Tag → (Field → Result A Refusal) → Forest
+    → Result (Option A) Refusal
 optional_of choice read fields = read_if read (first_of choice fields)
 
-abbrev pub optional : {A : Type 0} → ℕ → (Field → Result A Refusal) → Forest → Result (Option A) Refusal
+abbrev pub optional : {A : Type 0} → ℕ → (Field → Result A Refusal) → Forest
+    → Result (Option A) Refusal
 optional number read fields = optional_of (context number ∷ []) read fields
 
 -- each element with this tag; others are skipped
-abbrev pub each_with : {A : Type 0} → Tag → (Field → Result A Refusal) → Forest → Result (List A) Refusal
+abbrev pub each_with : {A : Type 0} → Tag → (Field → Result A Refusal) → Forest
+    → Result (List A) Refusal
 each_with tag read fields = each (λ field. has_tag field.tag tag) read fields

@@ -13,7 +13,8 @@ use Rattle.unit_forms.specs.Reading.Rows.{octets_of, number_of, oid_of, universa
 use Rattle.unit_forms.specs.Reading.SearchRequest.{databases_of}
 use Rattle.unit_forms.specs.Tags as numbers
 
--- the attribute set, the attributes and the term, stepSize, numberOfTermsRequested, preferredPositionInResponse
+-- the attribute set, the attributes and the term, stepSize, numberOfTermsRequested,
+-- preferredPositionInResponse
 abbrev pub Start : Type 0
 Start = Option (List ℕ) × (Asked (List Attr × Term) × (Option ℕ × (ℕ × Option ℕ)))
 
@@ -29,9 +30,11 @@ ask_with attr_set step number position (attrs, term) = record {
 
 -- what is asked, where the attributes and the term are served
 abbrev pub as_ask : Start → Asked ScanAsk
-as_ask (attr_set, (operand, (step, (number, position)))) = asked_as (ask_with attr_set step number position) operand
+as_ask (attr_set, (operand, (step, (number, position)))) =
+    asked_as (ask_with attr_set step number position) operand
 
--- attributeSet OPTIONAL, an OBJECT IDENTIFIER; termListAndStartPoint [102]; stepSize [5] OPTIONAL; numberOfTermsRequested [6]; preferredPositionInResponse [7] OPTIONAL
+-- attributeSet OPTIONAL, an OBJECT IDENTIFIER; termListAndStartPoint [102]; stepSize [5] OPTIONAL;
+-- numberOfTermsRequested [6]; preferredPositionInResponse [7] OPTIONAL
 unfoldable pub start_in : Forest → Result Start Refusal
 start_in fields =
     optional_of (universal numbers.object_identifier ∷ []) oid_of fields

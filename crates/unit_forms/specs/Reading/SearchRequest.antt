@@ -33,7 +33,8 @@ with_names None (Good query) = Good query
 with_names (Some (Good name)) (Good query) = Good query
 with_names (Some (Bad diag)) (Good query) = Bad diag
 
--- referenceId [2] OPTIONAL, smallSetUpperBound [13], largeSetLowerBound [14], mediumSetPresentNumber [15]
+-- referenceId [2] OPTIONAL, smallSetUpperBound [13], largeSetLowerBound [14],
+-- mediumSetPresentNumber [15]
 abbrev pub Bounds : Type 0
 Bounds = Option (List ℕ) × (ℕ × (ℕ × ℕ))
 
@@ -54,7 +55,8 @@ named_in fields =
     ⊗ required numbers.result_set_name octets_of fields
     ⊗ required numbers.database_names databases_of fields
 
--- smallSetElementSetNames [100] OPTIONAL, mediumSetElementSetNames [101] OPTIONAL, preferredRecordSyntax [104] OPTIONAL, query [21]
+-- smallSetElementSetNames [100] OPTIONAL, mediumSetElementSetNames [101] OPTIONAL,
+-- preferredRecordSyntax [104] OPTIONAL, query [21]
 abbrev pub Wanted : Type 0
 Wanted = Option (Asked (List ℕ)) × (Option (Asked (List ℕ)) × (Option (List ℕ) × Asked RpnQuery))
 
@@ -66,7 +68,10 @@ wanted_in fields =
     ⊗ required numbers.query (within query_in) fields
 
 abbrev pub as_search : Bounds × (Named × Wanted) → Search
-as_search ((ref_id, (small, (large, medium))), ((replace, (set_name, dbs)), (small_names, (medium_names, (syntax, query))))) = record {
+as_search (
+  (ref_id, (small, (large, medium))),
+  ((replace, (set_name, dbs)), (small_names, (medium_names, (syntax, query)))),
+) = record {
   ref_id = ref_id;
   small = small;
   large = large;

@@ -18,7 +18,8 @@ use Rattle.unit_forms.specs.Reading.ScanRequest.{scan_in}
 use Rattle.unit_forms.specs.Reading.SearchRequest.{search_in}
 use Rattle.unit_forms.specs.Tags as numbers
 
--- initRequest [20], searchRequest [22], presentRequest [24], scanRequest [35], close [48]; one in primitive form has no fields
+-- initRequest [20], searchRequest [22], presentRequest [24], scanRequest [35], close [48]; one in
+-- primitive form has no fields
 abbrev pub numbered_request : ℕ → Field → Result Request Refusal
 numbered_request number field =
     if number == numbers.init_request then read_as request.Init (init_in field.inner)
@@ -31,9 +32,11 @@ numbered_request number field =
 -- a unit has a tag of the context class
 unfoldable pub request_of : Field → Result Request Refusal
 request_of field =
-    if field.tag.class == 2 then numbered_request field.tag.number field else Err (UnknownUnit field.tag.number)
+    if field.tag.class == 2 then numbered_request field.tag.number field
+    else Err (UnknownUnit field.tag.number)
 
--- initResponse [21], searchResponse [23], presentResponse [25], scanResponse [36], close [48]; one in primitive form has no fields
+-- initResponse [21], searchResponse [23], presentResponse [25], scanResponse [36], close [48]; one
+-- in primitive form has no fields
 abbrev pub numbered_reply : ℕ → Field → Result Reply Refusal
 numbered_reply number field =
     if number == numbers.init_response then init_reply_in field.inner
@@ -45,7 +48,8 @@ numbered_reply number field =
 
 unfoldable pub reply_of : Field → Result Reply Refusal
 reply_of field =
-    if field.tag.class == 2 then numbered_reply field.tag.number field else Err (UnknownUnit field.tag.number)
+    if field.tag.class == 2 then numbered_reply field.tag.number field
+    else Err (UnknownUnit field.tag.number)
 
 -- the request, or the reply, that a unit with this tree is; an element has a first element
 abbrev pub request_in : Forest → Result Request Refusal
@@ -56,10 +60,13 @@ reply_in tree = read_or (UnknownUnit 0) reply_of (first_element tree)
 
 -- octets are a unit that is read as this request, or as none
 abbrev pub IsReading : List ℕ → Option Request → Type 0
-IsReading octets (Some request) = (tree : Forest) × IsUnit octets tree × (request_in tree ≡ Ok request)
-IsReading octets None = (tree : Forest) (request : Request) → IsUnit octets tree → request_in tree ≡ Ok request → ⊥
+IsReading octets (Some request) =
+    (tree : Forest) × IsUnit octets tree × (request_in tree ≡ Ok request)
+IsReading octets None =
+    (tree : Forest) (request : Request) → IsUnit octets tree → request_in tree ≡ Ok request → ⊥
 
 -- whatever request octets are read as, it is this one
 abbrev pub IsOnlyReading : List ℕ → Option Request → Type 0
 IsOnlyReading octets read =
-    (tree : Forest) (request : Request) → IsUnit octets tree → request_in tree ≡ Ok request → read ≡ Some request
+    (tree : Forest) (request : Request) → IsUnit octets tree → request_in tree ≡ Ok request
+    → read ≡ Some request

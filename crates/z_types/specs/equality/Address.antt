@@ -14,7 +14,8 @@ use Rattle.z_types.specs.contracts.address.AddressClone.TheImpl as address_copy
 
 pub site_exact : EqIsExact (site_test.ghosts).eq
 site_exact (at.Test n) (at.Test m) h = ap at.Test (numbers_exact n m h)
-site_exact (at.Tcp a b) (at.Tcp a' b') h = ap (λ (host, port). at.Tcp host port) ((text ⊠ number).eq_is_exact (a, b) (a', b') h)
+site_exact (at.Tcp a b) (at.Tcp a' b') h =
+    ap (λ (host, port). at.Tcp host port) ((text ⊠ number).eq_is_exact (a, b) (a', b') h)
 site_exact a b h = cc
 
 pub site_cloned : CloneIsExact (site_copy.ghosts).is_clone
@@ -27,8 +28,10 @@ site = shown site_exact site_cloned
 
 pub address_exact : EqIsExact (address_test.ghosts).eq
 address_exact (Test n) (Test m) h = ap Test (numbers_exact n m h)
-address_exact (Tcp a b) (Tcp a' b') h = ap (λ (host, port). Tcp host port) ((text ⊠ number).eq_is_exact (a, b) (a', b') h)
-address_exact (Login a b) (Login a' b') h = ap (λ (at, login). Login at login) ((site ⊠ text).eq_is_exact (a, b) (a', b') h)
+address_exact (Tcp a b) (Tcp a' b') h =
+    ap (λ (host, port). Tcp host port) ((text ⊠ number).eq_is_exact (a, b) (a', b') h)
+address_exact (Login a b) (Login a' b') h =
+    ap (λ (at, login). Login at login) ((site ⊠ text).eq_is_exact (a, b) (a', b') h)
 address_exact a b h = cc
 
 pub address_cloned : CloneIsExact (address_copy.ghosts).is_clone

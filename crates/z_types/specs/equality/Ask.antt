@@ -21,17 +21,21 @@ abbrev present_of : PresentParts → Ask
 present_of (name, (first, (count, (syntax, element)))) = Present name first count syntax element
 
 pub ask_exact : EqIsExact (ask_test.ghosts).eq
-ask_exact (Search a b) (Search a' b') h = ap (λ (name, key). Search name key) ((text ⊠ keys.key).eq_is_exact (a, b) (a', b') h)
+ask_exact (Search a b) (Search a' b') h =
+    ap (λ (name, key). Search name key) ((text ⊠ keys.key).eq_is_exact (a, b) (a', b') h)
 ask_exact (Present a b c d e) (Present a' b' c' d' e') h =
     ap present_of (presented.eq_is_exact (a, (b, (c, (d, e)))) (a', (b', (c', (d', e')))) h)
-ask_exact (Scan a b) (Scan a' b') h = ap (λ (dbs, ask). Scan dbs ask) ((list text ⊠ scan_ask).eq_is_exact (a, b) (a', b') h)
+ask_exact (Scan a b) (Scan a' b') h =
+    ap (λ (dbs, ask). Scan dbs ask) ((list text ⊠ scan_ask).eq_is_exact (a, b) (a', b') h)
 ask_exact a b h = cc
 
 pub ask_cloned : CloneIsExact (ask_copy.ghosts).is_clone
-ask_cloned (Search a b) (Search a' b') h = ap (λ (name, key). Search name key) ((text ⊠ keys.key).clone_is_exact (a, b) (a', b') h)
+ask_cloned (Search a b) (Search a' b') h =
+    ap (λ (name, key). Search name key) ((text ⊠ keys.key).clone_is_exact (a, b) (a', b') h)
 ask_cloned (Present a b c d e) (Present a' b' c' d' e') h =
     ap present_of (presented.clone_is_exact (a, (b, (c, (d, e)))) (a', (b', (c', (d', e')))) h)
-ask_cloned (Scan a b) (Scan a' b') h = ap (λ (dbs, ask). Scan dbs ask) ((list text ⊠ scan_ask).clone_is_exact (a, b) (a', b') h)
+ask_cloned (Scan a b) (Scan a' b') h =
+    ap (λ (dbs, ask). Scan dbs ask) ((list text ⊠ scan_ask).clone_is_exact (a, b) (a', b') h)
 ask_cloned a b h = absurd h
 
 abbrev pub ask : Exactness Ask

@@ -1,4 +1,5 @@
--- For proofs alone: what a request asks for, or its diagnostic, is tested and copied exactly (this project's own)
+-- For proofs alone: what a request asks for, or its diagnostic, is tested and copied exactly
+-- (this project's own)
 use Rattle.std.specs.Prelude.{◌≡◌, Bool, true, false, refl}
 use Rattle.std.specs.Cmp.{IsEquivalence, IsPartialEquivalence, partial_equiv_from_equiv}
 use Rattle.std.proofs.Common.{ap}
@@ -31,7 +32,8 @@ asked_exact e (Bad a) (Bad b) h = ap Bad (diagnostic.eq_is_exact a b h)
 asked_exact e (Good a) (Bad b) h = cc
 asked_exact e (Bad a) (Good b) h = cc
 
-pub asked_cloned : {T : Type 0} {is_clone : T → T → Type 0} → CloneIsExact is_clone → CloneIsExact (asked_is_clone is_clone)
+pub asked_cloned : {T : Type 0} {is_clone : T → T → Type 0} → CloneIsExact is_clone
+    → CloneIsExact (asked_is_clone is_clone)
 asked_cloned e (Good a) (Good b) h = ap Good (e a b h)
 asked_cloned e (Bad a) (Bad b) h = ap Bad (diagnostic.clone_is_exact a b h)
 asked_cloned e (Good a) (Bad b) h = absurd h
@@ -53,10 +55,12 @@ asked_trans p (Good a) (Good b) (Good c) h g = p.trans a b c h g
 asked_trans p (Bad a) (Bad b) (Bad c) h g = diags_per.trans a b c h g
 asked_trans p a b c h g = cc
 
-pub asked_per : {T : Type 0} {eq : T → T → Bool} → IsPartialEquivalence eq → IsPartialEquivalence (asked_eq eq)
+pub asked_per : {T : Type 0} {eq : T → T → Bool} → IsPartialEquivalence eq
+    → IsPartialEquivalence (asked_eq eq)
 asked_per p = record { symm = asked_symm p; trans = asked_trans p }
 
-asked_itself : {T : Type 0} {eq : T → T → Bool} → IsEquivalence eq → (a : Asked T) → asked_eq eq a a ≡ true
+asked_itself : {T : Type 0} {eq : T → T → Bool} → IsEquivalence eq → (a : Asked T)
+    → asked_eq eq a a ≡ true
 asked_itself e (Good a) = e.refl a
 asked_itself e (Bad a) = diag_law.laws-law.refl a
 

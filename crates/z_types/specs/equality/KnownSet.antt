@@ -10,5 +10,6 @@ known_set = made_of
     ⊗ part (λ s. s.legs) (list number)
     ⊗ part (λ s. s.query) rpn_query
     ⊗ part (λ s. s.hits) (list number))
-    (λ (name, (legs, (query, hits))). record { name = name; legs = legs; query = query; hits = hits })
+    (λ (name, (legs, (query, hits))).
+    record { name = name; legs = legs; query = query; hits = hits })
     (λ _. refl)

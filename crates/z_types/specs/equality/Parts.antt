@@ -1,4 +1,5 @@
--- For proofs alone: values that are tested and copied part by part, each part exactly, are so themselves (this project's own)
+-- For proofs alone: values that are tested and copied part by part, each part exactly, are so
+-- themselves (this project's own)
 use Rattle.std.specs.Prelude.{◌≡◌, ℕ, ℤ, Bool, true, ◌&&◌, List, Option}
 use Rattle.std.proofs.Common.{ap, sym, ◌∙◌}
 use Rattle.z_types.specs.Exact.{EqIsExact, CloneIsExact}
@@ -43,11 +44,13 @@ p ⊗ q = record {
 }
 
 -- values with the same parts are the same value
-pub one_by_parts : {S A : Type 0} (of : S → A) (make : A → S) → ((s : S) → make (of s) ≡ s) → (s t : S) → of s ≡ of t → s ≡ t
+pub one_by_parts : {S A : Type 0} (of : S → A) (make : A → S) → ((s : S) → make (of s) ≡ s)
+    → (s t : S) → of s ≡ of t → s ≡ t
 one_by_parts of make again s t same = sym (again s) ∙ ap make same ∙ again t
 
 -- a type whose values are made of their parts
-abbrev pub made_of : {S A : Type 0} → (p : Parts S A) (make : A → S) → ((s : S) → make (p.of s) ≡ s) → Exactness S
+abbrev pub made_of : {S A : Type 0} → (p : Parts S A) (make : A → S) → ((s : S) → make (p.of s) ≡ s)
+    → Exactness S
 made_of p make again = record {
   eq = p.eq;
   is_clone = p.is_clone;
@@ -56,8 +59,10 @@ made_of p make again = record {
 }
 
 -- a type whose test and copy were shown to be exact
-abbrev pub shown : {T : Type 0} {eq : T → T → Bool} {is_clone : T → T → Type 0} → EqIsExact eq → CloneIsExact is_clone → Exactness T
-shown {T} {eq} {is_clone} e c = record { eq = eq; is_clone = is_clone; eq_is_exact = e; clone_is_exact = c }
+abbrev pub shown : {T : Type 0} {eq : T → T → Bool} {is_clone : T → T → Type 0} → EqIsExact eq
+    → CloneIsExact is_clone → Exactness T
+shown {T} {eq} {is_clone} e c =
+    record { eq = eq; is_clone = is_clone; eq_is_exact = e; clone_is_exact = c }
 
 infixr 10 ◌⊠◌
 -- pairs

@@ -1,4 +1,5 @@
--- For proofs alone: the parts of queries, and their structures, are tested and copied exactly (this project's own)
+-- For proofs alone: the parts of queries, and their structures, are tested and copied exactly
+-- (this project's own)
 use Rattle.std.specs.Prelude.{◌≡◌, refl, Bool, true, false, ◌&&◌}
 use Rattle.std.specs.Cmp.{IsEquivalence, IsPartialEquivalence, partial_equiv_from_equiv}
 use Rattle.std.proofs.Common.{ap}

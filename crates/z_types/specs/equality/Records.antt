@@ -1,4 +1,5 @@
--- For proofs alone: records, and what stands in their place, are tested and copied exactly (this project's own)
+-- For proofs alone: records, and what stands in their place, are tested and copied exactly
+-- (this project's own)
 use Rattle.std.specs.Prelude.{refl}
 use Rattle.std.proofs.Common.{ap}
 use Rattle.z_types.specs.Exact.{EqIsExact, CloneIsExact}

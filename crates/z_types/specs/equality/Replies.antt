@@ -50,7 +50,8 @@ pub reply_exact : EqIsExact (reply_test.ghosts).eq
 reply_exact (Init a b) (Init a' b') h =
     ap (λ (init, result). Init init result) ((init ⊠ flag).eq_is_exact (a, b) (a', b') h)
 reply_exact (Search a b c d e f g) (Search a' b' c' d' e' f' g') h =
-    ap search_of (found.eq_is_exact (a, (b, (c, (d, (e, (f, g)))))) (a', (b', (c', (d', (e', (f', g')))))) h)
+    ap search_of
+    (found.eq_is_exact (a, (b, (c, (d, (e, (f, g)))))) (a', (b', (c', (d', (e', (f', g')))))) h)
 reply_exact (Present a b c d e) (Present a' b' c' d' e') h =
     ap present_of (presented.eq_is_exact (a, (b, (c, (d, e)))) (a', (b', (c', (d', e')))) h)
 reply_exact (Scan a b c d) (Scan a' b' c' d') h =
@@ -62,7 +63,8 @@ pub reply_cloned : CloneIsExact (reply_copy.ghosts).is_clone
 reply_cloned (Init a b) (Init a' b') h =
     ap (λ (init, result). Init init result) ((init ⊠ flag).clone_is_exact (a, b) (a', b') h)
 reply_cloned (Search a b c d e f g) (Search a' b' c' d' e' f' g') h =
-    ap search_of (found.clone_is_exact (a, (b, (c, (d, (e, (f, g)))))) (a', (b', (c', (d', (e', (f', g')))))) h)
+    ap search_of
+    (found.clone_is_exact (a, (b, (c, (d, (e, (f, g)))))) (a', (b', (c', (d', (e', (f', g')))))) h)
 reply_cloned (Present a b c d e) (Present a' b' c' d' e') h =
     ap present_of (presented.clone_is_exact (a, (b, (c, (d, e)))) (a', (b', (c', (d', e')))) h)
 reply_cloned (Scan a b c d) (Scan a' b' c' d') h =

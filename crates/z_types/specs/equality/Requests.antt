@@ -119,15 +119,18 @@ close = made_of
 pub request_exact : EqIsExact (request_test.ghosts).eq
 request_exact (request.Init a) (request.Init b) h = ap request.Init (init.eq_is_exact a b h)
 request_exact (request.Search a) (request.Search b) h = ap request.Search (search.eq_is_exact a b h)
-request_exact (request.Present a) (request.Present b) h = ap request.Present (present.eq_is_exact a b h)
+request_exact (request.Present a) (request.Present b) h =
+    ap request.Present (present.eq_is_exact a b h)
 request_exact (request.Scan a) (request.Scan b) h = ap request.Scan (scan.eq_is_exact a b h)
 request_exact (request.Close a) (request.Close b) h = ap request.Close (close.eq_is_exact a b h)
 request_exact a b h = cc
 
 pub request_cloned : CloneIsExact (request_copy.ghosts).is_clone
 request_cloned (request.Init a) (request.Init b) h = ap request.Init (init.clone_is_exact a b h)
-request_cloned (request.Search a) (request.Search b) h = ap request.Search (search.clone_is_exact a b h)
-request_cloned (request.Present a) (request.Present b) h = ap request.Present (present.clone_is_exact a b h)
+request_cloned (request.Search a) (request.Search b) h =
+    ap request.Search (search.clone_is_exact a b h)
+request_cloned (request.Present a) (request.Present b) h =
+    ap request.Present (present.clone_is_exact a b h)
 request_cloned (request.Scan a) (request.Scan b) h = ap request.Scan (scan.clone_is_exact a b h)
 request_cloned (request.Close a) (request.Close b) h = ap request.Close (close.clone_is_exact a b h)
 request_cloned a b h = absurd h

@@ -15,7 +15,8 @@ sru_diag = made_of
     (part (λ (d : SruDiag). d.version) text
     ⊗ part (λ d. d.number) number
     ⊗ part (λ d. d.details) text)
-    (λ (version, (number, details)). record { version = version; number = number; details = details })
+    (λ (version, (number, details)).
+    record { version = version; number = number; details = details })
     (λ _. refl)
 
 pub sru_item_exact : EqIsExact (item_test.ghosts).eq

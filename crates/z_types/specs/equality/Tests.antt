@@ -1,4 +1,5 @@
--- For proofs alone: tests and copies of lists, options, numbers and yes or no are exact (this project's own)
+-- For proofs alone: tests and copies of lists, options, numbers and yes or no are exact
+-- (this project's own)
 use Rattle.std.specs.Prelude.{◌≡◌, ℕ, Bool, true, false, ◌&&◌, ◌==◌, [], ◌∷◌, refl, Option, None, Some}
 use Rattle.std.specs.List.{AllZip}
 use Rattle.std.specs.Option.{option_eq}
@@ -42,7 +43,8 @@ lists_exact {T} {eq} e (x ∷ xs) (y ∷ ys) h =
     let q = e x y p.0 in
     let r = lists_exact {eq = eq} e xs ys p.1 in cc
 
-pub lists_cloned : {T : Type 0} {is_clone : T → T → Type 0} → CloneIsExact is_clone → CloneIsExact (AllZip is_clone)
+pub lists_cloned : {T : Type 0} {is_clone : T → T → Type 0} → CloneIsExact is_clone
+    → CloneIsExact (AllZip is_clone)
 lists_cloned {T} {is_clone} e xs ys h = same_from_all_zip is_clone xs ys h e
 
 pub text_exact : EqIsExact (pointwise ◌==◌)
@@ -61,7 +63,8 @@ option_is_clone is_clone None (Some y) = ⊥
 option_is_clone is_clone (Some x) None = ⊥
 option_is_clone is_clone (Some x) (Some y) = is_clone x y
 
-pub options_cloned : {T : Type 0} {is_clone : T → T → Type 0} → CloneIsExact is_clone → CloneIsExact (option_is_clone is_clone)
+pub options_cloned : {T : Type 0} {is_clone : T → T → Type 0} → CloneIsExact is_clone
+    → CloneIsExact (option_is_clone is_clone)
 options_cloned e None None h = refl
 options_cloned e None (Some y) h = absurd h
 options_cloned e (Some x) None h = absurd h
@@ -74,7 +77,8 @@ one_truth true false f g = sym (f refl)
 one_truth false true f g = g refl
 
 -- an exact test that passes each value with itself is an equivalence
-pub exact_equiv : {T : Type 0} {eq : T → T → Bool} → EqIsExact eq → ((a : T) → eq a a ≡ true) → IsEquivalence eq
+pub exact_equiv : {T : Type 0} {eq : T → T → Bool} → EqIsExact eq → ((a : T) → eq a a ≡ true)
+    → IsEquivalence eq
 exact_equiv {T} {eq} e r = record {
   refl = r;
   symm = λ x y. one_truth (eq x y) (eq y x)

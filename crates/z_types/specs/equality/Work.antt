@@ -18,7 +18,8 @@ MaybeText = Option (List ℕ)
 -- the parts of a search
 abbrev SearchParts : Type 0
 SearchParts =
-    MaybeText × (List ℕ × (RpnQuery × (ℕ × (ℕ × (ℕ × (MaybeText × (MaybeText × (MaybeText × ℕ))))))))
+    MaybeText
+    × (List ℕ × (RpnQuery × (ℕ × (ℕ × (ℕ × (MaybeText × (MaybeText × (MaybeText × ℕ))))))))
 
 abbrev searched : Exactness SearchParts
 searched =
@@ -26,7 +27,13 @@ searched =
     ⊠ option text ⊠ option text ⊠ option text ⊠ number
 
 abbrev search_of : SearchParts → Work
-search_of (login, (legs, (query, (small, (large, (medium, (small_element, (medium_element, (syntax, room))))))))) =
+search_of (
+  login,
+  (
+    legs,
+    (query, (small, (large, (medium, (small_element, (medium_element, (syntax, room))))))),
+  ),
+) =
     Search login legs query small large medium small_element medium_element syntax room
 
 -- the parts of a fetch
@@ -35,7 +42,8 @@ FetchParts = MaybeText × (List ℕ × (RpnQuery × (List ℕ × (ℕ × (ℕ ×
 
 abbrev fetched : Exactness FetchParts
 fetched =
-    option text ⊠ list number ⊠ rpn_query ⊠ list number ⊠ number ⊠ number ⊠ option text ⊠ option text
+    option text ⊠ list number ⊠ rpn_query ⊠ list number ⊠ number ⊠ number ⊠ option text
+    ⊠ option text
 
 abbrev fetch_of : FetchParts → Work
 fetch_of (login, (legs, (query, (hits, (first, (count, (syntax, element))))))) =
@@ -60,5 +68,6 @@ work_exact (Fetch a b c d e f g k) (Fetch a' b' c' d' e' f' g' k') h =
     ap fetch_of (fetched.eq_is_exact
     (a, (b, (c, (d, (e, (f, (g, k)))))))
     (a', (b', (c', (d', (e', (f', (g', k'))))))) h)
-work_exact (Scan a b c) (Scan a' b' c') h = ap scan_of (scanned.eq_is_exact (a, (b, c)) (a', (b', c')) h)
+work_exact (Scan a b c) (Scan a' b' c') h =
+    ap scan_of (scanned.eq_is_exact (a, (b, c)) (a', (b', c')) h)
 work_exact a b h = cc
