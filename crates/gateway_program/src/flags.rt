@@ -22,7 +22,7 @@ impl Flags {
 
 /// The words without the flags behind them, and what these say. One that stands there twice, or names no
 /// address, is left among the words, which are then those of no command.
-pub(crate) fn flags(words: &[Text]) -> (&[Text], Flags) {
+pub(crate) fn flags_of(words: &[Text]) -> (&[Text], Flags) {
     let mut words = words;
     let mut flags = Flags {
         listen: None,

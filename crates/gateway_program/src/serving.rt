@@ -1,6 +1,6 @@
 //! Serving, where the words ask for it.
 
-use crate::flags::flags;
+use crate::flags::flags_of;
 use crate::hints::help;
 use gateway_config::Status;
 use log::LevelFilter;
@@ -39,7 +39,7 @@ pub(crate) fn serve_here<
         + Wait
         + Sync,
 >(runtime: &R, alloc: Global, words: &[Text]) -> Status {
-    let (words, flags) = flags(words);
+    let (words, flags) = flags_of(words);
     let Ok(filter) = filter(alloc, flags.quiet) else {
         return Status::Memory;
     };

@@ -1,6 +1,6 @@
 //! The commands over the system's files and output, and the words that the system hands on.
 
-use crate::flags::{Flags, flags};
+use crate::flags::{Flags, flags_of};
 use crate::words::words;
 use gateway_top::{Status, command};
 use gw_memory::MemorySink;
@@ -170,7 +170,7 @@ const ANY_6: IpAddr = IpAddr::V6(Ipv6Addr::UNSPECIFIED);
 fn flags_stand_behind_the_words_each_once(rt: HostRuntime) -> Result<(), Fail> {
     for (line, count, listen, quiet) in FLAGS {
         let words = texts(rt.alloc(), line)?;
-        let (others, told) = flags(words.as_slice());
+        let (others, told) = flags_of(words.as_slice());
         assert!(rt;
             others.len() == count && told == Flags { listen, quiet },
             "{line:?}"

@@ -1,6 +1,6 @@
 -- a configuration's route, all of whose targets are test targets, is told by each world that tells these; so is all that a replay of it over
 -- a new wire prints
-use Rattle.std.proofs.Common.{◌≡◌, ℕ, Bool, true, false, cond, not, find, List, [], ◌∷◌, map, Option, Some, None, Result, Ok, Err, IfSome, option_map, unwrap_or, codes, Contains, refl, subst}
+use Rattle.std.proofs.Common.{◌≡◌, ℕ, Bool, true, false, cond, not, find, List, [], ◌∷◌, map, Option, Some, None, Result, Ok, Err, IfSome, option_map, unwrap_or, refl, subst}
 use Rattle.std.specs.List.{AllByRecursion}
 use Rattle.std.proofs.lemmas.List.Elements.{All-contains, All-from_recursion}
 use Rattle.toml.specs.Data.{Data}
@@ -12,7 +12,7 @@ use Rattle.gw_outside.specs.Counts.{Counts, no_counts}
 use Rattle.route_config.specs.declared.route.Class.{Class}
 use Rattle.route_config.specs.declared.route.Route.{Route}
 use Rattle.route_config.specs.declared.route.Target.{Target}
-use Rattle.route_text.specs.Configuration.{configuration, first_fault, route_or_refusal, tree_of, value_or}
+use Rattle.route_text.specs.Configuration.{first_fault, route_or_refusal, tree_of, value_or}
 use Rattle.route_text.specs.RouteOf.{address_of, class_names, class_of, members_of, route_of}
 use Rattle.route_text.specs.Values.{values_in}
 use Rattle.route_text.specs.declared.fault.RouteFault.{RouteFault}

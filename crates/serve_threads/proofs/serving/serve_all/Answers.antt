@@ -1,4 +1,4 @@
-use Rattle.std.proofs.Common.{◌≡◌, ◌∙◌, ap, is_some, subst, sym}
+use Rattle.std.proofs.Common.{◌∙◌, ap, is_some, subst, sym}
 use Rattle.route_config.specs.declared.route.Route.{Route}
 use Rattle.pool_locked.specs.Books.{counts_of}
 use Rattle.serve_threads.specs.Serving.{HaveServed}
