@@ -24,7 +24,7 @@ use Rattle.front_conn.specs.steps.Answering.{AnsweringState, EndsAt, IsEndAfter,
 use Rattle.front_conn.specs.steps.Drives.{ConnAt, DrivesWork, GoesOnTo, HasDriven, IsAwaited, IsInWork, StepsTo, around, given_up_at, package_in}
 use Rattle.front_conn.specs.steps.Feeding.{without_work}
 use Rattle.front_conn.specs.steps.States.{ConnectionState, IsConnOf, IsOfRoute}
-use Rattle.front_conn.specs.steps.Steps.{HasTurned, KeepsState, StepsFrom, UnlessMemory, answering_of}
+use Rattle.front_conn.specs.steps.Steps.{HasTurned, KeepsState, IsStepFrom, UnlessMemory, answering_of}
 use Rattle.z_types.proofs.ChainLemmas.{steps-on}
 use Rattle.front_conn.proofs.DriveLemmas.{at-of, conn_with, stepped-keeps, stepped-so, same-route, still-waits}
 use Rattle.front_conn.proofs.StepLemmas.{state_of}
@@ -127,8 +127,8 @@ module _ {W S : Type 0} (w : world.Ghosts W) (t : sitting.Ghosts S W) (exact : B
       let old = here.conn in
       let new = next.conn in
       let h : HasTurned w t exact route step.now view old new answer here.outside next.outside =
-      subst (λ (i : Option (PackageView S)). StepsFrom w t exact route step.now None i old new answer here.outside next.outside) is
-      (subst (λ (e : Option End). StepsFrom w t exact route step.now e old.in_work old new answer here.outside next.outside) works.goes_on
+      subst (λ (i : Option (PackageView S)). IsStepFrom w t exact route step.now None i old new answer here.outside next.outside) is
+      (subst (λ (e : Option End). IsStepFrom w t exact route step.now e old.in_work old new answer here.outside next.outside) works.goes_on
       step.stepped) in
       behind-turn route h.turns.turned h.turns.next (answering_of old) new answer h.turns.works)
 

@@ -12,7 +12,7 @@ use Rattle.front_conn.specs.declared.stepped.Stepped.{Stepped}
 use Rattle.front_conn.specs.declared.stepped.Stepped.TheVariants.{Idle}
 use Rattle.front_conn.specs.steps.Answering.{AnsweringState, Outside, TurnsWork}
 use Rattle.front_conn.specs.steps.States.{ConnectionState, HasLegsOf, IsConnOf}
-use Rattle.front_conn.specs.steps.Steps.{GoesAhead, HasTurned, IsStepped, KeepsState, StepsFrom, UnlessMemory}
+use Rattle.front_conn.specs.steps.Steps.{GoesAhead, HasTurned, IsStepped, KeepsState, IsStepFrom, UnlessMemory}
 use Rattle.front_conn.proofs.StepLemmas.{state_of}
 use Rattle.front_conn.proofs.TurnLemmas.{TurnLaws, turned-keeps, turned-sets}
 
@@ -80,23 +80,23 @@ module _ {W S : Type 0} (w : world.Ghosts W) (t : sitting.Ghosts S W) (exact : B
   pub stepped-ended : IsSome old.end → answer ≡ Idle → new ≡ old → behind ≡ before → IsStepped w t exact route now old new answer before behind
   stepped-ended some says same still =
       at-some old.end some (λ end is.
-      subst (λ (e : Option End). StepsFrom w t exact route now e old.in_work old new answer before behind) (sym is) (says, same, still))
+      subst (λ (e : Option End). IsStepFrom w t exact route now e old.in_work old new answer before behind) (sym is) (says, same, still))
 
   -- of one with a request in work
   pub stepped-turned : old.end ≡ None → IsSome old.in_work → IfSome old.in_work (λ v. HasTurned w t exact route now v old new answer before behind)
       → IsStepped w t exact route now old new answer before behind
   stepped-turned goes some turned =
       at-some old.in_work some (λ view works.
-      subst (λ (e : Option End). StepsFrom w t exact route now e old.in_work old new answer before behind) (sym goes)
-      (subst (λ (i : Option (PackageView S)). StepsFrom w t exact route now None i old new answer before behind) (sym works)
+      subst (λ (e : Option End). IsStepFrom w t exact route now e old.in_work old new answer before behind) (sym goes)
+      (subst (λ (i : Option (PackageView S)). IsStepFrom w t exact route now None i old new answer before behind) (sym works)
       (subst (λ (i : Option (PackageView S)). IfSome i (λ v. HasTurned w t exact route now v old new answer before behind)) works turned)))
 
   -- of another
   pub stepped-ahead : old.end ≡ None → old.in_work ≡ None → GoesAhead route old new answer → behind ≡ before
       → IsStepped w t exact route now old new answer before behind
   stepped-ahead goes rests ahead still =
-      subst (λ (e : Option End). StepsFrom w t exact route now e old.in_work old new answer before behind) (sym goes)
-      (subst (λ (i : Option (PackageView S)). StepsFrom w t exact route now None i old new answer before behind) (sym rests) (ahead, still))
+      subst (λ (e : Option End). IsStepFrom w t exact route now e old.in_work old new answer before behind) (sym goes)
+      (subst (λ (i : Option (PackageView S)). IsStepFrom w t exact route now None i old new answer before behind) (sym rests) (ahead, still))
 
 -- what is there, and what is not
 pub is-some : {A : Type 0} (thing : Option A) → is_some thing ≡ true → IsSome thing

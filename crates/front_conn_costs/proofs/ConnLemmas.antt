@@ -45,7 +45,7 @@ use Rattle.front_conn.specs.declared.stepped.Stepped.TheVariants.{Idle, NotYet, 
 use Rattle.front_conn.specs.declared.totals.Total.{Total}
 use Rattle.front_conn.specs.steps.Answering.{AnsweringState, AreMade, IsKeptBehind, IsKeptBehindHead, Outside, TurnsWork, WorksOn, legs_in}
 use Rattle.front_conn.specs.steps.States.{ConnectionState, IsConnOf}
-use Rattle.front_conn.specs.steps.Steps.{EndsByRest, GoesAhead, StepsFrom, TakesHead, TakesUnit, UnlessMemory, answering_of}
+use Rattle.front_conn.specs.steps.Steps.{EndsByRest, GoesAhead, IsStepFrom, TakesHead, TakesUnit, UnlessMemory, answering_of}
 use Rattle.front_conn.specs.steps.Totals.{totals_after, totals_for}
 use Rattle.front_conn_costs.specs.steps.Conns.{AreTotalsOf, HasTotals, counted_on, in_total, marks_of, met_on, outside_counts, outside_meets}
 use Rattle.front_conn_costs.specs.steps.Growth.{RisesAsMuch, RisesEnough}
@@ -471,7 +471,7 @@ module _ {W S : Type 0} (w : world.Ghosts W) (t : sitting.Ghosts S W) (exact : B
       (subst (λ (i : Option (PackageView S)). IfSome i (λ v. AreTotalsOf route old.totals)) is has.in_work)
 
   pub step-counts : (end : Option End) (in_work : Option (PackageView S)) → old.end ≡ end → old.in_work ≡ in_work → IsSound route
-      → HasTotals route old → StepsFrom w t exact route now end in_work old new answer before behind
+      → HasTotals route old → IsStepFrom w t exact route now end in_work old new answer before behind
       → CountsAsMuch exact old new answer before behind
   step-counts (Some end) in_work e f sound has h =
       unless answer (λ n is. calm RisesAsMuch as-nothing (outside_counts n) (counted_on n old) (counted_on n new) before behind
@@ -483,7 +483,7 @@ module _ {W S : Type 0} (w : world.Ghosts W) (t : sitting.Ghosts S W) (exact : B
       turn-counts w t exact route now old new answer before behind view f (package-of view e f) h.turns sound (totals-there view f has)
 
   pub step-meets : (end : Option End) (in_work : Option (PackageView S)) → old.end ≡ end → old.in_work ≡ in_work
-      → StepsFrom w t exact route now end in_work old new answer before behind → MeetsEnough route.pool old new before behind
+      → IsStepFrom w t exact route now end in_work old new answer before behind → MeetsEnough route.pool old new before behind
   step-meets (Some end) in_work e f h k =
       calm RisesEnough enough-nothing (outside_meets k) (met_on route.pool k old) (met_on route.pool k new) before behind
       (ap (met_on route.pool k) h.1) h.2

@@ -31,7 +31,7 @@ use Rattle.front_conn.specs.package.steps.Packages.{IsPackageOf, IsPlanned, Pack
 use Rattle.front_conn.specs.declared.stepped.Stepped.{Stepped}
 use Rattle.front_conn.specs.steps.Answering.{AnsweringState, Outside, WorksOn, legs_in}
 use Rattle.front_conn.specs.steps.States.{ConnectionState}
-use Rattle.front_conn.specs.steps.Steps.{StepsFrom, answering_of}
+use Rattle.front_conn.specs.steps.Steps.{IsStepFrom, answering_of}
 use Rattle.front_conn_costs.specs.steps.Conns.{dues_on}
 use Rattle.front_conn_costs.specs.steps.Ledgers.{Dues, dues_in, dues_of}
 use Rattle.front_conn_costs.proofs.OverLemmas.{IsLeftBy, over-left}
@@ -160,7 +160,7 @@ module _ {W S : Type 0} (w : world.Ghosts W) (t : sitting.Ghosts S W) (exact : B
       none-few (left-none next _ (over-left route next (answering_of old) (answering_of new) answer new.end on).left)
 
   pub step-few : (end : Option End) (in_work : Option (PackageView S)) → end ≡ None → old.in_work ≡ in_work
-      → StepsFrom w t exact route now end in_work old new answer before behind → (dues_on new).unused ≤ most_legs
+      → IsStepFrom w t exact route now end in_work old new answer before behind → (dues_on new).unused ≤ most_legs
   step-few (Some end) in_work e f h = absurd cc
   step-few None None e f h = none-few (ahead-dues route old new f answer h.0)
   step-few None (Some view) e f h = works-few h.turns.turned behind.door.counts.most h.turns.next h.turns.of h.turns.works

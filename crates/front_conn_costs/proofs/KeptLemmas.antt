@@ -20,7 +20,7 @@ use Rattle.front_conn.specs.declared.totals.Total.{Total}
 use Rattle.front_conn.specs.steps.Answering.{AnsweringState, AreMade, IsKeptBehind, IsKeptBehindHead, Outside, WorksOn, totals_of_all}
 use Rattle.front_conn.specs.steps.Feeding.{without_work}
 use Rattle.front_conn.specs.steps.States.{ConnectionState, nothing_yet}
-use Rattle.front_conn.specs.steps.Steps.{EndsByRest, GoesAhead, StepsFrom, TakesHead, TakesUnit, answering_of}
+use Rattle.front_conn.specs.steps.Steps.{EndsByRest, GoesAhead, IsStepFrom, TakesHead, TakesUnit, answering_of}
 use Rattle.front_conn.specs.steps.Totals.{totals_for}
 use Rattle.front_conn_costs.specs.steps.Conns.{AreTotalsOf, HasTotals, RestsIfEnded, counted_on, in_total, marks_of, met_on}
 use Rattle.front_conn_costs.specs.steps.Laws.{IsCostless, IsSummed}
@@ -92,7 +92,7 @@ module _ {S : Type 0} (route : Route) where
 
   pub step-has : {W : Type 0} (w : world.Ghosts W) (t : sitting.Ghosts S W) (exact : Bool) (now : ℕ) (old new : ConnectionState S)
       (answer : Stepped) (before behind : Outside S) (end : Option End) (in_work : Option (PackageView S)) → old.end ≡ end
-      → old.in_work ≡ in_work → HasTotals route old → StepsFrom w t exact route now end in_work old new answer before behind
+      → old.in_work ≡ in_work → HasTotals route old → IsStepFrom w t exact route now end in_work old new answer before behind
       → HasTotals route new
   step-has w t exact now old new answer before behind (Some end) in_work e f has h =
       subst (λ (s : ConnectionState S). HasTotals route s) (sym h.1) has
@@ -144,7 +144,7 @@ module _ {S : Type 0} (route : Route) (old new : ConnectionState S) where
 
   pub step-rests : {W : Type 0} (w : world.Ghosts W) (t : sitting.Ghosts S W) (exact : Bool) (now : ℕ) (answer : Stepped)
       (before behind : Outside S) (end : Option End) (in_work : Option (PackageView S)) → old.end ≡ end → old.in_work ≡ in_work
-      → (answer ≡ Memory → ⊥) → RestsIfEnded old → StepsFrom w t exact route now end in_work old new answer before behind → RestsIfEnded new
+      → (answer ≡ Memory → ⊥) → RestsIfEnded old → IsStepFrom w t exact route now end in_work old new answer before behind → RestsIfEnded new
   step-rests w t exact now answer before behind (Some end) in_work e f has rests h =
       subst (λ (s : ConnectionState S). RestsIfEnded s) (sym h.1) rests
   step-rests w t exact now answer before behind None None e f has rests h = ahead-rests answer f h.0

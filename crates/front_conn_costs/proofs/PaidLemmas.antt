@@ -26,7 +26,7 @@ use Rattle.front_conn.specs.declared.stepped.Stepped.{Stepped}
 use Rattle.front_conn.specs.declared.stepped.Stepped.TheVariants.{Idle, NotYet, Went, Memory}
 use Rattle.front_conn.specs.steps.Answering.{AnsweringState, IsKeptBehind, IsKeptBehindHead, Outside, TurnsWork, WorksOn, legs_in}
 use Rattle.front_conn.specs.steps.States.{ConnectionState, IsConnOf}
-use Rattle.front_conn.specs.steps.Steps.{EndsByRest, GoesAhead, StepsFrom, TakesHead, TakesUnit, answering_of}
+use Rattle.front_conn.specs.steps.Steps.{EndsByRest, GoesAhead, IsStepFrom, TakesHead, TakesUnit, answering_of}
 use Rattle.front_conn_costs.specs.steps.Conns.{AreBelowEnd, PaysFor, dues_on}
 use Rattle.front_conn_costs.specs.steps.Growth.{RisesAsMuch, RisesEnough, last64}
 use Rattle.front_conn_costs.specs.steps.Laws.{RoseSo}
@@ -218,7 +218,7 @@ module _ {W S : Type 0} (w : world.Ghosts W) (t : sitting.Ghosts S W) (exact : B
 module _ {W S : Type 0} (w : world.Ghosts W) (t : sitting.Ghosts S W) (exact : Bool) (route : Route) (now : ℕ)
     (old new : ConnectionState S) (answer : Stepped) (before behind : Outside S) (of : IsConnOf w t route before.door.counts.most old) where
   pub step-pays : (end : Option End) (in_work : Option (PackageView S)) → old.end ≡ end → old.in_work ≡ in_work
-      → StepsFrom w t exact route now end in_work old new answer before behind → PaysFor old new before behind
+      → IsStepFrom w t exact route now end in_work old new answer before behind → PaysFor old new before behind
   step-pays (Some end) in_work e f h = calm-pays old new before behind (ap dues_on h.1) h.2
   step-pays None None e f h =
       calm-pays old new before behind (ahead-dues route old new f answer h.0 ∙ sym (dues-none old f)) h.1

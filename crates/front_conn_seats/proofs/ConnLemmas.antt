@@ -30,7 +30,7 @@ use Rattle.front_conn.specs.declared.stepped.Stepped.TheVariants.{Idle, NotYet, 
 use Rattle.front_conn.specs.steps.Answering.{AnsweringState, EndsAt, IsKeptBehind, IsKeptBehindGet, IsKeptBehindHead, Outside, TurnsWork, WorksOn, legs_in}
 use Rattle.front_conn.specs.steps.Feeding.{without_work}
 use Rattle.front_conn.specs.steps.States.{ConnectionState, IsConnOf}
-use Rattle.front_conn.specs.steps.Steps.{EndsByRest, GoesAhead, StepsFrom, TakesHead, TakesUnit, answering_of}
+use Rattle.front_conn.specs.steps.Steps.{EndsByRest, GoesAhead, IsStepFrom, TakesHead, TakesUnit, answering_of}
 use Rattle.front_conn_seats.specs.steps.Seats.{AreHeld, AreHeldOn, AreOutOf, held_at, held_in, no_seat}
 use Rattle.front_conn_seats.proofs.LegLemmas.{Keeps}
 use Rattle.front_conn_seats.proofs.PackageLemmas.{HoldNone, append-none, beside, first-seat, held-none, new-none, no-legs, none-held, of-as, package-keeps, seats-lost}
@@ -152,7 +152,7 @@ module _ {W S : Type 0} (w : world.Ghosts W) (t : sitting.Ghosts S W) (exact : B
 
   from-held : (end : Option End) (in_work : Option (PackageView S)) (old new : ConnectionState S) (answer : Stepped) (before behind : Outside S)
       (others : Seat → ℕ) → old.end ≡ end → old.in_work ≡ in_work → IsConnOf w t route before.door.counts.most old
-      → StepsFrom w t exact route now end in_work old new answer before behind
+      → IsStepFrom w t exact route now end in_work old new answer before behind
       → AreHeld (legs_in in_work) others before.door.pool → AreHeldOn new others behind.door.pool
   from-held (Some end) in_work old new answer before behind others e f of h held =
       subst (λ (o : Outside S). AreHeldOn new others o.door.pool) (sym h.2)
@@ -168,14 +168,14 @@ module _ {W S : Type 0} (w : world.Ghosts W) (t : sitting.Ghosts S W) (exact : B
       (subst (λ (i : Option (PackageView S)). IfSome i (IsPackageOf w t route before.door.counts.most)) f ((of e).in_work)) h.turns held
 
   pub step-keeps : (old new : ConnectionState S) (answer : Stepped) (before behind : Outside S) (others : Seat → ℕ)
-      → IsConnOf w t route before.door.counts.most old → StepsFrom w t exact route now old.end old.in_work old new answer before behind
+      → IsConnOf w t route before.door.counts.most old → IsStepFrom w t exact route now old.end old.in_work old new answer before behind
       → AreHeldOn old others before.door.pool → AreHeldOn new others behind.door.pool
   step-keeps old new answer before behind others of h held =
       from-held old.end old.in_work old new answer before behind others refl refl of h held
 
   -- what others hold stays out
   pub step-leaves : (old new : ConnectionState S) (answer : Stepped) (before behind : Outside S) (held others : Seat → ℕ)
-      → IsConnOf w t route before.door.counts.most old → StepsFrom w t exact route now old.end old.in_work old new answer before behind
+      → IsConnOf w t route before.door.counts.most old → IsStepFrom w t exact route now old.end old.in_work old new answer before behind
       → AreHeldOn old (λ seat. held seat + others seat) before.door.pool
       → AreOutOf held (λ seat. held_in (legs_in new.in_work) seat + others seat) behind.door.pool
   step-leaves old new answer before behind held others of h are =

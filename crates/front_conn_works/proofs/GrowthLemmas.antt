@@ -23,7 +23,7 @@ use Rattle.front_conn.specs.declared.stepped.Stepped.TheVariants.{Idle, NotYet, 
 use Rattle.front_conn.specs.steps.Answering.{AnsweringState, EndsAt, IsEndAfter, IsKeptBehind, IsKeptBehindGet, IsKeptBehindHead, Outside, WorksOn}
 use Rattle.front_conn.specs.steps.Feeding.{fed_piece}
 use Rattle.front_conn.specs.steps.States.{ConnectionState}
-use Rattle.front_conn.specs.steps.Steps.{EndsByRest, GoesAhead, StepsFrom, TakesHead, TakesUnit, answering_of}
+use Rattle.front_conn.specs.steps.Steps.{EndsByRest, GoesAhead, IsStepFrom, TakesHead, TakesUnit, answering_of}
 use Rattle.front_conn_works.specs.steps.Through.{GoesOn, IsFed, Point}
 
 module _ {S : Type 0} where
@@ -130,7 +130,7 @@ module _ {W S : Type 0} (w : world.Ghosts W) (t : sitting.Ghosts S W) (exact : B
 
   step-grows : (now : ℕ) (old new : ConnectionState S) (answer : Stepped) (before behind : Outside S) (end : Option End)
       (in_work : Option (PackageView S)) → answer ≢ Memory → old.end ≡ end → new.end ≡ None
-      → StepsFrom w t exact route now end in_work old new answer before behind → GoesOnGrown old new []
+      → IsStepFrom w t exact route now end in_work old new answer before behind → GoesOnGrown old new []
   step-grows now old new answer before behind (Some end) in_work had is goes s =
       let wrong : Some end ≡ None = sym is ∙ ap (λ (c : ConnectionState S). c.end) (sym s.1) ∙ goes in absurd cc
   step-grows now old new answer before behind None None had is goes s =

@@ -14,7 +14,7 @@ use Rattle.front_conn.specs.declared.stepped.Stepped.{Stepped}
 use Rattle.front_conn.specs.declared.stepped.Stepped.TheVariants.{Idle, NotYet, Went, Memory}
 use Rattle.front_conn.specs.steps.Answering.{Outside}
 use Rattle.front_conn.specs.steps.States.{ConnectionState, IsStateOf, Rests, StandsOrEnded}
-use Rattle.front_conn.specs.steps.Steps.{EndsAtRest, EndsByRest, GoesAhead, IsStepped, KeepsState, StepsFrom, TakesHead, TakesUnit}
+use Rattle.front_conn.specs.steps.Steps.{EndsAtRest, EndsByRest, GoesAhead, IsStepped, KeepsState, IsStepFrom, TakesHead, TakesUnit}
 use Rattle.front_conn.proofs.EndLemmas.{none-at_0}
 use Rattle.front_conn.proofs.StateLemmas.{rests-of}
 use Rattle.front_conn_works.specs.steps.Begun.{HasBegun, begun_by}
@@ -73,7 +73,7 @@ module _ {W S : Type 0} (w : world.Ghosts W) (t : sitting.Ghosts S W) (exact : _
     (old new : ConnectionState S) (before behind : Outside S) (works : List Work) (other : kind_of fed ≢ kind.letter) where
   step-from : (answer : Stepped) (end : Option End) (in_work : Option (PackageView S)) → answer ≢ Memory → old.end ≡ end
       → old.in_work ≡ in_work → IsStateOf w route fed written old → IsStateOf w route fed written new → HasBegun w route fed old works
-      → StepsFrom w t exact route now end in_work old new answer before behind
+      → IsStepFrom w t exact route now end in_work old new answer before behind
       → HasBegun w route fed new (works ++ begun_by old.in_work new.in_work)
   step-from answer (Some end) in_work had is work state then h s = same-begins w route fed written old new works other s.1 h
   step-from answer None None had is work state then h s =
@@ -101,7 +101,7 @@ step-begins w t exact route now fed written old new Memory before behind works f
 
 lacking-from : {W S : Type 0} (w : world.Ghosts W) (t : sitting.Ghosts S W) (exact : _) (route : Route) (now : ℕ)
     (old new : ConnectionState S) (before behind : Outside S) (end : Option End) (in_work : Option (PackageView S))
-    → old.in_work ≡ in_work → StepsFrom w t exact route now end in_work old new Memory before behind
+    → old.in_work ≡ in_work → IsStepFrom w t exact route now end in_work old new Memory before behind
     → begun_by old.in_work new.in_work ≡ []
 lacking-from w t exact route now old new before behind (Some end) in_work work s = let wrong = s.0 in absurd cc
 lacking-from {S = S} w t exact route now old new before behind None None work s =

@@ -53,7 +53,7 @@ use Rattle.front_conn_costs.specs.front_conn.declared.stepped.Stepped.{Stepped}
 use Rattle.front_conn_costs.specs.front_conn.declared.stepped.Stepped.TheVariants as stepped
 use Rattle.front_conn_costs.specs.front_conn.steps.Answering.{AnsweringState, EndsAt, IsAnsweredBy, IsEndAfter, IsGetEnded, IsHeadTaken, IsKeptBehind, IsKeptBehindGet, IsUnitBegun, Outside, WorksOn, get_served, served}
 use Rattle.front_conn_costs.specs.front_conn.steps.States.{ConnectionState, IsConnOf, IsOneWork, IsWaitedAt, IsWaitedFor}
-use Rattle.front_conn_costs.specs.front_conn.steps.Steps.{EndsAtRest, EndsByRest, GoesAhead, IsStepped, StepsFrom, TakesHead, TakesUnit, answering_of}
+use Rattle.front_conn_costs.specs.front_conn.steps.Steps.{EndsAtRest, EndsByRest, GoesAhead, IsStepped, IsStepFrom, TakesHead, TakesUnit, answering_of}
 use Rattle.replay.specs.Places.{leg_count, most_at_once}
 use Rattle.replay.proofs.AskedLemmas.{AsksFew, IsFewKnown, IsOfFew, asked-few, named-few, stored-few}
 use Rattle.replay.proofs.LegCounts.{database-few}
@@ -288,7 +288,7 @@ module _ {W S : Type 0} (w : world.Ghosts W) (t : sitting.Ghosts S W) (exact : B
   ahead-few stepped.Memory old new e h few = let wrong = h.ended in absurd cc
 
   from-few : (end : Option End) (in_work : Option (PackageView S)) (old new : ConnectionState S) (answer : Stepped) (before behind : Outside S)
-      → old.end ≡ end → StepsFrom w t exact route now end in_work old new answer before behind → IsFewConn route old → IsFewConn route new
+      → old.end ≡ end → IsStepFrom w t exact route now end in_work old new answer before behind → IsFewConn route old → IsFewConn route new
   from-few (Some end) in_work old new answer before behind e h few = subst (λ (c : ConnectionState S). IsFewConn route c) (sym h.1) few
   from-few None None old new answer before behind e h few = λ goes. ahead-few answer old new goes h.0 (few e)
   from-few None (Some view) old new answer before behind e h few = λ goes.

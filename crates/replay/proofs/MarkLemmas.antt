@@ -28,7 +28,7 @@ use Rattle.package_quiet.specs.package.steps.Packages.{IsPackageOf, PackageView,
 use Rattle.front_conn_costs.specs.front_conn.declared.stepped.Stepped.{Stepped}
 use Rattle.front_conn_costs.specs.front_conn.steps.Answering.{Outside}
 use Rattle.front_conn_costs.specs.front_conn.steps.States.{ConnectionState}
-use Rattle.front_conn_costs.specs.front_conn.steps.Steps.{StepsFrom, answering_of}
+use Rattle.front_conn_costs.specs.front_conn.steps.Steps.{IsStepFrom, answering_of}
 use Rattle.script.specs.declared.event.Event.{Event}
 use Rattle.replay.specs.Marks.{AreMarksOf, IsMarkOf}
 use Rattle.replay.specs.Trace.{IsRunOf}
@@ -101,7 +101,7 @@ module _ {W S : Type 0} (w : world.Ghosts W) (t : sitting.Ghosts S W) (exact : B
 
   from-fits : (now : ℕ) (end : Option End) (in_work : Option (PackageView S)) (old new : ConnectionState S) (answer : Stepped)
       (before behind : Outside S) → most_of behind ≡ most → AreFit Fits old.marks
-      → StepsFrom w t exact route now end in_work old new answer before behind → AreFit Fits new.marks
+      → IsStepFrom w t exact route now end in_work old new answer before behind → AreFit Fits new.marks
   from-fits now (Some end) in_work old new answer before behind m f h = subst (λ (c : ConnectionState S). AreFit Fits c.marks) (sym h.1) f
   from-fits now None None old new answer before behind m f h = ahead-fits Fits tt route old new answer h.0 f
   from-fits now None (Some view) old new answer before behind m f h =

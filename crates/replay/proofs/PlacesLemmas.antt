@@ -35,7 +35,7 @@ use Rattle.std.proofs.lemmas.List.{length-map}
 use Rattle.front_conn_costs.specs.front_conn.declared.stepped.Stepped.{Stepped}
 use Rattle.front_conn_costs.specs.front_conn.steps.Answering.{Outside, legs_in}
 use Rattle.front_conn_costs.specs.front_conn.steps.States.{ConnectionState, IsConnOf}
-use Rattle.front_conn_costs.specs.front_conn.steps.Steps.{IsStepped, StepsFrom}
+use Rattle.front_conn_costs.specs.front_conn.steps.Steps.{IsStepped, IsStepFrom}
 use Rattle.z_types.specs.declared.marks.End.{End}
 use Rattle.front_conn_seats.specs.steps.Seats.{AreHeldOn}
 use Rattle.std.specs.Prelude.{IfSome}
@@ -343,7 +343,7 @@ module _ {W S : Type 0} (w : world.Ghosts W) (t : sitting.Ghosts S W) (exact : B
 
   from-room : (end : Option End) (in_work : Option (PackageView S)) (old new : ConnectionState S) (answer : Stepped) (before behind : Outside S)
       (others : Seat → ℕ) (n limit : ℕ) → old.end ≡ end → old.in_work ≡ in_work → IsConnOf w t route before.door.counts.most old
-      → StepsFrom w t exact route now end in_work old new answer before behind → AreHeld (legs_in in_work) others before.door.pool
+      → IsStepFrom w t exact route now end in_work old new answer before behind → AreHeld (legs_in in_work) others before.door.pool
       → IsToldFull before.door.pool before.door.counts → AtMost others n → IsUpTo limit old → n + limit ≤ before.door.counts.most
       → FoundRoom before.door behind.door
   from-room (Some end) in_work old new answer before behind others n limit e f of h held told most few less =

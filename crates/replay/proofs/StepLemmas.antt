@@ -11,7 +11,7 @@ use Rattle.front_conn_costs.specs.front_conn.declared.stepped.Stepped.TheVariant
 use Rattle.front_conn_costs.specs.front_conn.steps.Answering.{AnsweringState, IsEndAfter, Outside, WorksOn}
 use Rattle.front_conn_costs.specs.front_conn.steps.Feeding.{fed_piece, without_out}
 use Rattle.front_conn_costs.specs.front_conn.steps.States.{ConnectionState, IsConnOf, IsStateOf, nothing_yet}
-use Rattle.front_conn_costs.specs.front_conn.steps.Steps.{StepsFrom, UnlessMemory}
+use Rattle.front_conn_costs.specs.front_conn.steps.Steps.{IsStepFrom, UnlessMemory}
 use Rattle.package_quiet.specs.leg.declared.answers.Turned.{Turned}
 use Rattle.package_quiet.specs.leg.declared.answers.Turned.TheVariants as turned
 use Rattle.package_quiet.specs.package.steps.Packages.{PackageView}
@@ -32,7 +32,7 @@ unless Memory f = tt
 module _ {W S : Type 0} (w : world.Ghosts W) (t : sitting.Ghosts S W) (exact : Bool) (route : Route) (now : ℕ) where
   -- a step neither ends an input nor opens it, unless it is without memory
   pub input_kept : (end : Option End) (in_work : Option (PackageView S)) (old new : ConnectionState S) (answer : Stepped) (before behind : Outside S)
-      → StepsFrom w t exact route now end in_work old new answer before behind → UnlessMemory answer (new.has_ended ≡ old.has_ended)
+      → IsStepFrom w t exact route now end in_work old new answer before behind → UnlessMemory answer (new.has_ended ≡ old.has_ended)
   input_kept (Some end) in_work old new answer before behind h = unless answer (ap (λ (c : ConnectionState S). c.has_ended) h.1)
   input_kept None (Some view) old new answer before behind h = unless answer h.input.has_ended
   input_kept None None old new Idle before behind h = ap (λ (c : ConnectionState S). c.has_ended) h.0.1
@@ -54,7 +54,7 @@ module _ {W S : Type 0} (w : world.Ghosts W) (t : sitting.Ghosts S W) (exact : B
 
   -- where the input has ended, an idle connection has
   pub closed_if_idle : (end : Option End) (in_work : Option (PackageView S)) (old new : ConnectionState S) (before behind : Outside S) → end ≡ old.end
-      → StepsFrom w t exact route now end in_work old new Idle before behind → new.has_ended ≡ true → IsSome new.end
+      → IsStepFrom w t exact route now end in_work old new Idle before behind → new.has_ended ≡ true → IsSome new.end
   closed_if_idle (Some end) in_work old new before behind e h whole =
       subst (λ (o : Option End). IsSome o) (e ∙ ap (λ (c : ConnectionState S). c.end) (sym h.1)) refl
   closed_if_idle None (Some view) old new before behind e h whole =
@@ -101,7 +101,7 @@ module _ {W S : Type 0} (w : world.Ghosts W) (t : sitting.Ghosts S W) (exact : B
       ∙ steps_input (record { client = old; outside = before }) h.earlier h.last h.steps
 
   idle_closes : (old new : ClientState S) (mid : ConnectionState S) (answer : Stepped) (before behind : Outside S) → true ≡ is_idle answer
-      → StepsFrom w t exact route now old.conn.end old.conn.in_work old.conn mid answer before behind → new.conn ≡ without_out mid
+      → IsStepFrom w t exact route now old.conn.end old.conn.in_work old.conn mid answer before behind → new.conn ≡ without_out mid
       → new.conn.has_ended ≡ true → IsSome new.conn.end
   idle_closes old new mid Idle before behind i h e whole =
       subst (λ (o : Option End). IsSome o) (ap (λ (c : ConnectionState S). c.end) (sym e))

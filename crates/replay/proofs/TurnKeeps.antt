@@ -27,7 +27,7 @@ use Rattle.front_conn_costs.specs.front_conn.declared.stepped.Stepped.{Stepped}
 use Rattle.front_conn_costs.specs.front_conn.declared.stepped.Stepped.TheVariants.{Idle, NotYet, Went, Memory}
 use Rattle.front_conn_costs.specs.front_conn.steps.Answering.{AnsweringState, EndsAt, IsGetEndedIf, IsKeptBehind, IsKeptBehindGet, IsKeptBehindHead, Outside, WorksOn}
 use Rattle.front_conn_costs.specs.front_conn.steps.States.{ConnectionState}
-use Rattle.front_conn_costs.specs.front_conn.steps.Steps.{EndsByRest, GoesAhead, IsStepped, StepsFrom, TakesHead, TakesUnit, answering_of}
+use Rattle.front_conn_costs.specs.front_conn.steps.Steps.{EndsByRest, GoesAhead, IsStepped, IsStepFrom, TakesHead, TakesUnit, answering_of}
 
 module _ {S : Type 0} (P : LegView S → Type 0) where
   -- this holds of each leg of a request
@@ -192,7 +192,7 @@ module _ {W S : Type 0} (w : world.Ghosts W) (t : sitting.Ghosts S W) (exact : B
     → AreKept P new × R door after backend moved) where
   from-keeps : (now : ℕ) (end : Option End) (in_work : Option (PackageView S)) (old new : ConnectionState S) (answer : Stepped)
       (before behind : Outside S) → answer ≢ Memory → old.in_work ≡ in_work → LegsKept P old.in_work
-      → J before.door before.backend → StepsFrom w t exact route now end in_work old new answer before behind
+      → J before.door before.backend → IsStepFrom w t exact route now end in_work old new answer before behind
       → LegsKept P new.in_work × R before.door behind.door before.backend behind.backend
   from-keeps now (Some end) in_work old new answer before behind had e kept j h = (
     subst (λ (c : ConnectionState S). LegsKept P c.in_work) (sym h.1) kept,

@@ -21,7 +21,7 @@ use Rattle.replay.specs.front_conn.declared.stepped.Stepped.TheVariants.{Memory}
 use Rattle.replay.specs.front_conn.steps.Answering.{Outside}
 use Rattle.replay.specs.front_conn.steps.Feeding.{fed_piece}
 use Rattle.replay.specs.front_conn.steps.States.{ConnectionState}
-use Rattle.replay.specs.front_conn.steps.Steps.{StepsFrom, answering_of}
+use Rattle.replay.specs.front_conn.steps.Steps.{IsStepFrom, answering_of}
 use Rattle.script.specs.declared.event.Event.{Event}
 use Rattle.script.specs.declared.event.Event.TheVariants.{Feed, End, Step, Run, Tick, Gone, Cut, Slow}
 use Rattle.script.specs.Events.{client_of, named, seconds_of}
@@ -260,7 +260,7 @@ module _ {W S : Type 0} (w : world.Ghosts W) (t : sitting.Ghosts S W) (exact : B
 
   from-bears : (now : ℕ) (end : Option Ending) (in_work : Option (PackageView S)) (old new : ConnectionState S) (answer : Stepped)
       (before behind : Outside S) → answer ≢ Memory → old.in_work ≡ in_work → DialsGoOn behind.backend.counts
-      → Bears before.backend.happened old → Sound before → StepsFrom w t exact route now end in_work old new answer before behind
+      → Bears before.backend.happened old → Sound before → IsStepFrom w t exact route now end in_work old new answer before behind
       → Goes_ new before behind
   from-bears now (Some end) in_work old new answer before behind had e count bears sound h =
       unmoved new before behind h.2 (subst (λ (c : ConnectionState S). Bears before.backend.happened c) (sym h.1) bears) sound

@@ -10,7 +10,7 @@ use Rattle.replay.specs.package.steps.Packages.{PackageView}
 use Rattle.replay.specs.front_conn.declared.stepped.Stepped.{Stepped}
 use Rattle.replay.specs.front_conn.steps.Answering.{Outside}
 use Rattle.replay.specs.front_conn.steps.States.{ConnectionState}
-use Rattle.replay.specs.front_conn.steps.Steps.{StepsFrom}
+use Rattle.replay.specs.front_conn.steps.Steps.{IsStepFrom}
 use Rattle.script.specs.declared.event.Event.{Event}
 use Rattle.script.specs.declared.event.Event.TheVariants.{Feed, End, Step, Run, Tick, Gone, Cut, Slow}
 use Rattle.script.specs.Events.{client_of, seconds_of}
@@ -54,7 +54,7 @@ befallen-dial exact route (Slow target looks) old new h = if-dial exact (Slow ta
 
 module _ {W S : Type 0} (w : world.Ghosts W) (t : sitting.Ghosts S W) (exact : Bool) (route : Route) (law : PackagesDialOn w t) where
   from-dial : (now : ℕ) (end : Option Ending) (in_work : Option (PackageView S)) (old new : ConnectionState S) (answer : Stepped)
-      (before behind : Outside S) → StepsFrom w t exact route now end in_work old new answer before behind → DialOn before.backend behind.backend
+      (before behind : Outside S) → IsStepFrom w t exact route now end in_work old new answer before behind → DialOn before.backend behind.backend
   from-dial now (Some end) in_work old new answer before behind h = same-dial before.backend behind.backend (ap (λ (o : Outside S). o.backend) h.2)
   from-dial now None None old new answer before behind h = same-dial before.backend behind.backend (ap (λ (o : Outside S). o.backend) h.1)
   from-dial now None (Some view) old new answer before behind h =

@@ -19,7 +19,7 @@ use Rattle.replay.specs.front_conn.declared.stepped.Stepped.TheVariants.{Idle, N
 use Rattle.replay.specs.front_conn.steps.Answering.{AnsweringState, EndsAt, IsEndAfter, IsGetEndedIf, IsKeptBehind, IsKeptBehindGet, IsKeptBehindHead, Outside, WorksOn}
 use Rattle.replay.specs.front_conn.steps.Feeding.{fed_piece, with_piece}
 use Rattle.replay.specs.front_conn.steps.States.{ConnectionState}
-use Rattle.replay.specs.front_conn.steps.Steps.{EndsByRest, GoesAhead, IsStepped, StepsFrom, TakesHead, TakesUnit, answering_of}
+use Rattle.replay.specs.front_conn.steps.Steps.{EndsByRest, GoesAhead, IsStepped, IsStepFrom, TakesHead, TakesUnit, answering_of}
 use Rattle.replay.specs.front_conn_costs.steps.Conns.{RestsIfEnded}
 use Rattle.replay.specs.Clients.{is_idle}
 
@@ -99,7 +99,7 @@ module _ {S : Type 0} (route : Route) where
 module _ {W S : Type 0} (w : world.Ghosts W) (t : sitting.Ghosts S W) (exact : Bool) (route : Route) (now : ℕ)
     (old new : ConnectionState S) (before behind : Outside S) where
   from-rests : (end : Option End) (in_work : Option (PackageView S)) (answer : Stepped) → old.in_work ≡ in_work → (answer ≡ Memory → ⊥)
-      → RestsIfEnded old → StepsFrom w t exact route now end in_work old new answer before behind → RestsIfEnded new
+      → RestsIfEnded old → IsStepFrom w t exact route now end in_work old new answer before behind → RestsIfEnded new
   from-rests (Some end) in_work answer e has rests h = subst (λ (c : ConnectionState S). RestsIfEnded c) (sym h.1) rests
   from-rests None None answer e has rests h = ahead-rests route old new answer e h.0
   from-rests None (Some view) answer e has rests h = works-rests route old new h.turns.turned h.turns.next answer has h.turns.works
@@ -110,7 +110,7 @@ module _ {W S : Type 0} (w : world.Ghosts W) (t : sitting.Ghosts S W) (exact : B
   step-rests answer has rests h = from-rests old.end old.in_work answer refl has rests h
 
   idle-from : (end : Option End) (in_work : Option (PackageView S)) → old.end ≡ end → old.in_work ≡ in_work → RestsIfEnded old
-      → StepsFrom w t exact route now end in_work old new Idle before behind → new.in_work ≡ None
+      → IsStepFrom w t exact route now end in_work old new Idle before behind → new.in_work ≡ None
   idle-from (Some end) in_work e f rests h =
       ap (λ (c : ConnectionState S). c.in_work) h.1 ∙ rests (subst (λ (o : Option End). IsSome o) (sym e) refl)
   idle-from None None e f rests h = ap (λ (c : ConnectionState S). c.in_work) h.0.1 ∙ f

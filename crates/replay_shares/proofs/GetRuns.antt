@@ -16,7 +16,7 @@ use Rattle.replay.specs.front_conn.declared.totals.Total.{Total}
 use Rattle.replay.specs.front_conn.steps.Answering.{Outside}
 use Rattle.replay.specs.front_conn.steps.Feeding.{without_out}
 use Rattle.replay.specs.front_conn.steps.States.{ConnectionState, IsConnOf, IsStateOf, MayCome}
-use Rattle.replay.specs.front_conn.steps.Steps.{GoesAhead, IsStepped, StepsFrom}
+use Rattle.replay.specs.front_conn.steps.Steps.{GoesAhead, IsStepped, IsStepFrom}
 use Rattle.sharing_rules.specs.Uses.{DatedWork, Use}
 use Rattle.sharing_rules.specs.steps.Shared.{AreInOrder}
 use Rattle.replay.specs.Clients.{ClientState, is_idle}
@@ -40,7 +40,7 @@ module _ {W S : Type 0} (w : world.Ghosts W) (t : sitting.Ghosts S W) (exact : B
   ahead-input Memory k = k.has_ended
 
   from-input : (answer : Stepped) (end : Option End) (in_work : Option (PackageView S))
-      → StepsFrom w t exact route now end in_work old new answer here after → new.has_ended ≡ old.has_ended
+      → IsStepFrom w t exact route now end in_work old new answer here after → new.has_ended ≡ old.has_ended
   from-input answer (Some end) in_work s = ap (λ (c : ConnectionState S). c.has_ended) s.1
   from-input answer None None s = ahead-input answer s.0
   from-input answer None (Some view) s = s.input.has_ended

@@ -50,7 +50,7 @@ use Rattle.replay.specs.front_conn.declared.stepped.Stepped.TheVariants.{Idle, M
 use Rattle.replay.specs.front_conn.declared.totals.Total.{Total}
 use Rattle.replay.specs.front_conn.steps.Answering.{AnsweringState, EndsAt, IsGetEnded, IsKeptBehind, IsKeptBehindGet, IsKeptBehindHead, Outside, get_served, served}
 use Rattle.replay.specs.front_conn.steps.States.{BeginsWithUnits, ConnectionState, HasAnswered, IsConnOf, IsStateOf, MayCome, Rests, StandsOrEnded, WorksAt}
-use Rattle.replay.specs.front_conn.steps.Steps.{AreUnfinished, EndsAtRest, EndsByRest, GoesAhead, IsStepped, StepsFrom, TakesHead, TakesUnit, answering_of}
+use Rattle.replay.specs.front_conn.steps.Steps.{AreUnfinished, EndsAtRest, EndsByRest, GoesAhead, IsStepped, IsStepFrom, TakesHead, TakesUnit, answering_of}
 use Rattle.replay.specs.front_conn.steps.Totals.{no_total, totals_for}
 use Rattle.sharing_rules.specs.Uses.{Use}
 use Rattle.sharing_rules.specs.steps.Shared.{AreInOrder}
@@ -499,10 +499,10 @@ module _ {W S : Type 0} (w : world.Ghosts W) (t : sitting.Ghosts S W) (exact : B
     -- ---- any step
 
     stepped-from : (end : Option End) (in_work : Option (PackageView S)) → old.end ≡ end → old.in_work ≡ in_work
-        → IsStepped w t exact route now old new answer here after → StepsFrom w t exact route now end in_work old new answer here after
+        → IsStepped w t exact route now old new answer here after → IsStepFrom w t exact route now end in_work old new answer here after
     stepped-from end in_work ended working s =
-        subst (λ (i : Option (PackageView S)). StepsFrom w t exact route now end i old new answer here after) working
-        (subst (λ (e : Option End). StepsFrom w t exact route now e old.in_work old new answer here after) ended s)
+        subst (λ (i : Option (PackageView S)). IsStepFrom w t exact route now end i old new answer here after) working
+        (subst (λ (e : Option End). IsStepFrom w t exact route now e old.in_work old new answer here after) ended s)
 
     pub step-goes : IsStepped w t exact route now old new answer here after → GetStands old here → GetGoes answer new after
     step-goes s (inl h) =

@@ -29,7 +29,7 @@ use Rattle.replay.specs.front_conn.declared.stepped.Stepped.TheVariants.{Idle, N
 use Rattle.replay.specs.front_conn.declared.totals.Total.{Total}
 use Rattle.replay.specs.front_conn.steps.Answering.{AnsweringState, IsEndAfter, Outside, WorksOn}
 use Rattle.replay.specs.front_conn.steps.States.{ConnectionState, IsConnOf, IsStateOf, MayCome, Rests, StandsOrEnded}
-use Rattle.replay.specs.front_conn.steps.Steps.{AreUnfinished, BeginsWithLetter, GoesAhead, NothingWaits, StepsFrom, answering_of}
+use Rattle.replay.specs.front_conn.steps.Steps.{AreUnfinished, BeginsWithLetter, GoesAhead, NothingWaits, IsStepFrom, answering_of}
 use Rattle.sharing_rules.specs.Needed.{count_after}
 use Rattle.sharing_rules.specs.Uses.{Use, uses_of}
 use Rattle.sharing_rules.specs.steps.Shared.{AreInOrder}
@@ -166,7 +166,7 @@ module _ {W S : Type 0} (w : world.Ghosts W) (t : sitting.Ghosts S W) (exact : B
     idle-ahead Memory is goes rests ahead still = absurd cc
 
     idle-from : (answer : Stepped) (end : Option End) (in_work : Option (PackageView S)) → answer ≡ Idle → old.end ≡ end
-        → old.in_work ≡ in_work → StepsFrom w t exact route now end in_work old new answer outside after → EndsSo works old new outside after
+        → old.in_work ≡ in_work → IsStepFrom w t exact route now end in_work old new answer outside after → EndsSo works old new outside after
     idle-from answer (Some end) None is e on s = record {
       same = s.1;
       still = s.2;

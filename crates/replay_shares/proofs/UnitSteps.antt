@@ -34,7 +34,7 @@ use Rattle.replay.specs.front_conn.declared.totals.Total.{Total}
 use Rattle.replay.specs.front_conn.steps.Answering.{AnsweringState, EndsAt, IsKeptBehind, IsRequestEndedIf, Outside, served}
 use Rattle.replay.specs.front_conn.steps.Feeding.{without_out}
 use Rattle.replay.specs.front_conn.steps.States.{ConnectionState, IsConnOf, IsStateOf, Rests, StandsOrEnded, WorksAt}
-use Rattle.replay.specs.front_conn.steps.Steps.{AreUnfinished, EndsByRest, GoesAhead, HasTurned, IsStepped, KeepsState, StepsFrom, TakesHead, TakesUnit, UnlessMemory, answering_of}
+use Rattle.replay.specs.front_conn.steps.Steps.{AreUnfinished, EndsByRest, GoesAhead, HasTurned, IsStepped, KeepsState, IsStepFrom, TakesHead, TakesUnit, UnlessMemory, answering_of}
 use Rattle.replay.specs.front_conn.steps.Totals.{totals_for}
 use Rattle.sharing_rules.specs.Uses.{DatedWork, Use}
 use Rattle.sharing_rules.specs.steps.Shared.{AreInOrder}
@@ -301,7 +301,7 @@ module _ {W S : Type 0} (w : world.Ghosts W) (t : sitting.Ghosts S W) (exact : B
 
       step-from : (answer : Stepped) (end : Option End) (in_work : Option (PackageView S)) (after : Outside S) → old.end ≡ end
           → old.in_work ≡ in_work → answer ≢ Idle → answer ≢ Memory → GoesSo works written old outside
-          → StepsFrom w t exact route now end in_work old new answer outside after → IsConnOf w t route most new
+          → IsStepFrom w t exact route now end in_work old new answer outside after → IsConnOf w t route most new
           → HasBegun w route octets new ((asked ++ works) ++ begun_by old.in_work new.in_work) → StepsSo after
       step-from answer (Some end) in_work after e on wakes had h s of has = absurd (wakes s.0)
       step-from answer None None after e on wakes had h s of has =

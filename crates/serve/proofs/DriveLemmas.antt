@@ -18,7 +18,7 @@ use Rattle.conn_served.specs.front_conn.steps.Answering.{AnsweringState, Outside
 use Rattle.conn_served.specs.front_conn.steps.Drives as drives
 use Rattle.conn_served.specs.front_conn.steps.Drives.{ConnAt, HasDriven, IsInWork, StepsTo, given_up_at}
 use Rattle.conn_served.specs.front_conn.steps.States.{ConnectionState}
-use Rattle.conn_served.specs.front_conn.steps.Steps.{StepsFrom, answering_of}
+use Rattle.conn_served.specs.front_conn.steps.Steps.{IsStepFrom, answering_of}
 use Rattle.conn_served.specs.front_conn_costs.steps.Conns.{dues_on}
 use Rattle.conn_served.specs.front_conn_costs.steps.Laws.{CostsNothing, PaysOn, StepsMeet, StepsOweFew, StepsPay}
 use Rattle.conn_served.specs.Runs.{GoesOnTo}
@@ -56,7 +56,7 @@ module _ {S : Type 0} where
 module _ {W S : Type 0} (w : world.Ghosts W) (t : sitting.Ghosts S W) (exact : Bool) (route : Route) where
   lists-by : (now : ℕ) (old new : ConnectionState S) (answer : Stepped) (before behind : Outside S) (end : Option End)
       (works : Option (PackageView S)) → end ≡ None → IsSome works → IsSome new.in_work
-      → StepsFrom w t exact route now end works old new answer before behind → ListsNone old new
+      → IsStepFrom w t exact route now end works old new answer before behind → ListsNone old new
   lists-by now old new answer before behind (Some end) works goes some more h = absurd cc
   lists-by now old new answer before behind None None goes some more h = let wrong : false ≡ true = some in absurd cc
   lists-by now old new answer before behind None (Some view) goes some more h = record {

@@ -131,19 +131,19 @@ module _ {W S : Type 0} (w : world.Ghosts W) (t : sitting.Ghosts S W) (exact : B
 
   -- a connection that has ended does nothing more; one with a request in work turns its package,
   -- and takes nothing; another goes ahead, and calls nothing
-  abbrev pub StepsFrom : Option End → Option (PackageView S)
+  abbrev pub IsStepFrom : Option End → Option (PackageView S)
       → (old new : ConnectionState S) → Stepped → (before behind : Outside S) → Type 0
-  StepsFrom (Some end) in_work old new answer before behind =
+  IsStepFrom (Some end) in_work old new answer before behind =
       (answer ≡ Idle) × (new ≡ old) × (behind ≡ before)
-  StepsFrom None None old new answer before behind =
+  IsStepFrom None None old new answer before behind =
       GoesAhead route old new answer × (behind ≡ before)
-  StepsFrom None (Some view) old new answer before behind =
+  IsStepFrom None (Some view) old new answer before behind =
       HasTurned view old new answer before behind
 
   abbrev pub IsStepped : (old new : ConnectionState S) → Stepped
       → (before behind : Outside S) → Type 0
   IsStepped old new answer before behind =
-      StepsFrom old.end old.in_work old new answer before behind
+      IsStepFrom old.end old.in_work old new answer before behind
 
 -- on a fair route, whatever was fed and written before, the connection stands in the session as
 -- before, or has ended
