@@ -1,5 +1,7 @@
 //! A source that hears of what the sink took: each reply is written whole before the next read.
 
+ghost use Rattle.std.specs.Prelude.{◌≡◌, drop, length, min};
+
 use crate::connections::{are_plain, route_of, text_of};
 use crate::octets::{INIT, PRESENT, SEARCH};
 use gw_memory::{FakeBackend, FakeSession, MemoryClock};
@@ -30,6 +32,16 @@ struct OrderedSource<'a> {
     faults: u64,
 }
 
+/// Puts octets at the front of a buffer, as many as fit, and tells how many.
+fn fill(into: &mut [u8], octets: &[u8]) -> usize
+    ensures count { result ≡ min (length octets.now) (length into.old) }
+    ensures behind { drop result into.new ≡ drop result into.old }
+{
+    let count = octets.len().min(into.len());
+    into[..count].copy_from_slice(&octets[..count]);
+    count
+}
+
 impl Source for OrderedSource<'_> {
     ghost use Rattle.std.specs.Prelude.{None};
 
@@ -48,11 +60,10 @@ impl Source for OrderedSource<'_> {
             return Got::End;
         };
         let octets = self.sent.get(self.given..end).unwrap_or(&[]);
-        let count = octets.len().min(into.len());
-        if count == 0 {
+        if octets.len() == 0 {
             return Got::End;
         }
-        into[..count].copy_from_slice(&octets[..count]);
+        let count = fill(into, octets);
         self.made = self.made.saturating_add(1);
         self.given = end;
         self.due = due;
