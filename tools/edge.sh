@@ -108,7 +108,7 @@ stop
 # Refusals: the words, what is printed, what the standard error says.
 refuses() {
     "$gateway" $2 >out 2>log
-    prints "$3" && logs "$4" && ! logs listening
+    prints "$3" && { [ -z "$4" ] || logs "$4"; } && ! logs listening
     row "$1" $?
 }
 printf '[[target]]\nname = "demo"\naddress: "test:0"\n' >toml

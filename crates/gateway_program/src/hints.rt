@@ -135,7 +135,7 @@ fn tell_schemas<R: Eprint>(runtime: &R, route: &Route) {
 /// Whether the uri of a schema has what may not stand in XML as it is.
 fn breaks_xml(schema: &Schema) -> bool {
     for octet in schema.uri.as_slice() {
-        if matches!(octet, b'<' | b'&') || octet.is_ascii_control() {
+        if matches!(*octet, b'<' | b'&') || octet.is_ascii_control() {
             return true;
         }
     }

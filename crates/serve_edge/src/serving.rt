@@ -15,7 +15,7 @@ use serve_top::serve::Worker;
 use serve_top::{ServeWords, asked_of, top_serve};
 use std::alloc::Global;
 use std::net::{IpAddr, Net, TcpListener, TcpStream};
-use std::sync::Wait;
+use std::sync::{Mutex, Wait};
 use std::thread::Threads;
 use std::{rt, thread, time};
 use tcp_edge::{SystemFiles, Totals};
@@ -52,7 +52,7 @@ pub fn serve<
         Some(asked) => {
             let route = route_of(alloc, words, files);
             let listener = open(runtime, log, address, asked, route, &mut totals);
-            (listener, asked.workers)
+            (listener.map(Mutex::new), asked.workers)
         }
         None => (None, 0),
     };

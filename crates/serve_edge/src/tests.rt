@@ -12,7 +12,7 @@ use serve_top::serve::Worker;
 use std::alloc::Global;
 use std::io::{Read, Result, Write};
 use std::net::{Net, SocketAddr, TcpListener, TcpStream};
-use std::sync::Wait;
+use std::sync::{Mutex, Wait};
 use std::test::Fail;
 use std::thread::Threads;
 use std::{thread, time};
@@ -53,7 +53,7 @@ struct Few<'a, R: time::Clock, L: Log> {
     left: u32,
 }
 
-impl<'a, R: time::Clock, L: Log> Accept for Few<'a, R, L> {
+impl<'a, R: time::Clock + Wait, L: Log> Accept for Few<'a, R, L> {
     ghost use Rattle.std.specs.Prelude.{None};
 
     type In = SocketSource;
@@ -100,7 +100,10 @@ fn texts(alloc: Global, line: &[&str]) -> std::result::Result<Vec<Text>, Memory>
 type EdgeFew<'a, R, L> = Worker<ZBackend<EdgeWire<'a, R, L>>, Few<'a, R, L>, SystemClock<'a, R>>;
 
 /// A worker that accepts so many connections.
-fn ending<'a, R: Net + time::Clock, L: Log>(edge: Edge<'a, R, L>, left: u32) -> EdgeFew<'a, R, L> {
+fn ending<'a, R: Net + time::Clock + Wait, L: Log>(
+    edge: Edge<'a, R, L>,
+    left: u32,
+) -> EdgeFew<'a, R, L> {
     let Worker {
         backend,
         accept,
@@ -129,21 +132,20 @@ fn files(alloc: Global) -> std::result::Result<MemoryFiles, Memory> {
 }
 
 /// Serves two clients of a listener, one after another, and tells whether it says so.
-fn serves<T: Threads + Wait + Sync>(
-    threads: &T,
-    runtime: &HostRuntime,
+fn serves<T: Net<Stream = TcpStream> + time::Clock + Threads + Wait + Sync>(
+    runtime: &T,
     alloc: Global,
-    listener: &TcpListener,
+    listener: &Mutex<TcpListener>,
+    totals: &Totals,
 ) -> std::result::Result<bool, Memory> {
-    let totals = Totals::new(alloc);
     let mut workers = Vec::new(alloc);
-    let edge = worker(runtime, alloc, &Discard, Some(listener), &totals);
+    let edge = worker(runtime, alloc, &Discard, Some(listener), totals);
     workers.push(ending(edge, 2))?;
     let words = texts(alloc, &["serve", "c", "2100", "1"])?;
     let mut files = files(alloc)?;
     let mut out = MemorySink::new(alloc, List::new(alloc));
     let status = serve_over(
-        threads,
+        runtime,
         alloc,
         words.as_slice(),
         &mut files,
@@ -185,10 +187,12 @@ fn clients_of_both_kinds_are_answered_at_one_port(
 ) -> std::result::Result<(), Fail> {
     let listener = TcpListener::bind(&rt, "127.0.0.1:0")?;
     let address = listener.local_addr()?;
+    let listener = Mutex::new(listener);
+    let totals = Totals::new(rt.alloc());
     let (answered, served) = thread::join(
         &rt,
         || are_answered(&rt, rt.alloc(), address),
-        || serves(&rt, &rt, rt.alloc(), &listener),
+        || serves(&rt, rt.alloc(), &listener, &totals),
     );
     assert!(rt; served? && answered?);
     Ok(())

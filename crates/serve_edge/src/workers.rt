@@ -4,6 +4,7 @@ use log::Log;
 use serve_top::serve::Worker;
 use std::alloc::Global;
 use std::net::{Net, TcpListener, TcpStream};
+use std::sync::{Mutex, Wait};
 use std::time;
 use tcp_edge::{EdgeWire, SocketAccept, SystemClock, Totals};
 use z_client::ZBackend;
@@ -18,11 +19,11 @@ pub(crate) type Edge<'a, R, L> = Worker<
 >;
 
 /// A worker that accepts what a listener gives; without one its first accept fails.
-pub(crate) fn worker<'a, R: Net<Stream = TcpStream> + time::Clock, L: Log>(
+pub(crate) fn worker<'a, R: Net<Stream = TcpStream> + time::Clock + Wait, L: Log>(
     runtime: &'a R,
     alloc: Global,
     log: &'a L,
-    listener: Option<&'a TcpListener>,
+    listener: Option<&'a Mutex<TcpListener>>,
     totals: &'a Totals,
 ) -> Edge<'a, R, L> {
     Worker {
@@ -34,11 +35,11 @@ pub(crate) fn worker<'a, R: Net<Stream = TcpStream> + time::Clock, L: Log>(
 }
 
 /// So many workers that accept what one listener gives, and count in the same totals.
-pub(crate) fn workers<'a, R: Net<Stream = TcpStream> + time::Clock, L: Log>(
+pub(crate) fn workers<'a, R: Net<Stream = TcpStream> + time::Clock + Wait, L: Log>(
     runtime: &'a R,
     alloc: Global,
     log: &'a L,
-    listener: Option<&'a TcpListener>,
+    listener: Option<&'a Mutex<TcpListener>>,
     totals: &'a Totals,
     count: u32,
 ) -> Result<Vec<Edge<'a, R, L>>, Memory> {

@@ -12,6 +12,7 @@ use gw_outside::{Accept, Accepted};
 use log::{Log, error, info};
 use std::io::{Error, ErrorKind, Result};
 use std::net::{SocketAddr, TcpListener, TcpStream};
+use std::sync::{Mutex, Wait};
 use std::time;
 use std::time::Duration;
 use z_types::{End, Mark};
@@ -38,22 +39,23 @@ const NO_BUFFERS: i32 = 105;
 type Client = Accepted<SocketSource, WriterSink<TcpStream>>;
 
 /// The connections of a listener, which several acceptors may share. It logs each that is accepted and
-/// each that has ended, and counts them in the totals. Without a listener each accept fails.
+/// each that has ended, and counts them in the totals. One of them waits at the listener at a time, since the
+/// system keeps a descriptor for each that waits there (accept(2)). Without a listener each accept fails.
 #[derive(Drop)]
 pub struct SocketAccept<'a, R: time::Clock, L: Log> {
     runtime: &'a R,
     log: &'a L,
-    listener: Option<&'a TcpListener>,
+    listener: Option<&'a Mutex<TcpListener>>,
     totals: &'a Totals,
     faults: u64,
 }
 
-impl<'a, R: time::Clock, L: Log> SocketAccept<'a, R, L> {
+impl<'a, R: time::Clock + Wait, L: Log> SocketAccept<'a, R, L> {
     /// An acceptor that has not failed yet; connections are numbered by how many were accepted before.
     pub fn new(
         runtime: &'a R,
         log: &'a L,
-        listener: Option<&'a TcpListener>,
+        listener: Option<&'a Mutex<TcpListener>>,
         totals: &'a Totals,
     ) -> SocketAccept<'a, R, L>
         ensures { result.faults ≡ 0 }
@@ -76,7 +78,8 @@ impl<'a, R: time::Clock, L: Log> SocketAccept<'a, R, L> {
         let Some(listener) = self.listener else {
             return Some(self.count_fault());
         };
-        match listener.accept() {
+        let accepted = listener.lock(self.runtime).accept();
+        match accepted {
             Ok((stream, peer)) => self.welcome(stream, peer),
             Err(error) => {
                 let passes = passes(&error);
@@ -151,7 +154,7 @@ impl<'a, R: time::Clock, L: Log> SocketAccept<'a, R, L> {
     }
 }
 
-impl<R: time::Clock, L: Log> Accept for SocketAccept<'_, R, L> {
+impl<R: time::Clock + Wait, L: Log> Accept for SocketAccept<'_, R, L> {
     type In = SocketSource;
 
     type Out = WriterSink<TcpStream>;

@@ -8,7 +8,8 @@ use gw_outside::{Accept, Accepted, Got, Sink, Source, Took, write_all};
 use log::Log;
 use log::sink::{Discard, Memory};
 use std::io::{Read, Result, Write};
-use std::net::{Net, Shutdown, SocketAddr, TcpStream};
+use std::net::{Net, Shutdown, SocketAddr, TcpListener, TcpStream};
+use std::sync::{Mutex, Wait};
 use std::test::Fail;
 use std::time::Duration;
 use std::{io, time};
@@ -140,7 +141,7 @@ fn hurries(source: &SocketSource, sink: &WriterSink<TcpStream>) -> bool {
 fn gives(source: &mut SocketSource, octets: &[u8]) -> bool {
     let mut piece = [0u8; 40];
     let room = octets.len().min(40);
-    source.read(&mut piece[..room]) == Got::Bytes(room) && piece[..room] == *octets
+    source.read(&mut piece[..room]) == Got::Bytes(room) && &piece[..room] == octets
 }
 
 /// Whether a read fails, and leaves what it was to fill.
@@ -169,7 +170,7 @@ fn reads(client: &mut Option<TcpStream>, octets: &[u8]) -> bool {
             let mut answer = [0u8; 40];
             let count = octets.len().min(40);
             stream.read_exact(&mut answer[..count]).is_ok()
-                && answer[..count] == *octets
+                && &answer[..count] == octets
                 && matches!(stream.read(&mut answer), Ok(0))
         }
         None => true,
@@ -191,7 +192,7 @@ fn go(
 }
 
 /// Whether the next connection of an acceptor, which a client has begun, goes as a case says.
-fn is_served<R: time::Clock, L: Log>(
+fn is_served<R: time::Clock + Wait, L: Log>(
     acceptor: &mut SocketAccept<'_, R, L>,
     client: &mut Option<TcpStream>,
     case: Case,
@@ -209,7 +210,7 @@ fn is_served<R: time::Clock, L: Log>(
 }
 
 /// Whether a connection to an acceptor at this address goes as a case says.
-fn goes_so<R: Net<Stream = TcpStream> + time::Clock, L: Log>(
+fn goes_so<R: Net<Stream = TcpStream> + time::Clock + Wait, L: Log>(
     runtime: &R,
     acceptor: &mut SocketAccept<'_, R, L>,
     address: SocketAddr,
@@ -222,8 +223,13 @@ fn goes_so<R: Net<Stream = TcpStream> + time::Clock, L: Log>(
 }
 
 /// How many cases, one after another, go as they say.
-fn count_so<L: Log>(runtime: &HostRuntime, log: &L, totals: &Totals) -> Result<usize> {
+fn count_so<R: Net<Listener = TcpListener, Stream = TcpStream> + time::Clock + Wait, L: Log>(
+    runtime: &R,
+    log: &L,
+    totals: &Totals,
+) -> Result<usize> {
     let (listener, address) = listening(runtime)?;
+    let listener = Mutex::new(listener);
     let mut acceptor = SocketAccept::new(runtime, log, Some(&listener), totals);
     let mut count = 0usize;
     for case in CASES {
@@ -266,9 +272,14 @@ fn a_connection_is_logged_by_its_number(rt: HostRuntime) -> std::result::Result<
 }
 
 /// Whether an accept without a listener, and one of a listener that has nothing to give at once, fail.
-fn fail<L: Log>(runtime: &HostRuntime, log: &L, totals: &Totals) -> io::Result<bool> {
+fn fail<R: Net<Listener = TcpListener, Stream = TcpStream> + time::Clock + Wait, L: Log>(
+    runtime: &R,
+    log: &L,
+    totals: &Totals,
+) -> io::Result<bool> {
     let (listener, _) = listening(runtime)?;
     let is_set = listener.set_nonblocking(true).is_ok();
+    let listener = Mutex::new(listener);
     let mut of_none = SocketAccept::new(runtime, log, None, totals);
     let mut of_one = SocketAccept::new(runtime, log, Some(&listener), totals);
     Ok(
