@@ -105,8 +105,8 @@ IsBorneIf w exact route events happened behind report =
 
 -- a new pool of these numbers: it has no session, gave none a number, and counted nothing
 abbrev pub new_door : {S : Type 0} → PoolNumbers → DoorView S
-new_door {S} numbers =
-    record { pool = Some (pool_of numbers 0 []); counts = counts_of {S} (new_pool numbers) }
+new_door {S = S} numbers =
+    record { pool = Some (pool_of numbers 0 []); counts = counts_of {S = S} (new_pool numbers) }
 
 -- What the replay went through: it began with a new pool of the route's numbers, and with what was
 -- made to happen to the wire's targets, and ended with what the wire counted, beside the breaches.

@@ -28,7 +28,7 @@ enum Step {
     Goes,
     /// No call waits longer than a moment from now on.
     Hurries,
-    /// A read gives these octets.
+    /// A read into three octets of room gives these.
     Gives(&'static [u8]),
     /// A read gives the end.
     Ends,
@@ -137,11 +137,10 @@ fn hurries(source: &SocketSource, sink: &WriterSink<TcpStream>) -> bool {
     source.stream.set_read_timeout(short).is_ok() && sink.writer.set_write_timeout(short).is_ok()
 }
 
-/// Whether a read into as much room gives these octets.
+/// Whether a read into three octets of room gives these.
 fn gives(source: &mut SocketSource, octets: &[u8]) -> bool {
-    let mut piece = [0u8; 40];
-    let room = octets.len().min(40);
-    source.read(&mut piece[..room]) == Got::Bytes(room) && &piece[..room] == octets
+    let mut piece = [0u8; 3];
+    source.read(&mut piece) == Got::Bytes(3) && piece.as_slice() == octets
 }
 
 /// Whether a read fails, and leaves what it was to fill.
@@ -272,10 +271,10 @@ fn a_connection_is_logged_by_its_number(rt: HostRuntime) -> std::result::Result<
 }
 
 /// Whether an accept without a listener, and one of a listener that has nothing to give at once, fail.
-fn fail<R: Net<Listener = TcpListener, Stream = TcpStream> + time::Clock + Wait, L: Log>(
-    runtime: &R,
-    log: &L,
-    totals: &Totals,
+fn fail<'a, R: Net<Listener = TcpListener, Stream = TcpStream> + time::Clock + Wait, L: Log>(
+    runtime: &'a R,
+    log: &'a L,
+    totals: &'a Totals,
 ) -> io::Result<bool> {
     let (listener, _) = listening(runtime)?;
     let is_set = listener.set_nonblocking(true).is_ok();
