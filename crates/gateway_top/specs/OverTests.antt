@@ -1,7 +1,7 @@
 -- What a replay prints where its world tells what test targets answer, and its wire was just made
 -- (this project's own). The program replays test targets alone: so of what the main theorem asks of
 -- targets that tell their answers, and of the wire, nothing is left to ask here
-use Rattle.std.specs.Prelude.{◌≡◌, ℕ, true, List, [], ◌∷◌, Some, Contains, codes, map}
+use Rattle.std.specs.Prelude.{◌≡◌, ℕ, true, false, List, [], ◌∷◌, Some, Contains, codes, map}
 use Rattle.std.specs.List.{AllByRecursion}
 use Rattle.z_types.specs.declared.address.Address.{Address}
 use Rattle.z_types.specs.declared.address.Address.TheVariants.{Test}
@@ -67,8 +67,8 @@ pub record IsReplayOverTests {W : Type 0} (w : world.Ghosts W) (config script : 
   pub causes : HaveWireCauses true route.pool report 0 no_counts behind
   pub fulls : IsFullCaused route.pool report 0 behind
   pub untroubled : AllByRecursion BefallsNothing events → IsUntroubled route report
-  pub borne : AllByRecursion (HasBorneNumber route.pool) events → IsQuiet events → DialsGoOn behind
-      → AreBorneMarks route report
+  pub borne : AllByRecursion (HasBorneNumber false route.pool) events → IsQuiet events
+      → DialsGoOn behind → AreBorneMarks route report
   pub shared : MembersAreAlike w route → SharesIfOrderly w route events report
 
 -- `replay` at Ok: the files that it names were replayed so, where they are told
