@@ -8,7 +8,7 @@ mod serving;
 mod targets;
 #[cfg(test)]
 mod tests;
-mod watching;
+mod totals;
 mod workers;
 
 pub use crate::crossing::sessions_cross;

@@ -5,7 +5,7 @@ ghost use Rattle.serve_top.specs.Outcome.{IsPrinted};
 
 use crate::listening::listen;
 use crate::targets::{add_targets, tell_limit};
-use crate::watching::{Course, watch};
+use crate::totals::tell;
 use crate::workers::{Edge, workers};
 use gateway_config::{ConfigRead, Status, read_config};
 use gw_outside::{Accept, Clock, Files, Sink, Wire};
@@ -17,11 +17,11 @@ use std::alloc::Global;
 use std::net::{IpAddr, Net, TcpListener, TcpStream};
 use std::sync::{Mutex, Wait};
 use std::thread::Threads;
-use std::{rt, thread, time};
+use std::{rt, time};
 use tcp_edge::{SystemFiles, Totals};
 use test_target::TestWorld;
 use z_client::ZBackend;
-use z_types::{Memory, Text};
+use z_types::Text;
 
 /// Serves, as the words after the program's name say, at an address of this machine, until an accept fails.
 /// The configuration is read first: only where it is taken the port is listened on. Where the words are not
@@ -56,16 +56,12 @@ pub fn serve<
         }
         None => (None, 0),
     };
-    let listens = listener.is_some();
-    match workers(runtime, alloc, log, listener.as_ref(), &totals, count) {
-        Ok(mut workers) => {
-            let workers = &mut workers;
-            serve_beside(
-                runtime, alloc, log, words, files, out, workers, &totals, listens,
-            )
-        }
-        Err(Memory) => Status::Memory,
-    }
+    let Ok(mut workers) = workers(runtime, alloc, log, listener.as_ref(), &totals, count) else {
+        return Status::Memory;
+    };
+    let status = serve_sockets(runtime, alloc, words, files, out, &mut workers);
+    tell(log, &totals);
+    status
 }
 
 /// The route that the words of `serve` name, where it is taken.
@@ -90,68 +86,6 @@ fn open<R: Net<Listener = TcpListener, Stream = TcpStream> + Eprint, L: Log>(
     let _ = add_targets(totals, &route);
     tell_limit(log, &route, asked.workers);
     listen(runtime, log, address, asked)
-}
-
-/// Serves over the system's files and sockets, and logs beside it what all workers did, where they listen.
-fn serve_beside<
-    R: Net<Listener = TcpListener, Stream = TcpStream>
-        + time::Clock
-        + rt::Files
-        + Threads
-        + Wait
-        + Sync,
-    L: Log + Sync,
-    K: Sink,
->(
-    runtime: &R,
-    alloc: Global,
-    log: &L,
-    words: &[Text],
-    files: &mut SystemFiles<'_, R>,
-    out: &mut K,
-    workers: &mut Vec<Edge<R, L>>,
-    totals: &Totals,
-    listens: bool,
-) -> Status
-    ensures printed { IsPrinted (sink_writes K.Sink out.old out.new) result }
-{
-    if !listens {
-        return serve_sockets(runtime, alloc, words, files, out, workers);
-    }
-    let course = Course::new();
-    let ((), status) = thread::join_mut(
-        runtime,
-        &mut || watch(runtime, log, totals, &course),
-        &mut || serve_watched(runtime, alloc, words, files, out, workers, &course),
-    );
-    status
-}
-
-/// Serves over the system's files and sockets, and says when it begins and when it has ended.
-fn serve_watched<
-    R: Net<Listener = TcpListener, Stream = TcpStream>
-        + time::Clock
-        + rt::Files
-        + Threads
-        + Wait
-        + Sync,
-    L: Log + Sync,
-    K: Sink,
->(
-    runtime: &R,
-    alloc: Global,
-    words: &[Text],
-    files: &mut SystemFiles<'_, R>,
-    out: &mut K,
-    workers: &mut Vec<Edge<R, L>>,
-    course: &Course,
-) -> Status
-    ensures printed { IsPrinted (sink_writes K.Sink out.old out.new) result }
-{
-    course.begin();
-    let status = serve_sockets(runtime, alloc, words, files, out, workers);
-    course.end();
-    status
 }
 
 /// Serves over the system's files and sockets.
