@@ -132,11 +132,11 @@ fn files(alloc: Global) -> std::result::Result<MemoryFiles, Memory> {
 }
 
 /// Serves two clients of a listener, one after another, and tells whether it says so.
-fn serves<T: Net<Stream = TcpStream> + time::Clock + Threads + Wait + Sync>(
-    runtime: &T,
+fn serves<'a, T: Net<Stream = TcpStream> + time::Clock + Threads + Wait + Sync>(
+    runtime: &'a T,
     alloc: Global,
-    listener: &Mutex<TcpListener>,
-    totals: &Totals,
+    listener: &'a Mutex<TcpListener>,
+    totals: &'a Totals,
 ) -> std::result::Result<bool, Memory> {
     let mut workers = Vec::new(alloc);
     let edge = worker(runtime, alloc, &Discard, Some(listener), totals);
