@@ -28,7 +28,6 @@ help+=$'check CONFIG               reads a configuration, and prints how many da
 help+=$'replay CONFIG SCRIPT       plays what a script says of clients, time and targets, and prints what clients are answered\n'
 help+=$'load N                     plays N clients of four requests each, and prints how many octets, searches and links that took\n'
 help+=$'serve CONFIG PORT WORKERS  serves clients at a port of this machine, as many at once as there are workers (1 to 64)\n'
-help+=$'serve .. --listen ADDRESS  the same, at another address of this machine than 127.0.0.1\n'
 help+=$'serve .. --quiet           the same, and logs no connection that begins or ends\n'
 help+=$'--help                     prints this\n'
 help+=$'--version                  prints the version\n'

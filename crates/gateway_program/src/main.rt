@@ -1,9 +1,6 @@
 //! The program: the top call over the real files, output and targets.
 #![tactic(auto)]
 
-mod flags;
-mod hints;
-mod over_tests;
 mod program;
 mod serving;
 #[cfg(test)]
@@ -11,9 +8,7 @@ mod tests;
 mod words;
 
 use std::process::ExitCode;
-use tcp_edge::fill_standard_streams;
 
 fn main(rt: HostRuntime) -> ExitCode {
-    fill_standard_streams();
     program::run(&rt)
 }

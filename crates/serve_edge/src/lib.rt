@@ -5,10 +5,8 @@
 mod crossing;
 mod listening;
 mod serving;
-mod targets;
 #[cfg(test)]
 mod tests;
-mod totals;
 mod workers;
 
 pub use crate::crossing::sessions_cross;

@@ -12,11 +12,12 @@ use serve_top::serve::Worker;
 use std::alloc::Global;
 use std::io::{Read, Result, Write};
 use std::net::{Net, SocketAddr, TcpListener, TcpStream};
-use std::sync::{Mutex, Wait};
+use std::sync::Wait;
+use std::sync::atomic::AtomicU64;
 use std::test::Fail;
 use std::thread::Threads;
 use std::{thread, time};
-use tcp_edge::{EdgeWire, SocketAccept, SocketSource, SystemClock, Totals, WriterSink};
+use tcp_edge::{EdgeWire, SocketAccept, SocketSource, SystemClock, WriterSink};
 use z_client::ZBackend;
 use z_types::{End, List, Mark, Memory, Text};
 
@@ -53,7 +54,7 @@ struct Few<'a, R: time::Clock, L: Log> {
     left: u32,
 }
 
-impl<'a, R: time::Clock + Wait, L: Log> Accept for Few<'a, R, L> {
+impl<'a, R: time::Clock, L: Log> Accept for Few<'a, R, L> {
     ghost use Rattle.std.specs.Prelude.{None};
 
     type In = SocketSource;
@@ -100,10 +101,7 @@ fn texts(alloc: Global, line: &[&str]) -> std::result::Result<Vec<Text>, Memory>
 type EdgeFew<'a, R, L> = Worker<ZBackend<EdgeWire<'a, R, L>>, Few<'a, R, L>, SystemClock<'a, R>>;
 
 /// A worker that accepts so many connections.
-fn ending<'a, R: Net + time::Clock + Wait, L: Log>(
-    edge: Edge<'a, R, L>,
-    left: u32,
-) -> EdgeFew<'a, R, L> {
+fn ending<'a, R: Net + time::Clock, L: Log>(edge: Edge<'a, R, L>, left: u32) -> EdgeFew<'a, R, L> {
     let Worker {
         backend,
         accept,
@@ -132,20 +130,21 @@ fn files(alloc: Global) -> std::result::Result<MemoryFiles, Memory> {
 }
 
 /// Serves two clients of a listener, one after another, and tells whether it says so.
-fn serves<'a, T: Net<Stream = TcpStream> + time::Clock + Threads + Wait + Sync>(
-    runtime: &'a T,
+fn serves<T: Threads + Wait + Sync>(
+    threads: &T,
+    runtime: &HostRuntime,
     alloc: Global,
-    listener: &'a Mutex<TcpListener>,
-    totals: &'a Totals,
+    listener: TcpListener,
 ) -> std::result::Result<bool, Memory> {
+    let accepted = AtomicU64::new(0);
     let mut workers = Vec::new(alloc);
-    let edge = worker(runtime, alloc, &Discard, Some(listener), totals);
+    let edge = worker(runtime, alloc, &Discard, Some(listener), &accepted);
     workers.push(ending(edge, 2))?;
     let words = texts(alloc, &["serve", "c", "2100", "1"])?;
     let mut files = files(alloc)?;
     let mut out = MemorySink::new(alloc, List::new(alloc));
     let status = serve_over(
-        runtime,
+        threads,
         alloc,
         words.as_slice(),
         &mut files,
@@ -187,12 +186,10 @@ fn clients_of_both_kinds_are_answered_at_one_port(
 ) -> std::result::Result<(), Fail> {
     let listener = TcpListener::bind(&rt, "127.0.0.1:0")?;
     let address = listener.local_addr()?;
-    let listener = Mutex::new(listener);
-    let totals = Totals::new(rt.alloc());
     let (answered, served) = thread::join(
         &rt,
         || are_answered(&rt, rt.alloc(), address),
-        || serves(&rt, rt.alloc(), &listener, &totals),
+        || serves(&rt, &rt, rt.alloc(), listener),
     );
     assert!(rt; served? && answered?);
     Ok(())

@@ -4,7 +4,6 @@ use crate::{EdgeLink, EdgeWire, SocketAccept, SocketSource, SystemClock, SystemF
 use log::Log;
 use std::io::Write;
 use std::net::{Net, TcpStream};
-use std::sync::Wait;
 use std::{rt, time};
 use test_wire::{TestLink, TestWire};
 
@@ -25,7 +24,7 @@ pub fn links_cross() {
 
 /// An adapter over a runtime may go to another thread where the runtime and the log may be shared.
 pub fn adapters_cross<
-    R: Net<Stream = TcpStream> + time::Clock + rt::Files + Wait + Sync,
+    R: Net<Stream = TcpStream> + time::Clock + rt::Files + Sync,
     L: Log + Sync,
     W: Write + Drop + Send,
 >() {

@@ -1,7 +1,7 @@
 //! Links with test targets, and with a target on loopback that the test plays.
 
 use super::listening;
-use crate::{EdgeLink, EdgeWire, Totals};
+use crate::{EdgeLink, EdgeWire};
 use gw_outside::{Dialled, Looked, Sent, Wire};
 use log::Log;
 use log::sink::{Discard, Memory};
@@ -38,8 +38,7 @@ fn dialled<R: Net<Stream = TcpStream> + time::Clock, L: Log>(
 #[test]
 fn a_test_target_answers(rt: HostRuntime) -> Result<(), Fail> {
     let alloc = rt.alloc();
-    let totals = Totals::new(alloc);
-    let mut wire = EdgeWire::new(alloc, &rt, &Discard, &totals);
+    let mut wire = EdgeWire::new(alloc, &rt, &Discard);
     let mut link = dialled(&mut wire, alloc, &Address::Test(3)).ok_or("none")?;
     assert!(rt; wire.look(alloc, &mut link) == Looked::NotYet);
     assert!(rt; wire.send(alloc, &mut link, INIT) == Sent::Sent);
@@ -57,11 +56,10 @@ fn a_test_target_answers(rt: HostRuntime) -> Result<(), Fail> {
 fn linked<'a, L: Log>(
     runtime: &'a HostRuntime,
     log: &'a L,
-    totals: &'a Totals,
 ) -> Result<(TcpStream, EdgeWire<'a, HostRuntime, L>, EdgeLink), Fail> {
     let alloc = runtime.alloc();
     let (listener, address) = listening(runtime)?;
-    let mut wire = EdgeWire::new(alloc, runtime, log, totals);
+    let mut wire = EdgeWire::new(alloc, runtime, log);
     let target = at(alloc, b"localhost", address.port())?;
     let link = dialled(&mut wire, alloc, &target).ok_or("none")?;
     let (stream, _) = listener.accept()?;
@@ -71,8 +69,7 @@ fn linked<'a, L: Log>(
 #[test]
 fn a_target_at_a_host_answers(rt: HostRuntime) -> Result<(), Fail> {
     let alloc = rt.alloc();
-    let totals = Totals::new(alloc);
-    let (mut target, mut wire, mut link) = linked(&rt, &Discard, &totals)?;
+    let (mut target, mut wire, mut link) = linked(&rt, &Discard)?;
     assert!(rt; wire.look(alloc, &mut link) == Looked::NotYet);
     assert!(rt; wire.send(alloc, &mut link, INIT) == Sent::Sent);
     let mut unit = [0u8; 21];
@@ -93,8 +90,7 @@ fn a_target_at_a_host_answers(rt: HostRuntime) -> Result<(), Fail> {
 #[test]
 fn a_look_waits_a_while_and_no_longer(rt: HostRuntime) -> Result<(), Fail> {
     let alloc = rt.alloc();
-    let totals = Totals::new(alloc);
-    let (_target, mut wire, mut link) = linked(&rt, &Discard, &totals)?;
+    let (_target, mut wire, mut link) = linked(&rt, &Discard)?;
     let begun = Instant::now(&rt)?;
     for _ in 0..10 {
         assert!(rt; wire.look(alloc, &mut link) == Looked::NotYet);
@@ -108,8 +104,7 @@ fn a_look_waits_a_while_and_no_longer(rt: HostRuntime) -> Result<(), Fail> {
 #[test]
 fn looks_at_several_links_wait_for_all_of_them_at_once(rt: HostRuntime) -> Result<(), Fail> {
     let alloc = rt.alloc();
-    let totals = Totals::new(alloc);
-    let (_silent, mut wire, mut link) = linked(&rt, &Discard, &totals)?;
+    let (_silent, mut wire, mut link) = linked(&rt, &Discard)?;
     let (listener, address) = listening(&rt)?;
     let target = at(alloc, b"localhost", address.port())?;
     let mut other = dialled(&mut wire, alloc, &target).ok_or("none")?;
@@ -131,8 +126,7 @@ fn looks_at_several_links_wait_for_all_of_them_at_once(rt: HostRuntime) -> Resul
 fn a_target_that_closes_is_a_fault(rt: HostRuntime) -> Result<(), Fail> {
     let alloc = rt.alloc();
     let log = Memory::new(alloc);
-    let totals = Totals::new(alloc);
-    let (target, mut wire, mut link) = linked(&rt, &log, &totals)?;
+    let (target, mut wire, mut link) = linked(&rt, &log)?;
     drop(target);
     assert!(rt; wire.look(alloc, &mut link) == Looked::Failed);
     assert!(rt; wire.tally().faults == 1);
@@ -152,8 +146,7 @@ fn a_target_that_cannot_be_dialled_is_a_fault(rt: HostRuntime) -> Result<(), Fai
     let (listener, address) = listening(&rt)?;
     drop(listener);
     let log = Memory::new(alloc);
-    let totals = Totals::new(alloc);
-    let mut wire = EdgeWire::new(alloc, &rt, &log, &totals);
+    let mut wire = EdgeWire::new(alloc, &rt, &log);
     for host in [
         b"127.0.0.1".as_slice(),
         b"no.such.host.invalid",
@@ -187,8 +180,7 @@ fn a_target_that_does_not_answer_is_a_fault_in_time(rt: HostRuntime) -> Result<(
     let alloc = rt.alloc();
     let (_listener, address) = listening(&rt)?;
     let _waiting = fill(&rt, address)?;
-    let totals = Totals::new(alloc);
-    let mut wire = EdgeWire::new(alloc, &rt, &Discard, &totals);
+    let mut wire = EdgeWire::new(alloc, &rt, &Discard);
     let target = at(alloc, b"127.0.0.1", address.port())?;
     let begun = Instant::now(&rt)?;
     assert!(rt; dialled(&mut wire, alloc, &target).is_none());
