@@ -1,2 +1,3 @@
 pub mod ChainLemmas
 mod ListAllLemmas
+pub mod LoginLemmas

@@ -17,6 +17,7 @@ pub mod Logins
 pub mod Pending
 pub mod Links
 pub mod World
+pub mod Under
 pub mod equality
 pub mod MergedOrder
 pub mod QueryMeasures

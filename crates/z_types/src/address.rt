@@ -2,7 +2,15 @@
 
 ghost use Rattle.std.specs.Prelude.{◌≡◌, IfOk};
 ghost use Rattle.std.specs.Option.{option_copied};
-ghost use Rattle.z_types.specs.Logins.{address_at, inner, inside, login_of, site_of};
+ghost use Rattle.z_types.specs.Logins.{
+  address_at,
+  inner,
+  inside,
+  login_of,
+  same_address,
+  same_login,
+  site_of,
+};
 ghost use Rattle.z_types.specs.equality.Address.{address, site};
 
 use crate::{Exact, Memory, Text, copy};
@@ -91,6 +99,32 @@ impl Address {
         match login {
             Some(login) => Ok(Address::Login(self.site()?, copy(login)?)),
             None => copy(self),
+        }
+    }
+    /// Whether it is at that address of a target, by itself or inside a login.
+    pub fn is_at(&self, target: &Address) -> bool
+        ensures { result ≡ same_address target.now (inner self.now) }
+    {
+        match (self, target) {
+            (Address::Test(here) | Address::Login(Site::Test(here), _), Address::Test(there)) => {
+                *here == *there
+            }
+            (
+                Address::Tcp(host, port) | Address::Login(Site::Tcp(host, port), _),
+                Address::Tcp(other, gate),
+            ) => *other == *host && *gate == *port,
+            _ => false,
+        }
+    }
+
+    /// Whether it is inside this login, or by itself where there is none.
+    pub fn is_inside(&self, login: Option<&Text>) -> bool
+        ensures { result ≡ same_login (option_copied login.entry) (login_of self.now) }
+    {
+        match (self, login) {
+            (Address::Login(_, own), Some(login)) => *login == *own,
+            (Address::Login(_, _), None) => false,
+            (_, login) => login.is_none(),
         }
     }
 }
