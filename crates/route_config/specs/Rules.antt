@@ -1,10 +1,11 @@
 -- Whom and what an access rule names (this project's own).
-use Rattle.std.specs.Prelude.{ℕ, ◌||◌, Bool, List}
+use Rattle.std.specs.Prelude.{ℕ, ◌||◌, Bool, List, All, IsTrue}
 use Rattle.std.specs.List.{list_any}
 use Rattle.std.specs.Str.{str_eq_ignore_ascii_case}
 use Rattle.z_types.specs.Same.{is_same}
 use Rattle.route_config.specs.declared.route.Database.{Database}
 use Rattle.route_config.specs.declared.route.User.{User}
+use Rattle.route_config.specs.declared.route.Rule.{Rule}
 use Rattle.route_config.specs.Names.{anonymous, every}
 
 -- what a rule names as its user stands for this one: the same name, octet by octet, or `*`
@@ -22,8 +23,23 @@ names_user users named =
     (is_same named every || is_same named anonymous)
     || list_any (λ user. is_same named user.name) users
 
+-- each of these rules may be for its user
+abbrev pub NameUsers : List User → List Rule → Type 0
+NameUsers users rules = All (λ rule. IsTrue (names_user users rule.user)) rules
+
+-- one of the virtual databases has this name, in any case of ASCII letters
+abbrev pub has_database : List Database → List ℕ → Bool
+has_database databases named =
+    list_any (λ database. str_eq_ignore_ascii_case named database.name) databases
+
 -- a rule may name as a database: `*`, or a virtual database
 abbrev pub names_database : List Database → List ℕ → Bool
-names_database databases named =
-    is_same named every
-    || list_any (λ database. str_eq_ignore_ascii_case named database.name) databases
+names_database databases named = is_same named every || has_database databases named
+
+-- all of these may be named as databases
+abbrev pub AreDatabases : List Database → List (List ℕ) → Type 0
+AreDatabases databases named = All (λ one. IsTrue (names_database databases one)) named
+
+-- each of these rules may be for its databases
+abbrev pub NameDatabases : List Database → List Rule → Type 0
+NameDatabases databases rules = All (λ rule. AreDatabases databases rule.databases) rules

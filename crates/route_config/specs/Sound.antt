@@ -17,7 +17,7 @@ use Rattle.route_config.specs.declared.route.User.{User}
 use Rattle.route_config.specs.declared.route.Rule.{Rule}
 use Rattle.route_config.specs.declared.route.RouteParts.{RouteParts}
 use Rattle.route_config.specs.Names.{is_name, is_database_name, is_index_name, is_user_name}
-use Rattle.route_config.specs.Rules.{names_user, names_database}
+use Rattle.route_config.specs.Rules.{NameUsers, NameDatabases}
 
 -- a number from one to another
 abbrev pub IsFrom : ℕ → ℕ → ℕ → Type 0
@@ -112,9 +112,8 @@ pub record KeepsItems (route : RouteParts) : Type 0 where
 
 -- each rule is for `*`, `anonymous` or a user, and for databases that are `*` or virtual databases
 pub record KeepsRules (route : RouteParts) : Type 0 where
-  pub users : All (λ rule. IsTrue (names_user route.users rule.user)) route.rules
-  pub databases : All (λ rule.
-      All (λ named. IsTrue (names_database route.databases named)) rule.databases) route.rules
+  pub users : NameUsers route.users route.rules
+  pub databases : NameDatabases route.databases route.rules
 
 -- how many records are kept, and of how many octets each
 pub record AreCacheNumbers (route : RouteParts) : Type 0 where

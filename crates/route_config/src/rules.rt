@@ -4,7 +4,13 @@ ghost use Rattle.std.specs.Prelude.{◌≡◌};
 ghost use Rattle.std.specs.List.{list_any};
 ghost use Rattle.std.specs.Str.{str_eq_ignore_ascii_case};
 ghost use Rattle.z_types.specs.Same.{is_same};
-ghost use Rattle.route_config.specs.Rules.{is_for_database, is_for_user, names_database, names_user};
+ghost use Rattle.route_config.specs.Rules.{
+  has_database,
+  is_for_database,
+  is_for_user,
+  names_database,
+  names_user,
+};
 
 use crate::{Database, User};
 
@@ -50,7 +56,7 @@ pub(crate) fn names_database(databases: &[Database], named: &[u8]) -> bool
 }
 
 fn has_database(databases: &[Database], named: &[u8]) -> bool
-    ensures { result ≡ list_any (λ database. str_eq_ignore_ascii_case named.now database.name) databases.now }
+    ensures { result ≡ has_database databases.now named.now }
 {
     databases.iter().any(|database| named.eq_ignore_ascii_case(database.name.as_slice()))
 }

@@ -11,7 +11,7 @@ ghost use Rattle.route_config.specs.Sound.{
   KeepsRules,
   KeepsSizes,
 };
-ghost use Rattle.route_config.specs.Rules as rules_of;
+ghost use Rattle.route_config.specs.Rules.{AreDatabases, NameDatabases, NameUsers};
 
 use crate::names::is_from;
 use crate::rules::{names_database, names_user};
@@ -124,7 +124,7 @@ fn are_limits(limits: &Limits) -> bool
 }
 
 fn are_for_users(users: &[User], rules: &[Rule]) -> bool
-    ensures { IsTrue result ↔ All (λ rule. IsTrue (rules_of.names_user users.now rule.user)) rules.now }
+    ensures { IsTrue result ↔ NameUsers users.now rules.now }
 {
     rules
         .iter()
@@ -132,7 +132,7 @@ fn are_for_users(users: &[User], rules: &[Rule]) -> bool
 }
 
 fn are_databases(databases: &[Database], named: &[Text]) -> bool
-    ensures { IsTrue result ↔ All (λ one. IsTrue (rules_of.names_database databases.now one)) named.now }
+    ensures { IsTrue result ↔ AreDatabases databases.now named.now }
 {
     named
         .iter()
@@ -140,7 +140,7 @@ fn are_databases(databases: &[Database], named: &[Text]) -> bool
 }
 
 fn are_for_databases(databases: &[Database], rules: &[Rule]) -> bool
-    ensures { IsTrue result ↔ All (λ rule. All (λ one. IsTrue (rules_of.names_database databases.now one)) rule.databases) rules.now }
+    ensures { IsTrue result ↔ NameDatabases databases.now rules.now }
 {
     rules
         .iter()
