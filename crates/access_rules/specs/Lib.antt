@@ -1,0 +1,7 @@
+pub mod Credentials
+pub mod Lent
+pub mod Whose
+pub mod Decisions
+pub mod Denials
+pub mod Access
+pub mod Laws
