@@ -1,0 +1,3 @@
+pub mod HashLemmas
+pub mod EntryLemmas
+pub mod RunLemmas

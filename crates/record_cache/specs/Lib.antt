@@ -1,0 +1,7 @@
+pub mod Keys
+pub mod Exactly
+pub mod Seeds
+pub mod Entries
+pub mod Stores
+pub mod Views
+pub mod Runs
