@@ -4,15 +4,18 @@
 #
 #     tools/interop.sh [COMMAND [PORT]]
 #
-# COMMAND starts the gateway (./gateway), PORT is the first of five that are free (20990). It needs Debian's `yaz`, `idzebra-2.0`,
-# `libnet-z3950-zoom-perl` and `curl`. The gate does not run it.
+# COMMAND starts the gateway (./gateway), PORT is the first of seven that are free (20990). It needs Debian's `yaz`, `idzebra-2.0`,
+# `libnet-z3950-zoom-perl`, `curl` and Python 3. The gate does not run it.
 here=$(CDPATH='' cd -- "$(dirname -- "$0")/.." && pwd) || exit 1
 gateway=${1:-$here/gateway}
+examples=$here/examples
 port=${2:-20990}
 ztest=$((port + 1))
 mute=$((port + 2))
 zebra=$((port + 3))
 half=$((port + 4))
+maps=$((port + 5))
+books=$((port + 6))
 room=$(mktemp -d) || exit 1
 failed=0
 trap 'kill $(jobs -p) 2>/dev/null; rm -rf "$room"' EXIT
@@ -186,6 +189,35 @@ sru get 1.2
 find dc.title=a
 quit
 END
+
+# The configurations of examples/ for SRU before these targets, whose addresses are put in: each schema gives records, in XML, and no
+# diagnostic in the place of one; the first schema of a configuration without any gives diagnostics alone.
+serves() {
+    sed "s/127.0.0.1:9998/127.0.0.1:$3/" "$examples/$1" >"$room/$1"
+    "$gateway" serve "$room/$1" "$2" 2 2>"$room/$1.log" >"$room/$1.out" &
+    for _ in $(seq 60); do grep -q '^listening' "$room/$1.log" && break; sleep 1; done
+}
+# Whether a GET is answered by so many records, all in place, in a reply that a reader of XML takes.
+gives() {
+    curl -s -m 10 "http://127.0.0.1:$2&version=1.2&operation=searchRetrieve&startRecord=1" >"$room/reply"
+    python3 - "$room/reply" "$3" "$4" <<'END'
+import sys, xml.etree.ElementTree as tree
+name, count, inside = sys.argv[1:]
+zs = '{http://www.loc.gov/zing/srw/}'
+records = tree.parse(name).getroot().findall(f'.//{zs}record')
+schemas = {it.find(f'{zs}recordSchema').text for it in records}
+data = [it.find(f'{zs}recordData')[0].tag.rpartition('}')[2] for it in records]
+told = 'info:srw/schema/1/diagnostics-v1.1' in schemas
+sys.exit(len(records) != int(count) or set(data) != {inside} or told != (inside == 'diagnostic'))
+END
+    row "$1" $?
+}
+serves sru-zebra.toml "$maps" "$zebra"
+serves sru-ztest.toml "$books" "$ztest"
+gives 'examples/sru-zebra.toml: records of the first schema' "$maps/Maps?query=dc.title%3Dmap&maximumRecords=2" 2 gils
+gives 'examples/sru-zebra.toml: records of the other' "$maps/Maps?query=dc.title%3Dmap&maximumRecords=2&recordSchema=brief" 2 gils
+gives 'examples/sru-ztest.toml: records' "$books/Books?query=computer&maximumRecords=2" 2 record
+gives 'without a schema for it Zebra gives diagnostics in the place of records' "$port/Zebra?query=dc.title%3Dmap&maximumRecords=2" 2 diagnostic
 
 commands 'base Mute' 'find a'
 shows 'a target that never answers' '[2] Temporary system error'

@@ -1,9 +1,16 @@
 #!/bin/bash
 # Runs the built program once for every way to end that a shell can bring about, and compares its status and
 # what it prints with what `docs/formats/replay.md` says. Want of memory has a script of its own, `refuse_memory.sh`.
+#
+#     tools/statuses.sh [COMMAND]
+#
+# COMMAND starts the gateway; without it the program is proved and built first.
 here=$(cd "$(dirname "$0")/.." && pwd) || exit 1
-program=$here/crates/gateway_program/out/gateway_program
-"$here/gateway" prove || exit 1
+program=$1
+if [ -z "$program" ]; then
+    program=$here/crates/gateway_program/out/gateway_program
+    "$here/gateway" prove || exit 1
+fi
 room=$(mktemp -d) || exit 1
 trap 'rm -rf "$room"' EXIT
 cd "$room" || exit 1
@@ -28,6 +35,7 @@ help+=$'check CONFIG               reads a configuration, and prints how many da
 help+=$'replay CONFIG SCRIPT       plays what a script says of clients, time and targets, and prints what clients are answered\n'
 help+=$'load N                     plays N clients of four requests each, and prints how many octets, searches and links that took\n'
 help+=$'serve CONFIG PORT WORKERS  serves clients at a port of this machine, as many at once as there are workers (1 to 64)\n'
+help+=$'serve .. --listen ADDRESS  the same, at another address of this machine than 127.0.0.1\n'
 help+=$'serve .. --quiet           the same, and logs no connection that begins or ends\n'
 help+=$'--help                     prints this\n'
 help+=$'--version                  prints the version\n'

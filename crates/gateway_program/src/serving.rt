@@ -1,38 +1,31 @@
 //! Serving, where the words ask for it.
 
+use crate::flags::flags_of;
+use crate::hints::help;
 use gateway_config::Status;
-use log::sink::Console;
-use log::{LevelFilter, Logged};
+use log::LevelFilter;
+use log::filter::{Builder, Filter, FilteredLog};
 use serve_edge::serve;
-use std::alloc::Global;
+use std::alloc::{AllocError, Global};
 use std::net::{Net, TcpListener, TcpStream};
 use std::sync::Wait;
 use std::thread::Threads;
 use std::{io, rt, time};
-use tcp_edge::WriterSink;
+use tcp_edge::{DatedConsole, SystemFiles, WriterSink};
 use z_types::Text;
 
-/// Whether the first word is `serve`.
-pub(crate) fn is_serve(words: &[Text]) -> bool {
-    match words {
-        [word, ..] => word.as_slice() == b"serve".as_slice(),
-        [] => false,
-    }
-}
+/// What logs connections that begin or end.
+const CONNECTIONS: &str = "tcp_edge::accepts";
 
-/// The words without a last `--quiet`, and from which level on to log: without it all, else no
-/// connection that begins or ends.
-fn loudness(words: &[Text]) -> (&[Text], LevelFilter) {
-    match words {
-        [others @ .., last] => {
-            if last.as_slice() == b"--quiet".as_slice() {
-                (others, LevelFilter::Warn)
-            } else {
-                (words, LevelFilter::Info)
-            }
-        }
-        [] => (words, LevelFilter::Info),
-    }
+/// What is logged: all, or all but connections that begin or end.
+fn filter(alloc: Global, quiet: bool) -> Result<Filter, AllocError> {
+    let all = Builder::new(alloc).filter_level(LevelFilter::Info)?;
+    let some = if quiet {
+        all.filter_module(CONNECTIONS, LevelFilter::Warn)?
+    } else {
+        all
+    };
+    Ok(some.build())
 }
 
 /// Serves over the system's sockets, files, clock and output, and logs to the standard error.
@@ -46,8 +39,23 @@ pub(crate) fn serve_here<
         + Wait
         + Sync,
 >(runtime: &R, alloc: Global, words: &[Text]) -> Status {
-    let (words, level) = loudness(words);
-    let log = Logged::new(runtime, level, Console(runtime));
+    let (words, flags) = flags_of(words);
+    let Ok(filter) = filter(alloc, flags.quiet) else {
+        return Status::Memory;
+    };
+    let log = FilteredLog::new(DatedConsole(runtime), filter);
+    let mut files = SystemFiles::new(runtime);
     let mut output = WriterSink::new(io::writer(runtime));
-    serve(runtime, alloc, &log, words, &mut output)
+    let address = flags.address();
+    let status = serve(
+        runtime,
+        alloc,
+        &log,
+        address,
+        words,
+        &mut files,
+        &mut output,
+    );
+    help(runtime, alloc, &files, status);
+    status
 }

@@ -1,11 +1,13 @@
 //! The commands over the system's files and output, and the words that the system hands on.
 
+use crate::flags::{Flags, flags_of};
 use crate::words::words;
 use gateway_top::{Status, command};
 use gw_memory::MemorySink;
 use std::alloc::Global;
 use std::env::FillError;
 use std::fs::OpenOptions;
+use std::net::{IpAddr, Ipv4Addr, Ipv6Addr};
 use std::rt::Env;
 use std::test::Fail;
 use tcp_edge::test_wire::TestWire;
@@ -142,5 +144,37 @@ fn are_handed_on(alloc: Global, started: &[&[u8]]) -> Result<bool, Memory> {
 fn each_word_is_handed_on_as_it_stands(rt: HostRuntime) -> Result<(), Fail> {
     let started: [&[u8]; 5] = [b"gateway", b"", b"\xff\xfe", &[b'a'; 300], b"s"];
     assert!(rt; are_handed_on(rt.alloc(), &started)?);
+    Ok(())
+}
+
+/// Words behind the name of a command, how many of them are no flags, and what the flags say.
+const FLAGS: [(&[&str], usize, Option<IpAddr>, bool); 9] = [
+    (&[], 0, None, false),
+    (&["8"], 1, None, false),
+    (&["8", "--quiet"], 1, None, true),
+    (&["8", "--listen", "0.0.0.0"], 1, Some(ANY), false),
+    (&["8", "--listen", "::", "--quiet"], 1, Some(ANY_6), true),
+    (&["8", "--quiet", "--listen", "0.0.0.0"], 1, Some(ANY), true),
+    (&["--quiet", "--quiet"], 1, None, true),
+    (&["--listen", "::", "--listen", "::"], 2, Some(ANY_6), false),
+    (&["--listen", "here", "--quiet"], 2, None, true),
+];
+
+/// All addresses of this machine.
+const ANY: IpAddr = IpAddr::V4(Ipv4Addr::UNSPECIFIED);
+
+/// The same, of IPv6.
+const ANY_6: IpAddr = IpAddr::V6(Ipv6Addr::UNSPECIFIED);
+
+#[test]
+fn flags_stand_behind_the_words_each_once(rt: HostRuntime) -> Result<(), Fail> {
+    for (line, count, listen, quiet) in FLAGS {
+        let words = texts(rt.alloc(), line)?;
+        let (others, told) = flags_of(words.as_slice());
+        assert!(rt;
+            others.len() == count && told == Flags { listen, quiet },
+            "{line:?}"
+        );
+    }
     Ok(())
 }

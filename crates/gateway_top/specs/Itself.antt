@@ -21,6 +21,8 @@ help_text =
     ++ codes "prints how many octets, searches and links that took")
     ++ line_of (codes "serve CONFIG PORT WORKERS  serves clients at a port of this machine, "
     ++ codes "as many at once as there are workers (1 to 64)")
+    ++ line_of (codes "serve .. --listen ADDRESS  the same, at another address of this "
+    ++ codes "machine than 127.0.0.1")
     ++ line_of
     (codes "serve .. --quiet           the same, and logs no connection that begins or ends")
     ++ line_of (codes "--help                     prints this")

@@ -19,6 +19,7 @@ check CONFIG               reads a configuration, and prints how many databases 
 replay CONFIG SCRIPT       plays what a script says of clients, time and targets, and prints what clients are answered\n\
 load N                     plays N clients of four requests each, and prints how many octets, searches and links that took\n\
 serve CONFIG PORT WORKERS  serves clients at a port of this machine, as many at once as there are workers (1 to 64)\n\
+serve .. --listen ADDRESS  the same, at another address of this machine than 127.0.0.1\n\
 serve .. --quiet           the same, and logs no connection that begins or ends\n\
 --help                     prints this\n\
 --version                  prints the version\n";

@@ -5,6 +5,7 @@
 mod crossing;
 mod listening;
 mod serving;
+mod targets;
 #[cfg(test)]
 mod tests;
 mod workers;

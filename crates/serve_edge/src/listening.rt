@@ -3,35 +3,43 @@
 use log::{Log, error};
 use serve_top::ServeWords;
 use std::io::Result;
-use std::net::{Ipv4Addr, Net, SocketAddr, TcpListener, TcpStream};
+use std::net::{IpAddr, Net, SocketAddr, TcpListener, TcpStream};
 
-/// A listener at the port that is asked for, on the loopback address of this machine, or nothing where
-/// the system refuses it. The standard error is told which.
+/// A listener at an address of this machine and the port that is asked for, or nothing where the system
+/// refuses it. The standard error is told which, and of an address that is not loopback that there clients
+/// of other machines may ask, as nothing else says who may.
 pub(crate) fn listen<R: Net<Listener = TcpListener, Stream = TcpStream> + Eprint, L: Log>(
     runtime: &R,
     log: &L,
+    address: IpAddr,
     asked: ServeWords,
 ) -> Option<TcpListener> {
     let (port, workers) = (asked.port, asked.workers);
-    match bind(runtime, port) {
+    match bind(runtime, address, port) {
         Ok(listener) => {
             let _ = eprintln!(runtime;
-                "listening on 127.0.0.1, port {port}, with {workers} workers"
+                "listening on {address}, port {port}, with {workers} workers"
             );
+            if !address.is_loopback() {
+                let _ = eprintln!(runtime;
+                    "clients of other machines may connect, and no rules say who may ask"
+                );
+            }
             Some(listener)
         }
         Err(error) => {
-            error!(log; "cannot listen on port {port}: {error}");
+            error!(log; "cannot listen on {address}, port {port}: {error}");
             None
         }
     }
 }
 
-/// A listener at a port, on 127.0.0.1.
+/// A listener at an address and a port.
 fn bind<R: Net<Listener = TcpListener, Stream = TcpStream>>(
     runtime: &R,
+    address: IpAddr,
     port: u32,
 ) -> Result<TcpListener> {
     let port = u16::try_from(port).unwrap_or(u16::MAX);
-    TcpListener::bind(runtime, SocketAddr::from((Ipv4Addr::LOCALHOST, port)))
+    TcpListener::bind(runtime, SocketAddr::from((address, port)))
 }

@@ -4,25 +4,27 @@ ghost use Rattle.gateway_config.specs.Outside.{sink_writes};
 ghost use Rattle.serve_top.specs.Outcome.{IsPrinted};
 
 use crate::listening::listen;
+use crate::targets::{add_targets, tell_limit};
 use crate::workers::{Edge, workers};
-use gateway_config::Status;
+use gateway_config::{ConfigRead, Status, read_config};
 use gw_outside::{Accept, Clock, Files, Sink, Wire};
 use log::Log;
+use route_config::Route;
 use serve_top::serve::Worker;
-use serve_top::{asked_of, top_serve};
+use serve_top::{ServeWords, asked_of, top_serve};
 use std::alloc::Global;
-use std::net::{Net, TcpListener, TcpStream};
-use std::sync::Wait;
-use std::sync::atomic::AtomicU64;
+use std::net::{IpAddr, Net, TcpListener, TcpStream};
+use std::sync::{Mutex, Wait};
 use std::thread::Threads;
 use std::{rt, time};
-use tcp_edge::SystemFiles;
+use tcp_edge::{SystemFiles, Totals};
 use test_target::TestWorld;
 use z_client::ZBackend;
 use z_types::Text;
 
-/// Listens and serves, as the words after the program's name say, until an accept fails. Where they are
-/// not those of `serve`, or the system refuses the port, it says so as `top_serve` does.
+/// Serves, as the words after the program's name say, at an address of this machine, until an accept fails.
+/// The configuration is read first: only where it is taken the port is listened on. Where the words are not
+/// those of `serve`, or the system refuses the port, it says so as `top_serve` does.
 pub fn serve<
     R: Net<Listener = TcpListener, Stream = TcpStream>
         + time::Clock
@@ -33,23 +35,60 @@ pub fn serve<
         + Sync,
     L: Log + Sync,
     K: Sink,
->(runtime: &R, alloc: Global, log: &L, words: &[Text], out: &mut K) -> Status
+>(
+    runtime: &R,
+    alloc: Global,
+    log: &L,
+    address: IpAddr,
+    words: &[Text],
+    files: &mut SystemFiles<'_, R>,
+    out: &mut K,
+) -> Status
     ensures printed { IsPrinted (sink_writes K.Sink out.old out.new) result }
 {
-    let accepted = AtomicU64::new(0);
+    let mut totals = Totals::new(alloc);
     let (listener, count) = match asked_of(words) {
-        Some(asked) => (listen(runtime, log, asked), asked.workers),
+        Some(asked) => {
+            let route = route_of(alloc, words, files);
+            let listener = open(runtime, log, address, asked, route, &mut totals);
+            (listener.map(Mutex::new), asked.workers)
+        }
         None => (None, 0),
     };
-    let Ok(mut workers) = workers(runtime, alloc, log, listener.as_ref(), &accepted, count) else {
+    let Ok(mut workers) = workers(runtime, alloc, log, listener.as_ref(), &totals, count) else {
         return Status::Memory;
     };
-    drop(listener);
-    serve_sockets(runtime, alloc, words, out, &mut workers)
+    let status = serve_sockets(runtime, alloc, words, files, out, &mut workers);
+    totals.tell(log);
+    status
+}
+
+/// The route that the words of `serve` name, where it is taken.
+fn route_of<F: Files>(alloc: Global, words: &[Text], files: &mut F) -> Option<Route> {
+    match read_config(alloc, files, words.get(1)?) {
+        ConfigRead::Taken(route) => Some(route),
+        ConfigRead::Refused(_) | ConfigRead::Failed | ConfigRead::Memory => None,
+    }
+}
+
+/// The listener that the words of `serve` ask for, where their route is taken and its targets have their
+/// places in the totals.
+fn open<R: Net<Listener = TcpListener, Stream = TcpStream> + Eprint, L: Log>(
+    runtime: &R,
+    log: &L,
+    address: IpAddr,
+    asked: ServeWords,
+    route: Option<Route>,
+    totals: &mut Totals,
+) -> Option<TcpListener> {
+    let route = route?;
+    let _ = add_targets(totals, &route);
+    tell_limit(log, &route, asked.workers);
+    listen(runtime, log, address, asked)
 }
 
 /// Serves over the system's files and sockets.
-fn serve_sockets<
+pub(crate) fn serve_sockets<
     R: Net<Listener = TcpListener, Stream = TcpStream>
         + time::Clock
         + rt::Files
@@ -58,15 +97,21 @@ fn serve_sockets<
         + Sync,
     L: Log + Sync,
     K: Sink,
->(runtime: &R, alloc: Global, words: &[Text], out: &mut K, workers: &mut Vec<Edge<R, L>>) -> Status
+>(
+    runtime: &R,
+    alloc: Global,
+    words: &[Text],
+    files: &mut SystemFiles<'_, R>,
+    out: &mut K,
+    workers: &mut Vec<Edge<R, L>>,
+) -> Status
     ensures printed { IsPrinted (sink_writes K.Sink out.old out.new) result }
 {
-    let mut files = SystemFiles::new(runtime);
-    serve_over(runtime, alloc, words, &mut files, out, workers)
+    serve_over(runtime, alloc, words, files, out, workers)
 }
 
 /// Serves over links that may go to other threads.
-pub(crate) fn serve_over<
+fn serve_over<
     R: Threads + Wait + Sync,
     N: Wire<TestWorld, Link: Send> + Drop + Send,
     A: Accept<In: Send, Out: Send> + Drop + Send,

@@ -1,25 +1,21 @@
 //! The command over sockets on loopback, with a client of Z39.50 and one of HTTP at one port.
 
-use crate::serving::serve_over;
-use crate::workers::{Edge, worker};
+use crate::serving::serve_sockets;
+use crate::workers::workers;
 use gateway_config::Status;
-use gw_memory::{MemoryFiles, MemorySink};
-use gw_outside::{Accept, Accepted};
+use gw_memory::MemorySink;
 use log::Log;
 use log::sink::Discard;
 use route_config::SMALLEST_TEXT;
-use serve_top::serve::Worker;
 use std::alloc::Global;
 use std::io::{Read, Result, Write};
-use std::net::{Net, SocketAddr, TcpListener, TcpStream};
-use std::sync::Wait;
-use std::sync::atomic::AtomicU64;
+use std::net::{Net, Shutdown, SocketAddr, TcpListener, TcpStream};
+use std::sync::{Mutex, Wait};
 use std::test::Fail;
 use std::thread::Threads;
-use std::{thread, time};
-use tcp_edge::{EdgeWire, SocketAccept, SocketSource, SystemClock, WriterSink};
-use z_client::ZBackend;
-use z_types::{End, List, Mark, Memory, Text};
+use std::{fs, rt, time};
+use tcp_edge::{SystemFiles, Totals};
+use z_types::{List, Memory, Text};
 
 /// An Init, and a Search for the letter `a` as title (ANSI/NISO Z39.50-2003, appendix A).
 const SENT: &[u8] = b"\
@@ -47,47 +43,6 @@ HTTP/1.1 200 OK\r\nContent-Type: text/xml; charset=utf-8\r\nContent-Length: 488\
 <zs:recordData><r>0.Default.4</r></zs:recordData><zs:recordPosition>1</zs:recordPosition></zs:record>\
 </zs:records><zs:nextRecordPosition>2</zs:nextRecordPosition></zs:searchRetrieveResponse>";
 
-/// The first connections of a listener, so many of them.
-#[derive(Drop)]
-struct Few<'a, R: time::Clock, L: Log> {
-    inner: SocketAccept<'a, R, L>,
-    left: u32,
-}
-
-impl<'a, R: time::Clock, L: Log> Accept for Few<'a, R, L> {
-    ghost use Rattle.std.specs.Prelude.{None};
-
-    type In = SocketSource;
-
-    type Out = WriterSink<TcpStream>;
-
-    ghost faults = { λ few. ⟦<SocketAccept<'a, R, L> as Accept>⟧.faults few.inner };
-
-    ghost left = { λ few. None };
-
-    ghost closed = { λ few. None };
-
-    ghost out = { λ few. None };
-
-    fn accept(&mut self) -> Accepted<SocketSource, WriterSink<TcpStream>> {
-        if self.left == 0 {
-            return Accepted::Ended;
-        }
-        self.left -= 1;
-        self.inner.accept()
-    }
-
-    fn close(
-        &mut self,
-        input: SocketSource,
-        output: WriterSink<TcpStream>,
-        marks: &[Mark],
-        end: End,
-    ) {
-        self.inner.close(input, output, marks, end);
-    }
-}
-
 /// The words of a line.
 fn texts(alloc: Global, line: &[&str]) -> std::result::Result<Vec<Text>, Memory> {
     let mut words = Vec::new(alloc);
@@ -97,100 +52,95 @@ fn texts(alloc: Global, line: &[&str]) -> std::result::Result<Vec<Text>, Memory>
     Ok(words)
 }
 
-/// A worker over the system whose acceptor ends.
-type EdgeFew<'a, R, L> = Worker<ZBackend<EdgeWire<'a, R, L>>, Few<'a, R, L>, SystemClock<'a, R>>;
-
-/// A worker that accepts so many connections.
-fn ending<'a, R: Net + time::Clock, L: Log>(edge: Edge<'a, R, L>, left: u32) -> EdgeFew<'a, R, L> {
-    let Worker {
-        backend,
-        accept,
-        clock,
-        served,
-    } = edge;
-    Worker {
-        backend,
-        accept: Few {
-            inner: accept,
-            left,
-        },
-        clock,
-        served,
-    }
-}
-
-/// The smallest configuration under the name `c`.
-fn files(alloc: Global) -> std::result::Result<MemoryFiles, Memory> {
-    let mut files = List::new(alloc);
-    files.push((
-        Text::copy_of(alloc, b"c")?,
-        Text::copy_of(alloc, SMALLEST_TEXT)?,
-    ))?;
-    Ok(MemoryFiles::new(files, List::new(alloc)))
-}
-
-/// Serves two clients of a listener, one after another, and tells whether it says so.
-fn serves<T: Threads + Wait + Sync>(
-    threads: &T,
-    runtime: &HostRuntime,
+/// Serves the clients that wait at a listener by the configuration `c`, until its next accept fails, and tells
+/// whether it says so.
+fn serves<
+    R: Net<Listener = TcpListener, Stream = TcpStream>
+        + time::Clock
+        + rt::Files
+        + Threads
+        + Wait
+        + Sync,
+    L: Log + Sync,
+>(
+    runtime: &R,
     alloc: Global,
+    log: &L,
     listener: TcpListener,
+    totals: &Totals,
 ) -> std::result::Result<bool, Memory> {
-    let accepted = AtomicU64::new(0);
-    let mut workers = Vec::new(alloc);
-    let edge = worker(runtime, alloc, &Discard, Some(listener), &accepted);
-    workers.push(ending(edge, 2))?;
     let words = texts(alloc, &["serve", "c", "2100", "1"])?;
-    let mut files = files(alloc)?;
+    let mut files = SystemFiles::new(runtime);
     let mut out = MemorySink::new(alloc, List::new(alloc));
-    let status = serve_over(
-        threads,
+    let listener = Mutex::new(listener);
+    let mut workers = workers(runtime, alloc, log, Some(&listener), totals, 1)?;
+    let status = serve_sockets(
+        runtime,
         alloc,
         words.as_slice(),
         &mut files,
         &mut out,
         &mut workers,
     );
-    Ok(status == Status::Ok && out.received() == b"served 2\n".as_slice())
+    Ok(status == Status::AcceptFault && out.received() == b"accept fault\n".as_slice())
 }
 
-/// Whether octets that are sent over a connection of their own are answered so.
-fn is_answered<R: Net<Stream = TcpStream>>(
+/// A client that has sent these octets, and sends no more.
+fn client<R: Net<Stream = TcpStream>>(
     runtime: &R,
-    alloc: Global,
     address: SocketAddr,
     sent: &[u8],
-    answered: &[u8],
-) -> Result<bool> {
+) -> Result<TcpStream> {
     let mut stream = TcpStream::connect(runtime, address)?;
     stream.write_all(sent)?;
-    let mut answer = vec![in alloc; 0u8; answered.len()]?;
-    stream.read_exact(answer.as_mut_slice())?;
-    Ok(answer.as_slice() == answered)
+    stream.shutdown(Shutdown::Write)?;
+    Ok(stream)
 }
 
-/// Whether a client of Z39.50 is answered, and then one of HTTP.
-fn are_answered<R: Net<Stream = TcpStream>>(
-    runtime: &R,
-    alloc: Global,
-    address: SocketAddr,
-) -> Result<bool> {
-    let by_units = is_answered(runtime, alloc, address, SENT, ANSWERED)?;
-    let by_head = is_answered(runtime, alloc, address, GET, PAGE)?;
-    Ok(by_units && by_head)
+/// Whether a client reads these octets, and no others.
+fn is_answered(alloc: Global, stream: &mut TcpStream, answered: &[u8]) -> Result<bool> {
+    let mut answer = vec![in alloc; 0u8; answered.len()]?;
+    stream.read_exact(answer.as_mut_slice())?;
+    let ended = stream.read(&mut [0u8; 1])? == 0;
+    Ok(ended && answer.as_slice() == answered)
+}
+
+/// Whether a client of Z39.50 and one of HTTP, both of which wait at a listener before it serves, are answered.
+fn are_answered<
+    R: Net<Listener = TcpListener, Stream = TcpStream>
+        + time::Clock
+        + rt::Files
+        + Threads
+        + Wait
+        + Sync,
+>(runtime: &R, alloc: Global, totals: &Totals) -> Result<bool> {
+    let listener = TcpListener::bind(runtime, "127.0.0.1:0")?;
+    let address = listener.local_addr()?;
+    let mut by_units = client(runtime, address, SENT)?;
+    let mut by_head = client(runtime, address, GET)?;
+    listener.set_nonblocking(true)?;
+    let served = serves(runtime, alloc, &Discard, listener, totals);
+    Ok(
+        matches!(served, Ok(true))
+            && is_answered(alloc, &mut by_units, ANSWERED)?
+            && is_answered(alloc, &mut by_head, PAGE)?,
+    )
 }
 
 #[test]
 fn clients_of_both_kinds_are_answered_at_one_port(
     rt: HostRuntime,
 ) -> std::result::Result<(), Fail> {
-    let listener = TcpListener::bind(&rt, "127.0.0.1:0")?;
-    let address = listener.local_addr()?;
-    let (answered, served) = thread::join(
-        &rt,
-        || are_answered(&rt, rt.alloc(), address),
-        || serves(&rt, &rt, rt.alloc(), listener),
+    let totals = Totals::new(rt.alloc());
+    fs::write(&rt, "c", SMALLEST_TEXT)?;
+    let answered = are_answered(&rt, rt.alloc(), &totals);
+    fs::remove_file(&rt, "c")?;
+    assert!(rt; answered?);
+    let told = format!(in rt.alloc(); "{totals}")?;
+    assert_eq!(rt;
+        told.as_str(),
+        "totals: 0 connections open, 2 served, \
+        requests 3 Plain, 0 Link, 0 Silent, 0 Gone, 0 Full"
     );
-    assert!(rt; served? && answered?);
     Ok(())
 }

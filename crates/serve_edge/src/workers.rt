@@ -4,9 +4,9 @@ use log::Log;
 use serve_top::serve::Worker;
 use std::alloc::Global;
 use std::net::{Net, TcpListener, TcpStream};
-use std::sync::atomic::AtomicU64;
+use std::sync::{Mutex, Wait};
 use std::time;
-use tcp_edge::{EdgeWire, SocketAccept, SystemClock};
+use tcp_edge::{EdgeWire, SocketAccept, SystemClock, Totals};
 use z_client::ZBackend;
 use z_types::{List, Memory};
 
@@ -19,38 +19,33 @@ pub(crate) type Edge<'a, R, L> = Worker<
 >;
 
 /// A worker that accepts what a listener gives; without one its first accept fails.
-pub(crate) fn worker<'a, R: Net<Stream = TcpStream> + time::Clock, L: Log>(
+pub(crate) fn worker<'a, R: Net<Stream = TcpStream> + time::Clock + Wait, L: Log>(
     runtime: &'a R,
     alloc: Global,
     log: &'a L,
-    listener: Option<TcpListener>,
-    accepted: &'a AtomicU64,
+    listener: Option<&'a Mutex<TcpListener>>,
+    totals: &'a Totals,
 ) -> Edge<'a, R, L> {
     Worker {
-        backend: ZBackend::new(alloc, EdgeWire::new(alloc, runtime, log)),
-        accept: SocketAccept::new(runtime, log, listener, accepted),
+        backend: ZBackend::new(alloc, EdgeWire::new(alloc, runtime, log, totals)),
+        accept: SocketAccept::new(runtime, log, listener, totals),
         clock: SystemClock::new(runtime),
         served: List::new(alloc),
     }
 }
 
-/// So many workers that accept what one listener gives.
-pub(crate) fn workers<'a, R: Net<Stream = TcpStream> + time::Clock, L: Log>(
+/// So many workers that accept what one listener gives, and count in the same totals.
+pub(crate) fn workers<'a, R: Net<Stream = TcpStream> + time::Clock + Wait, L: Log>(
     runtime: &'a R,
     alloc: Global,
     log: &'a L,
-    listener: Option<&TcpListener>,
-    accepted: &'a AtomicU64,
+    listener: Option<&'a Mutex<TcpListener>>,
+    totals: &'a Totals,
     count: u32,
 ) -> Result<Vec<Edge<'a, R, L>>, Memory> {
     let mut workers = Vec::new(alloc);
     for _ in 0..count {
-        workers.push(worker(runtime, alloc, log, shared(listener), accepted))?;
+        workers.push(worker(runtime, alloc, log, listener, totals))?;
     }
     Ok(workers)
-}
-
-/// The same listener again, where the system gives it.
-fn shared(listener: Option<&TcpListener>) -> Option<TcpListener> {
-    listener?.try_clone().ok()
 }

@@ -3,14 +3,16 @@
 ghost use Rattle.std.specs.Prelude.{◌≡◌, ◌≢◌, ◌≤◌, None, IfSome};
 ghost use Rattle.z_types.specs.Counts.{Rose};
 
-use crate::clocks::SystemClock;
+use crate::clocks::seconds;
+use crate::repeats::Times;
 use crate::sinks::WriterSink;
 use crate::sources::SocketSource;
-use gw_outside::{Accept, Accepted, Clock};
+use crate::totals::Totals;
+use gw_outside::{Accept, Accepted};
 use log::{Log, error, info};
 use std::io::{Error, ErrorKind, Result};
 use std::net::{SocketAddr, TcpListener, TcpStream};
-use std::sync::atomic::{AtomicU64, Ordering};
+use std::sync::{Mutex, Wait};
 use std::time;
 use std::time::Duration;
 use z_types::{End, Mark};
@@ -37,23 +39,24 @@ const NO_BUFFERS: i32 = 105;
 type Client = Accepted<SocketSource, WriterSink<TcpStream>>;
 
 /// The connections of a listener, which several acceptors may share. It logs each that is accepted and
-/// each that has ended. Without a listener each accept fails.
+/// each that has ended, and counts them in the totals. One of them waits at the listener at a time, since the
+/// system keeps a descriptor for each that waits there (accept(2)). Without a listener each accept fails.
 #[derive(Drop)]
 pub struct SocketAccept<'a, R: time::Clock, L: Log> {
     runtime: &'a R,
     log: &'a L,
-    listener: Option<TcpListener>,
-    accepted: &'a AtomicU64,
+    listener: Option<&'a Mutex<TcpListener>>,
+    totals: &'a Totals,
     faults: u64,
 }
 
-impl<'a, R: time::Clock, L: Log> SocketAccept<'a, R, L> {
-    /// An acceptor that has not failed yet; connections are numbered by what was accepted before.
+impl<'a, R: time::Clock + Wait, L: Log> SocketAccept<'a, R, L> {
+    /// An acceptor that has not failed yet; connections are numbered by how many were accepted before.
     pub fn new(
         runtime: &'a R,
         log: &'a L,
-        listener: Option<TcpListener>,
-        accepted: &'a AtomicU64,
+        listener: Option<&'a Mutex<TcpListener>>,
+        totals: &'a Totals,
     ) -> SocketAccept<'a, R, L>
         ensures { result.faults ≡ 0 }
     {
@@ -61,7 +64,7 @@ impl<'a, R: time::Clock, L: Log> SocketAccept<'a, R, L> {
             runtime,
             log,
             listener,
-            accepted,
+            totals,
             faults: 0,
         }
     }
@@ -72,15 +75,17 @@ impl<'a, R: time::Clock, L: Log> SocketAccept<'a, R, L> {
             → Rose self.old.faults self.new.faults) }
         ensures faults { self.old.faults ≤ self.new.faults }
     {
-        let Some(listener) = &self.listener else {
+        let Some(listener) = self.listener else {
             return Some(self.count_fault());
         };
-        match listener.accept() {
+        let accepted = listener.lock(self.runtime).accept();
+        match accepted {
             Ok((stream, peer)) => self.welcome(stream, peer),
             Err(error) => {
-                error!(self.log; "accept failed: {error}");
+                let passes = passes(&error);
+                self.tell_failed(&error, passes);
                 let failed = self.count_fault();
-                if passes(&error) { None } else { Some(failed) }
+                if passes { None } else { Some(failed) }
             }
         }
     }
@@ -90,31 +95,46 @@ impl<'a, R: time::Clock, L: Log> SocketAccept<'a, R, L> {
         ensures failed { IfSome result (λ client. client ≢ Accepted.Failed) }
         ensures faults { self.old.faults ≤ self.new.faults }
     {
-        let number = self
-            .accepted
-            .fetch_add(1, Ordering::SeqCst)
-            .saturating_add(1);
+        let number = self.totals.count_accepted();
         match halves(stream) {
             Ok((input, output)) => {
                 info!(self.log; "connection {number} from {peer}");
                 let begun = seconds(self.runtime);
+                self.totals.tell_due(self.log, begun);
                 Some(Accepted::Connection(
                     SocketSource::new(input, number, begun),
                     WriterSink::new(output),
                 ))
             }
             Err(error) => {
-                error!(self.log; "connection {number} from {peer} was lost: {error}");
+                self.tell_lost(number, peer, &error);
                 self.count_fault();
                 None
             }
         }
     }
 
+    /// Logs an accept that failed: once a second at most, unless it is the last.
+    fn tell_failed(&self, error: &Error, passes: bool) {
+        let counted = self.totals.refused.count(seconds(self.runtime));
+        if let Some(times) = counted.or(if passes { None } else { Some(Times(1)) }) {
+            error!(self.log; "accept failed: {error}{times}");
+        }
+    }
+
+    /// Counts a connection that was lost before it could be served, and logs it, once a second at most.
+    fn tell_lost(&self, number: u64, peer: SocketAddr, error: &Error) {
+        self.totals.count_ended(&[]);
+        if let Some(times) = self.totals.lost.count(seconds(self.runtime)) {
+            error!(self.log; "connection {number} from {peer} was lost: {error}{times}");
+        }
+    }
+
     /// Logs a connection that has ended: how, what it lasted and moved, and its requests, with those among
-    /// them whose mark is not Plain by the kind of their mark.
+    /// them whose mark is not Plain by the kind of their mark. Once a minute the totals follow.
     fn tell_end(&self, input: &SocketSource, written: u64, marks: &[Mark], end: End) {
-        let lasted = seconds(self.runtime).saturating_sub(input.begun());
+        let now = seconds(self.runtime);
+        let lasted = now.saturating_sub(input.begun());
         let [link, silent, gone, full] = counts_of(marks);
         info!(self.log;
             "connection {} ended after {lasted} seconds, {} octets in, {written} out, {} requests \
@@ -123,6 +143,7 @@ impl<'a, R: time::Clock, L: Log> SocketAccept<'a, R, L> {
             input.octets(),
             marks.len(),
         );
+        self.totals.tell_due(self.log, now);
     }
 
     /// One fault more.
@@ -136,7 +157,7 @@ impl<'a, R: time::Clock, L: Log> SocketAccept<'a, R, L> {
     }
 }
 
-impl<R: time::Clock, L: Log> Accept for SocketAccept<'_, R, L> {
+impl<R: time::Clock + Wait, L: Log> Accept for SocketAccept<'_, R, L> {
     type In = SocketSource;
 
     type Out = WriterSink<TcpStream>;
@@ -167,6 +188,7 @@ impl<R: time::Clock, L: Log> Accept for SocketAccept<'_, R, L> {
         end: End,
     ) {
         input.end();
+        self.totals.count_ended(marks);
         self.tell_end(&input, output.octets(), marks, end);
     }
 }
@@ -194,12 +216,6 @@ fn halves(stream: TcpStream) -> Result<(TcpStream, TcpStream)> {
     stream.set_write_timeout(Some(Duration::from_secs(STALLED_SECONDS)))?;
     let output = stream.try_clone()?;
     Ok((stream, output))
-}
-
-/// The seconds of the system's clock.
-fn seconds<R: time::Clock>(runtime: &R) -> u64 {
-    let mut clock = SystemClock::new(runtime);
-    clock.now()
 }
 
 /// Whether an accept that failed so says nothing of the listener: the client was gone before, or the

@@ -29,6 +29,12 @@ impl<'a, R: time::Clock> SystemClock<'a, R> {
     }
 }
 
+/// The seconds of the system's clock.
+pub(crate) fn seconds<R: time::Clock>(runtime: &R) -> u64 {
+    let mut clock = SystemClock::new(runtime);
+    clock.now()
+}
+
 impl<R: time::Clock> Clock for SystemClock<'_, R> {
     fn now(&mut self) -> u64 {
         match self.runtime.monotonic() {

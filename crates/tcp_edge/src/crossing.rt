@@ -4,6 +4,7 @@ use crate::{EdgeLink, EdgeWire, SocketAccept, SocketSource, SystemClock, SystemF
 use log::Log;
 use std::io::Write;
 use std::net::{Net, TcpStream};
+use std::sync::Wait;
 use std::{rt, time};
 use test_wire::{TestLink, TestWire};
 
@@ -24,7 +25,7 @@ pub fn links_cross() {
 
 /// An adapter over a runtime may go to another thread where the runtime and the log may be shared.
 pub fn adapters_cross<
-    R: Net<Stream = TcpStream> + time::Clock + rt::Files + Sync,
+    R: Net<Stream = TcpStream> + time::Clock + rt::Files + Wait + Sync,
     L: Log + Sync,
     W: Write + Drop + Send,
 >() {

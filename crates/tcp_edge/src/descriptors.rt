@@ -8,13 +8,13 @@ pub(crate) struct OpenedFile {
 }
 
 impl OpenedFile {
-    /// Opens the file of a name for reading, or answers `None` where the system does not.
-    pub(crate) fn open(name: &[u8]) -> Option<OpenedFile> {
+    /// Opens the file of a name for reading.
+    pub(crate) fn open(name: &[u8]) -> Result<OpenedFile> {
         let descriptor = os::open_read(name);
         if descriptor < 0 {
-            return None;
+            return Err(Error::from_raw_os_error(os::errno()));
         }
-        Some(OpenedFile { descriptor })
+        Ok(OpenedFile { descriptor })
     }
 }
 

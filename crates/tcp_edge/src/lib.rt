@@ -5,25 +5,34 @@
 mod accepts;
 mod clocks;
 mod crossing;
+mod dated;
 mod descriptors;
 mod files;
+mod limits;
 mod links;
+mod repeats;
 mod sinks;
 mod sources;
+mod standard;
 mod tally;
 #[cfg(test)]
 mod tests;
+mod totals;
 mod waits;
 mod wires;
 
 pub use accepts::SocketAccept;
 pub use clocks::SystemClock;
 pub use crossing::{adapters_cross, connections_cross, links_cross};
+pub use dated::DatedConsole;
 pub use files::SystemFiles;
+pub use limits::descriptor_limit;
 pub use links::{EdgeLink, TcpLink};
 pub use sinks::WriterSink;
 pub use sources::SocketSource;
+pub use standard::fill_standard_streams;
 pub use tally::Tally;
+pub use totals::Totals;
 pub use wires::EdgeWire;
 
 // Handed on: crates above name these through this one.

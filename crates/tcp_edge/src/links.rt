@@ -34,11 +34,13 @@ pub enum EdgeLink {
     Tcp(TcpLink),
 }
 
-/// A socket to a target: the number of its dial, and the octets that arrived and are not consumed.
+/// A socket to a target: its place in the totals, the number of its dial, and the octets that arrived and
+/// are not consumed.
 #[derive(Drop)]
 pub struct TcpLink {
     stream: TcpStream,
     pub(crate) address: SocketAddr,
+    pub(crate) place: Option<usize>,
     number: u64,
     pub(crate) arrived: BytesMut<Global>,
 }
@@ -60,13 +62,20 @@ impl Linked for EdgeLink {
 
 impl TcpLink {
     /// A link over a socket, over which nothing has arrived.
-    pub(crate) fn new(alloc: Global, stream: TcpStream, address: SocketAddr, number: u64) -> TcpLink
+    pub(crate) fn new(
+        alloc: Global,
+        stream: TcpStream,
+        address: SocketAddr,
+        place: Option<usize>,
+        number: u64,
+    ) -> TcpLink
         ensures arrived { result.arrived.items ≡ [] }
         ensures number { result.number ≡ number }
     {
         TcpLink {
             stream,
             address,
+            place,
             number,
             arrived: BytesMut::new(alloc),
         }

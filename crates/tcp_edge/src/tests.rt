@@ -2,13 +2,16 @@
 
 mod connections;
 mod files;
+mod lines;
 mod links;
 
 use std::io::Result;
-use std::net::{SocketAddr, TcpListener, TcpStream};
+use std::net::{Net, SocketAddr, TcpListener, TcpStream};
 
 /// A listener on loopback, and its address.
-fn listening(runtime: &HostRuntime) -> Result<(TcpListener, SocketAddr)> {
+fn listening<R: Net<Listener = TcpListener, Stream = TcpStream>>(
+    runtime: &R,
+) -> Result<(TcpListener, SocketAddr)> {
     let listener = TcpListener::bind(runtime, "127.0.0.1:0")?;
     let address = listener.local_addr()?;
     Ok((listener, address))

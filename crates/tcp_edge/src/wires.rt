@@ -9,8 +9,11 @@ ghost use Rattle.tcp_edge.specs.declared.links.EdgeLink.TheVariants as Edge;
 ghost use Rattle.tcp_edge.specs.Links.{arrived_at, peer_at};
 ghost use Rattle.tcp_edge.specs.Wires.{counts_in, happened_at};
 
+use crate::clocks::seconds;
 use crate::links::{EdgeLink, TcpLink, connect};
+use crate::repeats::Times;
 use crate::tally::Tally;
+use crate::totals::Totals;
 use crate::waits::Awaited;
 use gw_outside::{Dialled, Linked, Looked, Sent, Watched, Wire};
 use log::{Log, warn};
@@ -22,11 +25,12 @@ use test_wire::{TestLink, TestWire};
 use z_types::{Address, Text, World};
 
 /// A wire that serves test targets as a `TestWire`, and targets at hosts by a socket each. It logs each
-/// of these that failed.
+/// of these that failed, and counts in the totals what they were asked.
 #[derive(Drop)]
 pub struct EdgeWire<'a, R: Net + time::Clock, L: Log> {
     runtime: &'a R,
     log: &'a L,
+    totals: &'a Totals,
     test: TestWire,
     tally: Tally,
     awaited: Awaited,
@@ -34,12 +38,13 @@ pub struct EdgeWire<'a, R: Net + time::Clock, L: Log> {
 
 impl<'a, R: Net<Stream = TcpStream> + time::Clock, L: Log> EdgeWire<'a, R, L> {
     /// A wire without links, which counted nothing yet.
-    pub fn new(alloc: Global, runtime: &'a R, log: &'a L) -> EdgeWire<'a, R, L>
+    pub fn new(alloc: Global, runtime: &'a R, log: &'a L, totals: &'a Totals) -> EdgeWire<'a, R, L>
         ensures { counts_in result.tally ≡ no_counts }
     {
         EdgeWire {
             runtime,
             log,
+            totals,
             test: TestWire::new(alloc),
             tally: Tally::new(),
             awaited: Awaited::new(),
@@ -83,14 +88,16 @@ impl<'a, R: Net<Stream = TcpStream> + time::Clock, L: Log> EdgeWire<'a, R, L> {
         ensures counts { WireCounts false
             (dial_counted result) (counts_in self.old.tally) (counts_in self.new.tally) }
     {
+        let place = self.totals.place_of(host, port);
         match connect(self.runtime, host.as_slice(), port) {
             Ok((stream, address)) => {
+                self.tell_made(place);
                 self.tally.count_dial();
                 let number = self.tally.dials;
-                Dialled::Link(EdgeLink::Tcp(TcpLink::new(alloc, stream, address, number)))
+                Dialled::Link(EdgeLink::Tcp(TcpLink::new(alloc, stream, address, place, number)))
             }
             Err(error) => {
-                self.tell_unmade(host, port, error);
+                self.tell_unmade(place, host, port, error);
                 self.tally.count_fault();
                 Dialled::Failed
             }
@@ -133,9 +140,12 @@ impl<'a, R: Net<Stream = TcpStream> + time::Clock, L: Log> EdgeWire<'a, R, L> {
         ensures number { link.new.number ≡ link.old.number }
     {
         match link.send(unit) {
-            Ok(()) => Sent::Sent,
+            Ok(()) => {
+                self.tell_sent(link.place, unit);
+                Sent::Sent
+            }
             Err(error) => {
-                self.tell_failed(link.address, error);
+                self.tell_failed(link.place, link.address, error);
                 Sent::Failed
             }
         }
@@ -179,21 +189,48 @@ impl<'a, R: Net<Stream = TcpStream> + time::Clock, L: Log> EdgeWire<'a, R, L> {
         match link.look(&mut self.awaited) {
             Ok(looked) => looked,
             Err(error) => {
-                self.tell_failed(link.address, error);
+                self.tell_failed(link.place, link.address, error);
                 Looked::Failed
             }
         }
     }
 
+    /// Counts a link that was made with the target at a place in the totals.
+    fn tell_made(&self, place: Option<usize>) {
+        if let Some(target) = self.totals.target(place) {
+            target.count_dial();
+        }
+    }
+
+    /// Counts a unit that was sent to the target at a place in the totals, which are logged once a minute.
+    fn tell_sent(&self, place: Option<usize>, unit: &[u8]) {
+        if let Some(target) = self.totals.target(place) {
+            target.count_unit(unit);
+            self.totals.tell_due(self.log, seconds(self.runtime));
+        }
+    }
+
     /// Logs a target that could not be dialled.
-    fn tell_unmade(&self, host: &Text, port: u16, error: io::Error) {
-        let name = str::from_utf8(host.as_slice()).unwrap_or("?");
-        warn!(self.log; "target {name}:{port} cannot be dialled: {error}");
+    fn tell_unmade(&self, place: Option<usize>, host: &Text, port: u16, error: io::Error) {
+        let times = match self.totals.target(place) {
+            Some(target) => target.count_unmade(seconds(self.runtime)),
+            None => Some(Times(1)),
+        };
+        if let Some(times) = times {
+            let name = str::from_utf8(host.as_slice()).unwrap_or("?");
+            warn!(self.log; "target {name}:{port} cannot be dialled: {error}{times}");
+        }
     }
 
     /// Logs a target whose link failed.
-    fn tell_failed(&self, address: SocketAddr, error: io::Error) {
-        warn!(self.log; "target {address} failed: {error}");
+    fn tell_failed(&self, place: Option<usize>, address: SocketAddr, error: io::Error) {
+        let times = match self.totals.target(place) {
+            Some(target) => target.count_failed(seconds(self.runtime)),
+            None => Some(Times(1)),
+        };
+        if let Some(times) = times {
+            warn!(self.log; "target {address} failed: {error}{times}");
+        }
     }
 }
 

@@ -1,245 +1,296 @@
-//! Connections of a listener.
+//! Connections of a listener: steps of a client and of what serves it, played over one connection.
 
 use super::listening;
-use crate::SocketAccept;
 use crate::sinks::WriterSink;
 use crate::sources::SocketSource;
+use crate::{SocketAccept, Totals};
 use gw_outside::{Accept, Accepted, Got, Sink, Source, Took, write_all};
 use log::Log;
 use log::sink::{Discard, Memory};
-use std::alloc::Global;
 use std::io::{Read, Result, Write};
 use std::net::{Net, Shutdown, SocketAddr, TcpListener, TcpStream};
-use std::sync::atomic::{AtomicU64, Ordering};
+use std::sync::{Mutex, Wait};
 use std::test::Fail;
 use std::time::Duration;
-use std::{thread, time};
+use std::{io, time};
 use z_types::{End, Mark};
 
-/// An acceptor of a listener on loopback, and its address.
-fn accepting<'a, L: Log>(
-    runtime: &'a HostRuntime,
-    log: &'a L,
-    accepted: &'a AtomicU64,
-) -> Result<(SocketAccept<'a, HostRuntime, L>, SocketAddr)> {
-    let (listener, address) = listening(runtime)?;
-    let acceptor = SocketAccept::new(runtime, log, Some(listener), accepted);
-    Ok((acceptor, address))
+/// A step over a connection.
+#[derive(Clone, Copy, Debug)]
+enum Step {
+    /// The client sends these octets.
+    Sends(&'static [u8]),
+    /// The client sends no more.
+    Stops,
+    /// The client has an octet to read, and does not read it.
+    Sees,
+    /// The client goes, with what it did not read.
+    Goes,
+    /// No call waits longer than a moment from now on.
+    Hurries,
+    /// A read into three octets of room gives these.
+    Gives(&'static [u8]),
+    /// A read gives the end.
+    Ends,
+    /// A read fails, and leaves what it was to fill.
+    GivesNothing,
+    /// These octets are written.
+    Writes(&'static [u8]),
+    /// A write fails, at once or when the system has no more room.
+    TakesNothing,
+    /// The socket has no delay, and waits as long as it may.
+    IsSet,
 }
 
-/// The halves of the next connection, if there is one.
-fn next<R: time::Clock, L: Log>(
-    acceptor: &mut SocketAccept<'_, R, L>,
-) -> Option<(SocketSource, WriterSink<TcpStream>)> {
-    match acceptor.accept() {
-        Accepted::Connection(input, output) => Some((input, output)),
-        Accepted::Ended => None,
-        Accepted::Failed => None,
-    }
-}
+/// A case: its steps, and what the client reads behind them, where it is still there.
+type Case = (&'static [Step], &'static [u8]);
 
-/// Answers each piece of what a client sends in capitals, and tells the end.
-fn serve<S: Source, K: Sink>(source: &mut S, sink: &mut K) -> Got {
-    let mut piece = [0u8; 7];
-    for _ in 0..1000 {
-        match source.read(&mut piece) {
-            Got::Bytes(count) => {
-                piece[..count].make_ascii_uppercase();
-                if !write_all(sink, &piece[..count]) {
-                    return Got::Failed;
-                }
-            }
-            end => return end,
-        }
-    }
-    Got::Failed
-}
+/// A client that is answered, one that is silent and takes nothing, one that resets, and one that sent more
+/// than was read when its last reply was written.
+const CASES: [Case; 4] = [
+    (
+        &[
+            Step::IsSet,
+            Step::Sends(b"a line"),
+            Step::Gives(b"a l"),
+            Step::Gives(b"ine"),
+            Step::Writes(b"A LINE"),
+            Step::Stops,
+            Step::Ends,
+        ],
+        b"A LINE",
+    ),
+    (
+        &[
+            Step::Hurries,
+            Step::GivesNothing,
+            Step::TakesNothing,
+            Step::Goes,
+        ],
+        b"",
+    ),
+    (
+        &[
+            Step::Writes(b"unread"),
+            Step::Sees,
+            Step::Goes,
+            Step::GivesNothing,
+            Step::TakesNothing,
+        ],
+        b"",
+    ),
+    (
+        &[Step::Sends(&[b'x'; 9000]), Step::Writes(b"refused")],
+        b"refused",
+    ),
+];
 
-/// Serves the next clients, so many, and tells whether each ended well.
-fn serve_next<R: time::Clock, L: Log>(acceptor: &mut SocketAccept<'_, R, L>, clients: u32) -> bool {
-    for _ in 0..clients {
-        let Some((mut source, mut sink)) = next(acceptor) else {
-            return false;
-        };
-        let end = serve(&mut source, &mut sink);
-        acceptor.close(source, sink, &[], End::Closed);
-        if end != Got::End {
-            return false;
-        }
-    }
-    true
-}
-
-/// A client that has sent words, and no more.
-fn sender<R: Net<Stream = TcpStream>>(runtime: &R, address: SocketAddr) -> Result<TcpStream> {
-    let mut stream = TcpStream::connect(runtime, address)?;
-    stream.write_all(b"a line of words")?;
-    stream.shutdown(Shutdown::Write)?;
-    Ok(stream)
-}
-
-/// Sends words, and tells whether the answer is theirs to its end.
-fn is_answered<R: Net<Stream = TcpStream>>(
-    runtime: &R,
-    alloc: Global,
-    address: SocketAddr,
+/// Whether a step goes as it says, over the two ends of a connection.
+fn goes(
+    step: Step,
+    client: &mut Option<TcpStream>,
+    source: &mut SocketSource,
+    sink: &mut WriterSink<TcpStream>,
 ) -> bool {
-    let Ok(mut stream) = sender(runtime, address) else {
-        return false;
-    };
-    let mut answer = Vec::new(alloc);
-    stream.read_to_end(&mut answer).is_ok() && answer.as_slice() == b"A LINE OF WORDS".as_slice()
-}
-
-#[test]
-fn a_client_in_a_thread_is_answered(rt: HostRuntime) -> std::result::Result<(), Fail> {
-    let accepted = AtomicU64::new(0);
-    let (mut acceptor, address) = accepting(&rt, &Discard, &accepted)?;
-    let (answered, served) = thread::join(
-        &rt,
-        || is_answered(&rt, rt.alloc(), address),
-        || serve_next(&mut acceptor, 1),
-    );
-    assert!(rt; served && answered);
-    Ok(())
-}
-
-#[test]
-fn two_acceptors_of_one_listener_serve_at_once(rt: HostRuntime) -> std::result::Result<(), Fail> {
-    let accepted = AtomicU64::new(0);
-    let (listener, address) = listening(&rt)?;
-    let mut one = SocketAccept::new(&rt, &Discard, Some(listener.try_clone()?), &accepted);
-    let mut two = SocketAccept::new(&rt, &Discard, Some(listener), &accepted);
-    let first = sender(&rt, address)?;
-    let second = sender(&rt, address)?;
-    let served = thread::join(&rt, || serve_next(&mut one, 1), || serve_next(&mut two, 1));
-    assert!(rt; served.0 && served.1);
-    for mut client in [first, second] {
-        let mut answer = [0u8; 15];
-        client.read_exact(&mut answer)?;
-        assert!(rt; answer == *b"A LINE OF WORDS");
+    match step {
+        Step::Sends(octets) => sends(client, octets),
+        Step::Stops => stops(client),
+        Step::Sees => sees(client),
+        Step::Goes => client.take().is_some(),
+        Step::Hurries => hurries(source, sink),
+        Step::Gives(octets) => gives(source, octets),
+        Step::Ends => source.read(&mut [0u8; 7]) == Got::End,
+        Step::GivesNothing => gives_nothing(source),
+        Step::Writes(octets) => write_all(sink, octets),
+        Step::TakesNothing => takes_nothing(sink),
+        Step::IsSet => is_set(source, sink),
     }
-    assert!(rt; accepted.load(Ordering::SeqCst) == 2);
-    Ok(())
 }
 
-/// The address of a stream's own end.
-fn own_address(stream: &TcpStream) -> Result<SocketAddr> {
-    stream.local_addr()
+/// Whether a client sends octets.
+fn sends(client: &mut Option<TcpStream>, octets: &[u8]) -> bool {
+    match client {
+        Some(stream) => stream.write_all(octets).is_ok(),
+        None => false,
+    }
+}
+
+/// Whether a client ends what it sends.
+fn stops(client: &Option<TcpStream>) -> bool {
+    match client {
+        Some(stream) => stream.shutdown(Shutdown::Write).is_ok(),
+        None => false,
+    }
+}
+
+/// Whether a client has an octet to read.
+fn sees(client: &Option<TcpStream>) -> bool {
+    match client {
+        Some(stream) => matches!(stream.peek(&mut [0u8; 1]), Ok(1)),
+        None => false,
+    }
+}
+
+/// Whether calls can be told to wait no longer than a moment.
+fn hurries(source: &SocketSource, sink: &WriterSink<TcpStream>) -> bool {
+    let short = Some(Duration::from_millis(30));
+    source.stream.set_read_timeout(short).is_ok() && sink.writer.set_write_timeout(short).is_ok()
+}
+
+/// Whether a read into three octets of room gives these.
+fn gives(source: &mut SocketSource, octets: &[u8]) -> bool {
+    let mut piece = [0u8; 3];
+    source.read(&mut piece) == Got::Bytes(3) && piece.as_slice() == octets
+}
+
+/// Whether a read fails, and leaves what it was to fill.
+fn gives_nothing(source: &mut SocketSource) -> bool {
+    let mut piece = [7u8; 40];
+    source.read(&mut piece) == Got::Failed && piece == [7u8; 40]
+}
+
+/// Whether a write fails before so much was taken as no system has room for.
+fn takes_nothing(sink: &mut WriterSink<TcpStream>) -> bool {
+    let piece = [0u8; 4096];
+    (0..16384).any(|_| sink.write(&piece) == Took::Failed)
+}
+
+/// Whether the two halves have no delay, and wait as long as a client may let them.
+fn is_set(source: &SocketSource, sink: &WriterSink<TcpStream>) -> bool {
+    matches!(source.stream.nodelay(), Ok(true))
+        && source.stream.read_timeout().ok().flatten() == Some(Duration::from_secs(900))
+        && sink.writer.write_timeout().ok().flatten() == Some(Duration::from_secs(60))
+}
+
+/// Whether what a client reads to the end is this, or whether it has gone.
+fn reads(client: &mut Option<TcpStream>, octets: &[u8]) -> bool {
+    match client {
+        Some(stream) => {
+            let mut answer = [0u8; 40];
+            let count = octets.len().min(40);
+            stream.read_exact(&mut answer[..count]).is_ok()
+                && &answer[..count] == octets
+                && matches!(stream.read(&mut answer), Ok(0))
+        }
+        None => true,
+    }
+}
+
+/// Whether all steps go as they say.
+fn go(
+    steps: &[Step],
+    client: &mut Option<TcpStream>,
+    source: &mut SocketSource,
+    sink: &mut WriterSink<TcpStream>,
+) -> bool {
+    let mut all = true;
+    for step in steps {
+        all = all && goes(*step, client, source, sink);
+    }
+    all
+}
+
+/// Whether the next connection of an acceptor, which a client has begun, goes as a case says.
+fn is_served<R: time::Clock + Wait, L: Log>(
+    acceptor: &mut SocketAccept<'_, R, L>,
+    client: &mut Option<TcpStream>,
+    case: Case,
+) -> bool {
+    match acceptor.accept() {
+        Accepted::Connection(mut source, mut sink) => {
+            let gone = go(case.0, client, &mut source, &mut sink);
+            let marks = [Mark::Plain, Mark::Link, Mark::Silent(2), Mark::Link];
+            acceptor.close(source, sink, &marks, End::Finished);
+            gone && reads(client, case.1)
+        }
+        Accepted::Ended => false,
+        Accepted::Failed => false,
+    }
+}
+
+/// Whether a connection to an acceptor at this address goes as a case says.
+fn goes_so<R: Net<Stream = TcpStream> + time::Clock + Wait, L: Log>(
+    runtime: &R,
+    acceptor: &mut SocketAccept<'_, R, L>,
+    address: SocketAddr,
+    case: Case,
+) -> bool {
+    match TcpStream::connect(runtime, address) {
+        Ok(client) => is_served(acceptor, &mut Some(client), case),
+        Err(_) => false,
+    }
+}
+
+/// How many cases, one after another, go as they say.
+fn count_so<R: Net<Listener = TcpListener, Stream = TcpStream> + time::Clock + Wait, L: Log>(
+    runtime: &R,
+    log: &L,
+    totals: &Totals,
+) -> Result<usize> {
+    let (listener, address) = listening(runtime)?;
+    let listener = Mutex::new(listener);
+    let mut acceptor = SocketAccept::new(runtime, log, Some(&listener), totals);
+    let mut count = 0usize;
+    for case in CASES {
+        if goes_so(runtime, &mut acceptor, address, case) {
+            count = count.saturating_add(1);
+        }
+    }
+    Ok(count)
+}
+
+#[test]
+fn connections_go_as_their_steps_say(rt: HostRuntime) -> std::result::Result<(), Fail> {
+    let totals = Totals::new(rt.alloc());
+    let count = count_so(&rt, &Discard, &totals);
+    assert!(rt; matches!(count, Ok(4)));
+    let told = format!(in rt.alloc(); "{totals}")?;
+    assert_eq!(rt;
+        told.as_str(),
+        "totals: 0 connections open, 4 served, \
+        requests 4 Plain, 8 Link, 4 Silent, 0 Gone, 0 Full"
+    );
+    Ok(())
 }
 
 #[test]
 fn a_connection_is_logged_by_its_number(rt: HostRuntime) -> std::result::Result<(), Fail> {
     let log = Memory::new(rt.alloc());
-    let accepted = AtomicU64::new(6);
-    let (mut acceptor, address) = accepting(&rt, &log, &accepted)?;
-    let client = sender(&rt, address)?;
-    let (mut source, mut sink) = next(&mut acceptor).ok_or("none")?;
-    assert!(rt; serve(&mut source, &mut sink) == Got::End);
-    let marks = [Mark::Plain, Mark::Link, Mark::Silent(2), Mark::Link];
-    acceptor.close(source, sink, &marks, End::Finished);
-    drop(acceptor);
+    let totals = Totals::new(rt.alloc());
+    let count = count_so(&rt, &log, &totals);
+    assert!(rt; matches!(count, Ok(4)));
     let lines = log.into_lines();
-    let [begun, ended] = lines.as_slice() else {
+    let [begun, ended, ..] = lines.as_slice() else {
         return Err("not two lines".into());
     };
-    let from = format!(in rt.alloc(); "connection 7 from {}", own_address(&client)?)?;
-    assert!(rt; begun.as_str().ends_with(from.as_str()));
-    assert!(rt; ended.as_str().contains("connection 7 ended after "));
-    let told = "15 octets in, 15 out, 4 requests (2 Link, 1 Silent, 0 Gone, 0 Full), Finished";
+    assert!(rt; begun.as_str().contains("connection 1 from 127.0.0.1:"));
+    assert!(rt; ended.as_str().contains("connection 1 ended after "));
+    let told = "6 octets in, 6 out, 4 requests (2 Link, 1 Silent, 0 Gone, 0 Full), Finished";
     assert!(rt; ended.as_str().ends_with(told));
     Ok(())
 }
 
-#[test]
-fn an_accepted_socket_has_no_delay_and_waits_no_longer(
-    rt: HostRuntime,
-) -> std::result::Result<(), Fail> {
-    let accepted = AtomicU64::new(0);
-    let (mut acceptor, address) = accepting(&rt, &Discard, &accepted)?;
-    let _client = sender(&rt, address)?;
-    let (source, sink) = next(&mut acceptor).ok_or("none")?;
-    assert!(rt; source.stream.nodelay()?);
-    assert!(rt; source.stream.read_timeout()? == Some(Duration::from_secs(900)));
-    assert!(rt; sink.writer.write_timeout()? == Some(Duration::from_secs(60)));
-    Ok(())
-}
-
-#[test]
-fn a_client_that_is_silent_or_stalled_is_a_fault(rt: HostRuntime) -> std::result::Result<(), Fail> {
-    let accepted = AtomicU64::new(0);
-    let (mut acceptor, address) = accepting(&rt, &Discard, &accepted)?;
-    let _client = TcpStream::connect(&rt, address)?;
-    let (mut source, mut sink) = next(&mut acceptor).ok_or("none")?;
-    let short = Some(Duration::from_millis(30));
-    assert!(rt; source.stream.set_read_timeout(short).is_ok());
-    assert!(rt; source.stream.set_write_timeout(short).is_ok());
-    let mut piece = [7u8; 40];
-    assert!(rt; source.read(&mut piece) == Got::Failed);
-    assert!(rt; piece == [7u8; 40]);
-    let mut long = Vec::new(rt.alloc());
-    long.resize(1 << 20, 0u8)?;
-    assert!(rt; (0..64).any(|_| !write_all(&mut sink, long.as_slice())));
-    Ok(())
-}
-
-#[test]
-fn a_client_that_resets_is_a_fault(rt: HostRuntime) -> std::result::Result<(), Fail> {
-    let accepted = AtomicU64::new(0);
-    let (mut acceptor, address) = accepting(&rt, &Discard, &accepted)?;
-    let client = TcpStream::connect(&rt, address)?;
-    let (mut source, mut sink) = next(&mut acceptor).ok_or("none")?;
-    assert!(rt; write_all(&mut sink, b"unread"));
-    assert!(rt; client.peek(&mut [0u8; 1]).is_ok());
-    drop(client);
-    let mut piece = [7u8; 40];
-    assert!(rt; source.read(&mut piece) == Got::Failed);
-    assert!(rt; piece == [7u8; 40]);
-    assert!(rt; sink.write(b"more") == Took::Failed);
-    Ok(())
-}
-
-#[test]
-fn a_client_reads_the_last_reply_though_it_sent_more(
-    rt: HostRuntime,
-) -> std::result::Result<(), Fail> {
-    let accepted = AtomicU64::new(0);
-    let (mut acceptor, address) = accepting(&rt, &Discard, &accepted)?;
-    let mut client = TcpStream::connect(&rt, address)?;
-    client.write_all(&[b'x'; 9000])?;
-    let (source, mut sink) = next(&mut acceptor).ok_or("none")?;
-    assert!(rt; write_all(&mut sink, b"refused"));
-    acceptor.close(source, sink, &[], End::Closed);
-    let mut answer = Vec::new(rt.alloc());
-    client.read_to_end(&mut answer)?;
-    assert!(rt; answer.as_slice() == b"refused".as_slice());
-    Ok(())
+/// Whether an accept without a listener, and one of a listener that has nothing to give at once, fail.
+fn fail<'a, R: Net<Listener = TcpListener, Stream = TcpStream> + time::Clock + Wait, L: Log>(
+    runtime: &'a R,
+    log: &'a L,
+    totals: &'a Totals,
+) -> io::Result<bool> {
+    let (listener, _) = listening(runtime)?;
+    let is_set = listener.set_nonblocking(true).is_ok();
+    let listener = Mutex::new(listener);
+    let mut of_none = SocketAccept::new(runtime, log, None, totals);
+    let mut of_one = SocketAccept::new(runtime, log, Some(&listener), totals);
+    Ok(
+        is_set
+            && matches!(of_none.accept(), Accepted::Failed)
+            && matches!(of_one.accept(), Accepted::Failed),
+    )
 }
 
 #[test]
 fn a_listener_that_fails_is_a_fault(rt: HostRuntime) -> std::result::Result<(), Fail> {
-    let accepted = AtomicU64::new(0);
-    let (listener, _) = listening(&rt)?;
-    listener.set_nonblocking(true)?;
-    let mut acceptor = SocketAccept::new(&rt, &Discard, Some(listener), &accepted);
-    assert!(rt; matches!(acceptor.accept(), Accepted::Failed));
-    let mut acceptor = SocketAccept::new(&rt, &Discard, None, &accepted);
-    assert!(rt; matches!(acceptor.accept(), Accepted::Failed));
-    assert!(rt; accepted.load(Ordering::SeqCst) == 0);
-    Ok(())
-}
-
-#[test]
-fn a_port_can_be_listened_on_again_at_once(rt: HostRuntime) -> std::result::Result<(), Fail> {
-    let accepted = AtomicU64::new(0);
-    let (mut acceptor, address) = accepting(&rt, &Discard, &accepted)?;
-    let mut client = TcpStream::connect(&rt, address)?;
-    let (source, sink) = next(&mut acceptor).ok_or("none")?;
-    acceptor.close(source, sink, &[], End::Closed);
-    assert!(rt; client.read(&mut [0u8; 1])? == 0);
-    drop(client);
-    drop(acceptor);
-    let again = TcpListener::bind(&rt, address)?;
-    assert!(rt; again.local_addr()? == address);
+    let totals = Totals::new(rt.alloc());
+    assert!(rt; matches!(fail(&rt, &Discard, &totals), Ok(true)));
     Ok(())
 }

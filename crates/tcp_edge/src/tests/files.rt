@@ -47,7 +47,12 @@ fn files_are_read_whole_or_told(rt: HostRuntime) -> Result<(), Fail> {
         let got = words_of(alloc, files.read_all(alloc, &own, limit))?;
         assert!(rt; got.as_slice() == wanted, "{name:?} {limit}");
     }
+    assert!(rt; files.reason().is_some());
     fs::remove_file(&rt, "five")?;
+    assert!(rt; files.first_text() == Some(OCTETS));
+    let five = Text::copy_of(alloc, b"five")?;
+    let again = words_of(alloc, files.read_all(alloc, &five, 5))?;
+    assert!(rt; again.as_slice() == OCTETS);
     Ok(())
 }
 
