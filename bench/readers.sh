@@ -2,11 +2,12 @@
 root=$(cd "$(dirname "${BASH_SOURCE[0]}")/.." && pwd) || exit 1
 program=$("$root/bench/crate.sh" "${bench:-bench_readers}") || exit 1
 
-# Nanoseconds that the program takes for a shape of so many octets, or sessions, so many times.
+# Nanoseconds that the program takes for a shape of so many octets, or sessions, so many times, and a fourth word where
+# there is one.
 nanoseconds() {
     local begun
     begun=$(date +%s%N)
-    "$program" "$1" "$2" "$3" >/dev/null || exit 1
+    "$program" "$1" "$2" "$3" ${4:+"$4"} >/dev/null || exit 1
     echo $(($(date +%s%N) - begun))
 }
 
@@ -42,7 +43,7 @@ demand() {
 median_each() {
     local made whole
     for _ in 1 2 3 4 5; do
-        made=$(nanoseconds "$1" "$2" 0) && whole=$(nanoseconds "$1" "$2" "$3") || exit 1
+        made=$(nanoseconds "$1" "$2" 0 ${4:+"$4"}) && whole=$(nanoseconds "$1" "$2" "$3" ${4:+"$4"}) || exit 1
         echo $(((whole - made) / $3))
     done | sort -n | awk 'NR == 3 { middle = $1 } END { if (NR != 5) exit 1; print (middle > 0 ? middle : 1) }'
 }

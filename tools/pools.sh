@@ -1,7 +1,7 @@
 #!/bin/bash
-# Plays 50,000 generated calls, the same ones each time, at the plain pool, at the pool by indexes, and at one by indexes
-# where the digests of all keys are one, and compares what they answer, call by call. Ends with status 1 where an answer
-# is another one.
+# Plays 50,000 generated calls by clients of four logins, one of which is none and one empty, the same ones each time, at the
+# plain pool, at the pool by indexes, and at one by indexes where the digests of all keys are one, and compares what they
+# answer, call by call. Ends with status 1 where an answer is another one.
 bench=bench_pool
 calls=50000
 . "$(dirname "$0")/../bench/readers.sh"

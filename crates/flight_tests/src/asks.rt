@@ -69,6 +69,7 @@ fn hits_leg<W: World, S: Sitting<W>>(
 {
     Ok(Leg::new(LegAsk {
         leg: place,
+        login: None,
         key: Some(key_of(alloc, name)?),
         job: Job::Hits,
     }))

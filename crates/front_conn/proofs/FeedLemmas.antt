@@ -36,7 +36,7 @@ stands-at-start w t route = record {
     replies = refl;
     client = refl;
     standing = refl;
-    sets = tt;
+    sets = record { none_before = λ h. refl; each = tt };
   };
   waits_not = refl;
 }

@@ -115,6 +115,20 @@ met-due route here None asks h = absurd cc
 met-due route here (Some read) asks h =
     ap Some (tested-due asks read (are_units_spent route.limits here.units) (is_in_place here read) h)
 
+-- and it is in its place
+placed-by : (here : Progress) (asks read : Request) (spent placed : Bool) → is_in_place here read ≡ placed
+    → (if spent then course.beyond read else if placed then met_in_place read else course.bad) ≡ course.due asks
+    → is_in_place here asks ≡ true
+placed-by here asks read true placed is h = absurd cc
+placed-by here asks read false true is h = subst (λ (r : Request). is_in_place here r ≡ true) (in_place-due asks read h) is
+placed-by here asks read false false is h = absurd cc
+
+pub met-placed : (route : Route) (here : Progress) (read : Option Request) (asks : Request)
+    → met route here read ≡ course.due asks → is_in_place here asks ≡ true
+met-placed route here None asks h = absurd cc
+met-placed route here (Some read) asks h =
+    placed-by here asks read (are_units_spent route.limits here.units) (is_in_place here read) refl h
+
 -- ---- where a connection stands
 
 -- the states of a connection, by its end and the request in work

@@ -1,6 +1,6 @@
 -- A connection whose request in work had its turn stands as before, or behind the request.
-use Rattle.std.proofs.Common.{◌≡◌, ℕ, List, [], ◌∷◌, ◌++◌, Option, Some, None, Result, Ok, Err, append_assoc, refl, sym, ap, ◌∙◌, subst}
-use Rattle.std.specs.Prelude.{map}
+use Rattle.std.proofs.Common.{◌≡◌, ℕ, Bool, true, false, length, List, [], ◌∷◌, ◌++◌, Option, Some, None, Result, Ok, Err, append_assoc, refl, sym, ap, ◌∙◌, subst}
+use Rattle.std.specs.Prelude.{◌||◌, map}
 use Rattle.std.specs.List.{AllByRecursion}
 use Rattle.z_types.specs.declared.marks.End.{End}
 use Rattle.z_types.specs.declared.marks.Mark.{Mark}
@@ -12,22 +12,23 @@ use Rattle.z_types.specs.declared.requests.Request.TheVariants as request
 use Rattle.z_types.specs.declared.sitting.Sitting as sitting
 use Rattle.z_types.specs.declared.work.Work.{Work}
 use Rattle.z_types.specs.declared.world.World as world
+use Rattle.z_types.specs.Under.{under}
 use Rattle.route_config.specs.Sound.{IsSound}
 use Rattle.route_config.specs.declared.route.Route.{Route}
 use Rattle.unit_forms.specs.Replies.{spell_reply}
 use Rattle.front_z.specs.gateway_rules.Asking as asking
-use Rattle.front_z.specs.gateway_rules.Asking.{Asking, asked}
-use Rattle.front_z.specs.gateway_rules.Course.{octets_of}
+use Rattle.front_z.specs.gateway_rules.Asking.{Asking, asked, hits_meant}
+use Rattle.front_z.specs.gateway_rules.Course.{accepts, is_in_place, octets_of}
 use Rattle.front_z.specs.gateway_rules.Fair.{IsFair}
 use Rattle.front_z.specs.gateway_rules.Marks.{Cause, IsAllowed}
-use Rattle.front_z.specs.gateway_rules.Outcomes.{classes_asked, outcome_of}
+use Rattle.front_z.specs.gateway_rules.Outcomes.{classes_asked, login_asked, outcome_of}
 use Rattle.front_z.specs.gateway_rules.Session.{answer_to, answered, classes_of, reached}
 use Rattle.front_z.specs.gateway_rules.Settling.{Settled, agreed_after, settled}
-use Rattle.front_z.specs.gateway_rules.State.{ClientState}
+use Rattle.front_z.specs.gateway_rules.State.{ClientState, Progress}
 use Rattle.front_z.specs.gateway_rules.declared.agreement.Agreement.{Agreement}
 use Rattle.front_z.specs.front_session.Admitting.{HasGivenHits, waits}
-use Rattle.z_sets.specs.Sets.{stored}
-use Rattle.front_z.specs.front_session.Sessions.{SessionState, Waiting, client_of}
+use Rattle.z_sets.specs.Sets.{set_named, stored}
+use Rattle.front_z.specs.front_session.Sessions.{SessionState, Waiting, client_of, progress_of}
 use Rattle.front_z.specs.Units.{IsEnded, Served}
 use Rattle.package.specs.leg.declared.answers.Turned.{Turned}
 use Rattle.package.specs.leg.declared.answers.Turned.TheVariants as turned
@@ -49,10 +50,11 @@ use Rattle.front_http.specs.front_sru.declared.state.SruStage.TheVariants.{Idle,
 use Rattle.front_http.specs.Gets.{GoesOnBehind, IsAnswered, StandsInGet, WaitsFor}
 use Rattle.front_http.specs.Laws.{GetsGoOn}
 use Rattle.front_conn.specs.steps.Answering.{AnsweringState, EndsAt, EndsWork, IsAnsweredBy, IsAnsweredUnder, IsEndAfter, IsGetEnded, IsKeptBehindGet, WorksOn, get_served, served}
-use Rattle.front_conn.specs.steps.States.{ConnectionState, HasAnswered, HasLegsOf, HasMeantHits, IsOneWork, IsStateOf, IsWaitedAt, Rests, Works, WorksAt, WorksOnGet}
+use Rattle.front_conn.specs.steps.States.{ConnectionState, HasAnswered, HasLegsOf, HasMeantHits, HaveMeantHits, IsOneWork, IsStateOf, IsWaitedAt, Rests, Works, WorksAt, WorksOnGet}
 use Rattle.front_conn.specs.steps.Steps.{IsInputKept, KeepsState, UnlessMemory, answering_of}
 use Rattle.front_conn.proofs.SetLemmas.{asked-hits, sets-legs, sets-meant}
-use Rattle.front_conn.proofs.StateLemmas.{answered-more, begins-snoc, of-ended, of-standing, works-at, works-get, works-idle}
+use Rattle.front_conn.proofs.StateLemmas.{answered-more, begins-snoc, met-placed, of-ended, of-standing, works-at, works-get, works-idle}
+use Rattle.front_conn.proofs.WorkLemmas.{asked-login}
 
 -- ---- a request that is answered by what came of its legs
 
@@ -97,30 +99,61 @@ still-client w route before asks job h =
 settled-answered : {W : Type 0} (w : world.Ghosts W) (route : Route) (client behind : ClientState) (asks : Request) (job : Work)
     (got : Outcome) (cause : Cause) → asked w route client asks ≡ asking.works job → got ≡ outcome_of w route job cause → behind ≡ client
     → settled behind asks job got ≡ answered w route client asks cause
-settled-answered w route client behind asks job got cause due true same =
-    ap (λ (o : Outcome). settled behind asks job o) true
+settled-answered w route client behind asks job got cause due truly same =
+    ap (λ (o : Outcome). settled behind asks job o) truly
     ∙ ap (λ (c : ClientState). settled c asks job (outcome_of w route job cause)) same
     ∙ ap (λ (d : Asking). answer_to w route client asks cause d) (sym due)
+
+-- a request that has work is in its place behind an Init that was accepted
+works-accepted : {W : Type 0} (w : world.Ghosts W) (route : Route) (client : ClientState) (here : Progress) (asks : Request) (job : Work)
+    → asked w route client asks ≡ asking.works job → is_in_place here asks ≡ true → here.accepted ≡ true
+works-accepted w route client here (request.Init init) job h placed = absurd cc
+works-accepted w route client here (request.Search search) job h placed = placed
+works-accepted w route client here (request.Present present) job h placed = placed
+works-accepted w route client here (request.Scan scan) job h placed = placed
+works-accepted w route client here (request.Close close) job h placed = placed
+
+or-true : (accepted more : Bool) → accepted ≡ true → (accepted || more) ≡ false → ⊥
+or-true true more is none = absurd cc
+or-true false more is none = absurd cc
+
+-- its sets have the hits that the targets mean
+behind-meant : {W : Type 0} (w : world.Ghosts W) (route : Route) (asks : Request) (job : Work) (before new : SessionState) (cause : Cause)
+    → asked w route (client_of before) asks ≡ asking.works job → before.accepted ≡ true
+    → new.accepted ≡ (before.accepted || accepts (Some asks)) → new.agreed ≡ agreed_after before.agreed asks
+    → HaveMeantHits w route before → AllByRecursion (HasGivenHits before.sets job (outcome_of w route job cause)) new.sets
+    → HaveMeantHits w route new
+behind-meant w route asks job before new cause due accepted stays agreed sets hits =
+    let told : List ℕ → List ℕ = λ name. hits_meant (under before.agreed.login w) route (set_named name (map stored before.sets)) in
+    let own : login_asked job ≡ before.agreed.login = asked-login told route (client_of before) asks job due in
+    let login : login_asked job ≡ new.agreed.login =
+    own ∙ sym (ap (λ (a : Agreement). a.login) (agreed ∙ still-agreed w route (client_of before) before.agreed asks job due)) in
+    let there = subst (λ (l : Option (List ℕ)). AllByRecursion (HasMeantHits (under l w) route) before.sets) (sym own) sets.each in
+    record {
+      none_before = λ h. absurd (or-true before.accepted (accepts (Some asks)) accepted (sym stays ∙ h));
+      each = subst (λ (l : Option (List ℕ)). AllByRecursion (HasMeantHits (under l w) route) new.sets) login
+          (sets-meant w route before.sets job cause new.sets there hits);
+    }
 
 -- so it is answered under the cause of its legs
 answered-under : {W : Type 0} (w : world.Ghosts W) (route : Route) (asks : Request) (job : Work) (before : SessionState) (out : List ℕ)
     (new : Served) (got : Outcome) (cause : Cause) → asked w route (client_of before) asks ≡ asking.works job
-    → AllByRecursion (HasMeantHits w route) before.sets → got ≡ outcome_of w route job cause
+    → before.accepted ≡ true → HaveMeantHits w route before → got ≡ outcome_of w route job cause
     → IsEnded (record { session = waits before asks (record { request = asks; work = job }); out = out }) new
     (record { request = asks; work = job }) got
     → IsAnsweredUnder w route asks cause (record { session = before; out = out }) new
-answered-under w route asks job before out new got cause due sets true ended =
+answered-under w route asks job before out new got cause due accepted sets truly ended =
     let same = still-client w route before asks job due in
-    let answers = settled-answered w route (client_of before) _ asks job got cause due true same in
+    let answers = settled-answered w route (client_of before) _ asks job got cause due truly same in
     let reply = ended.settled.reply-is ∙ ap (λ (s : Settled). s.reply) answers in
-    let hits = subst (λ (o : Outcome). AllByRecursion (HasGivenHits before.sets job o) new.session.sets) true ended.settled.hits in
+    let hits = subst (λ (o : Outcome). AllByRecursion (HasGivenHits before.sets job o) new.session.sets) truly ended.settled.hits in
     record {
       written = ended.written ∙ ap (λ r. out ++ spell_reply r) reply;
       client = ended.settled.client-is ∙ ap (λ (s : Settled). s.client) answers;
       accepted = ended.settled.accepted;
       units = ended.settled.units;
       waits_not = ended.settled.waits_no_more;
-      sets = sets-meant w route before.sets job cause new.session.sets sets hits;
+      sets = behind-meant w route asks job before new.session cause due accepted ended.settled.accepted ended.settled.agreed sets hits;
     }
 
 -- ---- where the connection stands
@@ -189,8 +222,10 @@ module _ {W S : Type 0} (w : world.Ghosts W) (t : sitting.Ghosts S W) (route : R
       (is_allowed route most next of over sound members) in
       let ended = settled-for k.request view.work k.before (served (answering_of old)) (served (answering_of new)) b.waiting
       (outcome_in route next) k.waits b.waited b.ended in
-      let a = answered-under w route k.request view.work k.before old.out later (outcome_in route next) cause k.asks k.answered.sets
-      true_next ended in
+      let a = answered-under w route k.request view.work k.before old.out later (outcome_in route next) cause k.asks
+      (works-accepted w route (client_of k.before) (progress_of (length (octets_of k.units)) k.before) k.request view.work k.asks
+      (met-placed route (progress_of (length (octets_of k.units)) k.before) k.unit.request k.request k.is_due))
+      k.answered.sets true_next ended in
       rests-then cause may a b.marks at left
 
 -- ---- a GET in work

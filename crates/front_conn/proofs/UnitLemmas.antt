@@ -33,10 +33,10 @@ use Rattle.front_z.specs.declared.units.Begun.{Begun}
 use Rattle.front_z.specs.declared.units.Begun.TheVariants as begun
 use Rattle.package.specs.steps.Packages.{new_package}
 use Rattle.front_conn.specs.steps.Answering.{AnsweringState, EndsByUnit, IsAnsweredUnder, IsKeptBehind, IsUnitBegun, served}
-use Rattle.front_conn.specs.steps.States.{ConnectionState, HasAnswered, HasLegsOf, HasMeantHits, IsStateOf, Rests, Works}
+use Rattle.front_conn.specs.steps.States.{ConnectionState, HasAnswered, HasLegsOf, HaveMeantHits, IsStateOf, Rests, Works}
 use Rattle.front_conn.specs.steps.Steps.{KeepsState, answering_of}
-use Rattle.front_conn.proofs.SetLemmas.{asked_with-meant}
-use Rattle.front_conn.proofs.StateLemmas.{answered-more, begins-snoc, kind-fed, met-at, of-ended, of-standing, offset-more, over-ended, rests-of, spelled-snoc, stand_of, unit-run, works-idle}
+use Rattle.front_conn.proofs.SetLemmas.{asked_with-meant, counted-meant}
+use Rattle.front_conn.proofs.StateLemmas.{answered-more, begins-snoc, kind-fed, met-at, met-placed, of-ended, of-standing, offset-more, over-ended, rests-of, spelled-snoc, stand_of, unit-run, works-idle}
 
 -- a unit was taken and begun
 pub record TookUnit {S : Type 0} (route : Route) (old new : ConnectionState S) (unit : List ℕ) : Type 0 where
@@ -57,7 +57,7 @@ served_of state = record { session = state.session; out = state.out }
 -- under the mark Plain
 at-once-plain : {W : Type 0} (w : world.Ghosts W) (route : Route) (asks : Request) (old new : Served) (reply : _)
     → asking.at_once reply ≡ asked w route (client_of old.session) asks → old.session.waiting ≡ None
-    → AllByRecursion (HasMeantHits w route) old.session.sets → new.out ≡ old.out ++ spell_reply reply
+    → HaveMeantHits w route (counted old.session asks) → new.out ≡ old.out ++ spell_reply reply
     → new.session ≡ counted old.session asks → IsAnsweredUnder w route asks plain old new
 at-once-plain w route asks old new reply e waits_not sets out session =
     let to : Asking → Settled = λ due. answer_to w route (client_of old.session) asks plain due in
@@ -67,7 +67,7 @@ at-once-plain w route asks old new reply e waits_not sets out session =
       accepted = ap (λ s. s.accepted) session;
       units = ap (λ s. s.units) session;
       waits_not = ap (λ s. s.waiting) session ∙ waits_not;
-      sets = subst (λ (s : SessionState). AllByRecursion (HasMeantHits w route) s.sets) (sym session) sets;
+      sets = subst (HaveMeantHits w route) (sym session) sets;
     }
 
 -- what was begun of a unit that is met so, with the unit
@@ -151,7 +151,9 @@ module _ {W S : Type 0} (w : world.Ghosts W) (route : Route) (fed written : List
   due-written asks (asking.at_once reply) mark end is e h kept =
       let of_mark : mark ≡ Some Plain = let b = h.0 in cc in
       let of_end : end ≡ None = let b = h.0 in cc in
-      let a = at-once-plain w route asks (served_of old) (served_of new) reply e rb.waits_not rb.answered.sets h.1.0 h.1.1 in
+      let here = stand_of rb.units old.session in
+      let sets = counted-meant w route here.at old.session asks (met-placed route here unit.request asks is) rb.answered.sets in
+      let a = at-once-plain w route asks (served_of old) (served_of new) reply e rb.waits_not sets h.1.0 h.1.1 in
       of-standing w route fed written new None (kept.0 ∙ of_end) kept.2
       (answered-once asks is a (kept.1 ∙ ap (λ m. old.marks ++ option_to_list m) of_mark))
 

@@ -28,6 +28,7 @@ use Rattle.route_config.specs.declared.route.Route.{Route}
 use Rattle.virt_db.specs.Legs.{distinct, legs_behind, legs_of}
 use Rattle.front_z.specs.gateway_rules.Asking.{Asking, at_once, asked_with, fetch_work, leg_work, query_work, scan_work, search_work, unless_refused, works}
 use Rattle.front_z.specs.gateway_rules.Checks.{checked, present_checks, scan_checks, search_checks}
+use Rattle.front_z.specs.gateway_rules.Outcomes.{login_asked}
 use Rattle.front_z.specs.gateway_rules.State.{ClientState}
 use Rattle.front_z.proofs.gateway_rules.Runs.{all-append}
 use Rattle.package.specs.package_rules.Planned.{AreThere}
@@ -36,22 +37,24 @@ use Rattle.front_conn.specs.steps.States.{HasLegsOf}
 -- ---- what a request asks
 
 -- a fetch is from this set, with the hits that are told of its name
-pub record IsFetchFrom (told : List ℕ → List ℕ) (client : ClientState) (legs : List ℕ) (query : RpnQuery) (hits : List ℕ) : Type 0 where
+pub record IsFetchFrom (told : List ℕ → List ℕ) (client : ClientState) (login : Option (List ℕ)) (legs : List ℕ) (query : RpnQuery)
+    (hits : List ℕ) : Type 0 where
   pub name : List ℕ
   pub set : StoredSet
   pub found : set_named name client.sets ≡ Some set
   pub of_legs : legs ≡ set.legs
   pub of_query : query ≡ set.query
   pub of_hits : hits ≡ told name
+  pub of_login : login ≡ client.agreed.login
 
--- the work is for databases that are named, or for such a set
+-- the work is for databases that are named, or for such a set, under the client's login
 abbrev pub ComesFrom : (told : List ℕ → List ℕ) → Route → ClientState → Work → Type 0
 ComesFrom told route client (work.Search login legs query small large medium small_element medium_element syntax room) =
-    (names : List (List ℕ)) × (legs ≡ legs_of route names)
+    (names : List (List ℕ)) × (legs ≡ legs_of route names) × (login ≡ client.agreed.login)
 ComesFrom told route client (work.Fetch login legs query hits first count syntax element) =
-    IsFetchFrom told client legs query hits
+    IsFetchFrom told client login legs query hits
 ComesFrom told route client (work.Scan login leg ask) =
-    (names : List (List ℕ)) × (slice_get (legs_of route names) 0 ≡ Some leg)
+    (names : List (List ℕ)) × (slice_get (legs_of route names) 0 ≡ Some leg) × (login ≡ client.agreed.login)
 
 unless-works : (asks : Request) (due : Result Asking Diag) (job : Work) → unless_refused asks due ≡ works job → due ≡ Ok (works job)
 unless-works asks (Err diag) job h = absurd cc
@@ -69,7 +72,7 @@ module _ (told : List ℕ → List ℕ) (route : Route) (client : ClientState) w
   found-from it (Ok query) job h =
       let same : work.Search client.agreed.login (legs_of route it.dbs) query it.small it.large it.medium
       it.small_element it.medium_element it.syntax (room route.limits client.records) ≡ job = cc in
-      subst (ComesFrom told route client) same (it.dbs, refl)
+      subst (ComesFrom told route client) same (it.dbs, refl, refl)
 
   query-from : (it : Search) (query : Asked RpnQuery) (job : Work) → query_work route client it query ≡ Ok (works job)
       → ComesFrom told route client job
@@ -86,14 +89,14 @@ module _ (told : List ℕ → List ℕ) (route : Route) (client : ClientState) w
   set-from present None job is h = absurd cc
   set-from present (Some set) job is h =
       number-from (present.number == 0) _ _ job
-      (record { name = present.set_name; set = set; found = is; of_legs = refl; of_query = refl; of_hits = refl }) h
+      (record { name = present.set_name; set = set; found = is; of_legs = refl; of_query = refl; of_hits = refl; of_login = refl }) h
 
   leg-from : (names : List (List ℕ)) (ask : ScanAsk) (leg : Option ℕ) (job : Work) → slice_get (legs_of route names) 0 ≡ leg
       → leg_work client.agreed.login ask leg ≡ Ok (works job) → ComesFrom told route client job
   leg-from names ask None job is h = absurd cc
   leg-from names ask (Some leg) job is h =
       let same : work.Scan client.agreed.login leg ask ≡ job = cc in
-      subst (ComesFrom told route client) same (names, is)
+      subst (ComesFrom told route client) same (names, is, refl)
 
   scan-from : (names : List (List ℕ)) (ask : Asked ScanAsk) (job : Work)
       → scan_work client.agreed.login ask (slice_get (legs_of route names) 0) ≡ Ok (works job) → ComesFrom told route client job
@@ -119,6 +122,17 @@ module _ (told : List ℕ → List ℕ) (route : Route) (client : ClientState) w
       (checked-ok (scan_checks route scan) (scan_work client.agreed.login scan.ask (slice_get (legs_of route scan.dbs) 0)) (works job)
       (unless-works (request.Scan scan) _ job h))
   comes-from (request.Close close) job h = absurd cc
+
+-- it asks under the client's login
+login-from : (told : List ℕ → List ℕ) (route : Route) (client : ClientState) (job : Work) → ComesFrom told route client job
+    → login_asked job ≡ client.agreed.login
+login-from told route client (work.Search login legs query small large medium small_element medium_element syntax room) from = from.2
+login-from told route client (work.Fetch login legs query hits first count syntax element) from = from.of_login
+login-from told route client (work.Scan login leg ask) from = from.2
+
+pub asked-login : (told : List ℕ → List ℕ) (route : Route) (client : ClientState) (asks : Request) (job : Work)
+    → asked_with told route client asks ≡ works job → login_asked job ≡ client.agreed.login
+asked-login told route client asks job h = login-from told route client job (comes-from told route client asks job h)
 
 -- ---- its legs
 

@@ -114,7 +114,7 @@ module _ {W S : Type 0} (w : world.Ghosts W) (t : sitting.Ghosts S W) where
     first-said leg legs (Some (answer.Scanned entries)) e is few = behind leg legs few
     first-said leg legs (Some (answer.Marked m)) e is few =
         let own = caused-met route.pool most kind leg.account m
-        ((said-so (terms_of route leg.leg) most leg.task leg.phase leg.account (answer.Marked m) e is.stands).caused) in
+        ((said-so (terms_of route leg.login leg.leg) most leg.task leg.phase leg.account (answer.Marked m) e is.stands).caused) in
         let all = sum_by-cons met leg legs in
         omega (arith, own, all)
 

@@ -111,7 +111,7 @@ module _ {W S : Type 0} (w : world.Ghosts W) (t : sitting.Ghosts S W) (route : R
       → IsLegOf w t route most leg → leg.account.class < length route.classes
   done-inside leg None e fits sound is = absurd fits
   done-inside leg (Some said) e fits sound is =
-      let own = said-so w t (terms_of route leg.leg) most leg.task leg.phase leg.account said e is.stands in
+      let own = said-so w t (terms_of route leg.login leg.leg) most leg.task leg.phase leg.account said e is.stands in
       subst (λ (c : ℕ). c < length route.classes) (sym own.class) (class-inside route leg.leg sound is.place)
 
   legs-inside : (legs : List (LegView S)) (classes : ℕ) → classes ≡ length route.classes → IsSound route
@@ -326,7 +326,7 @@ module _ {W S : Type 0} (w : world.Ghosts W) (t : sitting.Ghosts S W) (exact : B
         package-turned w t exact route now RisesAsMuch as-nothing as-both counts
         (λ (door : DoorView S) (backend : BackendView). in_counts n backend.counts) true
         (λ one other said door after backend moved goes had turn.
-        turn-as-much w t exact (terms_of route one.leg) one.task now one.phase other.phase one.account other.account said door after
+        turn-as-much w t exact (terms_of route one.login one.leg) one.task now one.phase other.phase one.account other.account said door after
         backend moved turn.law n is goes (had refl))
         (unturned-counts S n) view h.next h.turned before.door behind.door before.backend behind.backend of.asks (λ c. has) h.law
 
@@ -395,7 +395,7 @@ module _ {W S : Type 0} (w : world.Ghosts W) (t : sitting.Ghosts S W) (exact : B
         package-turned w t exact route now RisesEnough enough-nothing enough-both meets
         (λ (door : DoorView S) (backend : BackendView). met_outside k door.counts backend.counts) false
         (λ one other said door after backend moved goes had turn.
-        turn-enough w t exact (terms_of route one.leg) one.task now one.phase other.phase one.account other.account said door after
+        turn-enough w t exact (terms_of route one.login one.leg) one.task now one.phase other.phase one.account other.account said door after
         backend moved turn.law k)
         (unturned-meets S k) view h.next h.turned before.door behind.door before.backend behind.backend of.asks (λ c. absurd cc) h.law
 

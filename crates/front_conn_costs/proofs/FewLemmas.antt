@@ -51,25 +51,25 @@ few-spans legs places =
     let count = length-range_with_len 0 legs in
     omega (arith, all, few, count)
 
-few-records : (route : Route) (legs : List ℕ) (query : RpnQuery) (syntax element : Option (List ℕ)) (places : List Place)
-    → length legs ≤ most_legs → length (all_records_asked route legs query syntax element places) ≤ most_legs
-few-records route legs query syntax element places few =
-    let all = length-map (spans_of (length legs) places) (records_asked route legs query syntax element) in
+few-records : (route : Route) (login : Option (List ℕ)) (legs : List ℕ) (query : RpnQuery) (syntax element : Option (List ℕ)) (places : List Place)
+    → length legs ≤ most_legs → length (all_records_asked route login legs query syntax element places) ≤ most_legs
+few-records route login legs query syntax element places few =
+    let all = length-map (spans_of (length legs) places) (records_asked route login legs query syntax element) in
     let spans = few-spans (length legs) places in
     omega (arith, all, spans, few)
 
 pub few-first : (route : Route) (job : Work) → CanBegin job → length (first_asked route job) ≤ most_legs
 few-first route (work.Search login legs query small large medium small_element medium_element syntax room) can =
-    let all = length-map legs (hits_asked route query) in
+    let all = length-map legs (hits_asked route login query) in
     let few = can.0 in
     omega (arith, all, few)
 few-first route (work.Fetch login legs query hits first count syntax element) can =
-    few-records route legs query syntax element (places_from hits first count) can.0
+    few-records route login legs query syntax element (places_from hits first count) can.0
 few-first route (work.Scan login leg ask) can = omega arith
 
 few-then : (route : Route) (job : Work) (hits : List ℕ) → CanBegin job → length (then_asked route job hits) ≤ most_legs
 few-then route (work.Search login legs query small large medium small_element medium_element syntax room) hits can =
-    few-records route legs query syntax (element_shown small small_element medium_element hits) (places_shown small large medium room hits)
+    few-records route login legs query syntax (element_shown small small_element medium_element hits) (places_shown small large medium room hits)
     can.0
 few-then route (work.Fetch login legs query hits first count syntax element) found can = omega arith
 few-then route (work.Scan login leg ask) found can = omega arith

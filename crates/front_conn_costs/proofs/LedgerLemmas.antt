@@ -368,11 +368,11 @@ module _ {W S : Type 0} (w : world.Ghosts W) (t : sitting.Ghosts S W) (exact : B
       let c : Cost = cost_of (rises_of (want_of old.task) h.law.deed) in
       record {
         cost = c;
-        raised = turn-raised w t exact (terms_of route old.leg) old.task now old.phase new.phase old.account new.account answer door after
+        raised = turn-raised w t exact (terms_of route old.login old.leg) old.task now old.phase new.phase old.account new.account answer door after
             backend moved h.law;
         paid = subst (λ (task : Task).
             IsPaid c (dues_of old) (record { searches = due task new.phase; unused = unused task new.phase })) (sym h.task)
-            (turn-paid w t exact (terms_of route old.leg) old.task now old.phase new.phase old.account new.account answer door after
+            (turn-paid w t exact (terms_of route old.login old.leg) old.task now old.phase new.phase old.account new.account answer door after
             backend moved h.law);
       }
 

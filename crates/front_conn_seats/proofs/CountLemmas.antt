@@ -10,7 +10,7 @@ use Rattle.pool_sets.specs.declared.pooled.Parts.{Parts}
 use Rattle.pool_sets.specs.declared.sessions.Stand.{Stand}
 use Rattle.pool_sets.specs.declared.sessions.Stand.TheVariants.{Idle, Out}
 use Rattle.pool_sets.specs.declared.doors.Seat.{Seat}
-use Rattle.pool_sets.specs.Sessions.{Session, first_some, is_out, stands_at, with_stand}
+use Rattle.pool_sets.specs.Sessions.{Session, first_some, is_out, stands_at, with_stand, without_number}
 use Rattle.pool_sets.specs.Plain.{Ascends, idle_again, is_seat, out_for, redial_at_seat, stays, stays_open, with_fresh_sets, without_old_sets, without_seat}
 use Rattle.front_conn_seats.specs.steps.Seats.{is_same}
 use Rattle.pool_sets.proofs.SeatLemmas.{count-cons, count-dropped, count-filter, count-first, count-lost, count-map, seat-number}
@@ -123,7 +123,7 @@ module _ {S : Type 0} where
   -- ---- what is dialled again
 
   again-out : (seat other : Seat) (at : List Address) (m : ℕ) (o : Session S) → is_seat other (redial_at_seat seat at m o) ≡ is_seat other o
-  again-out seat other at m o = (elim (is_seat seat o) as (λ (b : Bool). is_seat seat o ≡ b → is_seat other (cond b (out_for o.number o.class at m) o) ≡ is_seat other o) [
+  again-out seat other at m o = (elim (is_seat seat o) as (λ (b : Bool). is_seat seat o ≡ b → is_seat other (cond b (out_for o.number o.class at o.login m) o) ≡ is_seat other o) [
     | true ↦ λ h. ap (λ (x : Bool). ((o.number == other.number) && (o.class == other.class)) && x) (sym (seat-out seat o h))
     | false ↦ λ h. refl
   ]) refl
@@ -132,7 +132,7 @@ module _ {S : Type 0} where
       → count_by (is_seat other) (map (redial_at_seat seat at m) os) ≡ count_by (is_seat other) os
   redialled-out seat other at m os = count-map (is_seat other) (redial_at_seat seat at m) (again-out seat other at m) os
 
-  -- ---- what is lent
+  -- ---- what is lent, or dropped
 
   -- beyond a number none stands elsewhere
   beyond : (number : ℕ) (stand : Stand (Parts S) Address) (m n : ℕ) (os : List (Session S)) → number ≤ m → Ascends m n os → stands_at number stand os ≡ os
@@ -142,8 +142,21 @@ module _ {S : Type 0} where
       let under : number < o.number = omega (arith, above, low) in
       rw (differ o.number number (above-not number o.number under)) (ap (λ (r : List (Session S)). o ∷ r) (beyond number stand o.number n os (omega (arith, under)) a.1))
 
+  -- and none is dropped
+  kept-beyond : (number m n : ℕ) (os : List (Session S)) → number ≤ m → Ascends m n os → without_number number os ≡ os
+  kept-beyond number m n [] low a = refl
+  kept-beyond number m n (o ∷ os) low a =
+      let above = a.0 in
+      let under : number < o.number = omega (arith, above, low) in
+      rw (differ o.number number (above-not number o.number under)) (ap (λ (r : List (Session S)). o ∷ r) (kept-beyond number o.number n os (omega (arith, under)) a.1))
+
+  not-seat : (o : Session S) (seat : Seat) → is_out o.stand ≡ false → is_seat seat o ≡ false
+  not-seat o seat idle =
+      ap (λ (x : Bool). ((o.number == seat.number) && (o.class == seat.class)) && x) idle
+      ∙ and-false ((o.number == seat.number) && (o.class == seat.class))
+
   -- what gives a session that is idle, of a class
-  module _ {Y : Type 0} (h : Session S → Option Y) (num : Y → ℕ) (class : ℕ) (address : Address)
+  module _ {Y : Type 0} (h : Session S → Option Y) (num : Y → ℕ) (class : ℕ)
       (fits : (o : Session S) (y : Y) → h o ≡ Some y → (o.number ≡ num y) × (o.class ≡ class) × (is_out o.stand ≡ false)) where
     -- its number is above
     later : (m n : ℕ) (os : List (Session S)) (y : Y) → Ascends m n os → first_some h os ≡ Some y → m < num y
@@ -157,40 +170,63 @@ module _ {S : Type 0} where
           subst (λ (z : Y). m < num z) same (omega (arith, own, above))
     ]) refl e
 
-    abbrev own_seat : Y → Seat
-    own_seat y = record { class = class; number = num y }
-
-    -- the first session, where it is lent
-    first-lent : (o : Session S) (y : Y) (seat : Seat) → (o.number ≡ num y) × (o.class ≡ class) × (is_out o.stand ≡ false)
-        → (is_seat seat (with_stand (Out address) o) ≡ is_same (own_seat y) seat) × (is_seat seat o ≡ false)
-    first-lent o y seat f = (
-      and-true ((o.number == seat.number) && (o.class == seat.class))
-          ∙ (λ i. (f.0 i == seat.number) && (f.1 i == seat.class)),
-      ap (λ (x : Bool). ((o.number == seat.number) && (o.class == seat.class)) && x) f.2
-          ∙ and-false ((o.number == seat.number) && (o.class == seat.class)),
-    )
-
-    -- its seat is out then, and no other
-    pub lent-out : (m n : ℕ) (os : List (Session S)) (y : Y) (seat : Seat) → Ascends m n os → first_some h os ≡ Some y
-        → count_by (is_seat seat) (stands_at (num y) (Out address) os) ≡ cond (is_same (own_seat y) seat) 1 0 + count_by (is_seat seat) os
-    lent-out m n [] y seat a e = absurd cc
-    lent-out m n (o ∷ os) y seat a e = (elim (h o) as (λ (c : Option Y). h o ≡ c → option_or c (first_some h os) ≡ Some y → count_by (is_seat seat) (stands_at (num y) (Out address) (o ∷ os)) ≡ cond (is_same (own_seat y) seat) 1 0 + count_by (is_seat seat) (o ∷ os)) [
+    -- where it is dropped, each seat that was out is
+    pub dropped-out : (m n : ℕ) (os : List (Session S)) (y : Y) (seat : Seat) → Ascends m n os → first_some h os ≡ Some y
+        → count_by (is_seat seat) (without_number (num y) os) ≡ count_by (is_seat seat) os
+    dropped-out m n [] y seat a e = absurd cc
+    dropped-out m n (o ∷ os) y seat a e = (elim (h o) as (λ (c : Option Y). h o ≡ c → option_or c (first_some h os) ≡ Some y → count_by (is_seat seat) (without_number (num y) (o ∷ os)) ≡ count_by (is_seat seat) (o ∷ os)) [
       | None ↦ λ is k.
           let low = later o.number n os y a.1 k in
           let other : (o.number == num y) ≡ false = differ o.number (num y) (below-not o.number (num y) low) in
           let first = count-cons (is_seat seat) o os in
-          let behind = count-cons (is_seat seat) o (stands_at (num y) (Out address) os) in
-          let rest = lent-out o.number n os y seat a.1 k in
+          let behind = count-cons (is_seat seat) o (without_number (num y) os) in
+          let rest = dropped-out o.number n os y seat a.1 k in
           rw other (omega (arith, first, behind, rest))
       | Some x ↦ λ is k.
           let same : x ≡ y = cc in
           let f = subst (λ (z : Y). (o.number ≡ num z) × (o.class ≡ class) × (is_out o.stand ≡ false)) same (fits o x is) in
           let own : (o.number == num y) ≡ true = ap (λ (k : ℕ). k == num y) f.0 ∙ nat_eq_equiv.refl (num y) in
-          let both = first-lent o y seat f in
           let low = f.0 in
-          let tail = beyond (num y) (Out address) o.number n os (omega (arith, low)) a.1 in
-          let first = count-first (is_seat seat) o os false both.1 in
-          let behind = count-first (is_seat seat) (with_stand (Out address) o) (stands_at (num y) (Out address) os) (is_same (own_seat y) seat) both.0 in
-          let rest : count_by (is_seat seat) (stands_at (num y) (Out address) os) ≡ count_by (is_seat seat) os = ap (λ (r : List (Session S)). count_by (is_seat seat) r) tail in
-          rw own (omega (arith, first, behind, rest))
+          let tail = kept-beyond (num y) o.number n os (omega (arith, low)) a.1 in
+          let first = count-first (is_seat seat) o os false (not-seat o seat f.2) in
+          let rest : count_by (is_seat seat) (without_number (num y) os) ≡ count_by (is_seat seat) os = ap (λ (r : List (Session S)). count_by (is_seat seat) r) tail in
+          rw own (omega (arith, first, rest))
     ]) refl e
+
+    abbrev own_seat : Y → Seat
+    own_seat y = record { class = class; number = num y }
+
+    module _ (address : Address) where
+      -- the first session, where it is lent
+      first-lent : (o : Session S) (y : Y) (seat : Seat) → (o.number ≡ num y) × (o.class ≡ class) × (is_out o.stand ≡ false)
+          → (is_seat seat (with_stand (Out address) o) ≡ is_same (own_seat y) seat) × (is_seat seat o ≡ false)
+      first-lent o y seat f = (
+        and-true ((o.number == seat.number) && (o.class == seat.class))
+            ∙ (λ i. (f.0 i == seat.number) && (f.1 i == seat.class)),
+        not-seat o seat f.2,
+      )
+
+      -- its seat is out then, and no other
+      pub lent-out : (m n : ℕ) (os : List (Session S)) (y : Y) (seat : Seat) → Ascends m n os → first_some h os ≡ Some y
+          → count_by (is_seat seat) (stands_at (num y) (Out address) os) ≡ cond (is_same (own_seat y) seat) 1 0 + count_by (is_seat seat) os
+      lent-out m n [] y seat a e = absurd cc
+      lent-out m n (o ∷ os) y seat a e = (elim (h o) as (λ (c : Option Y). h o ≡ c → option_or c (first_some h os) ≡ Some y → count_by (is_seat seat) (stands_at (num y) (Out address) (o ∷ os)) ≡ cond (is_same (own_seat y) seat) 1 0 + count_by (is_seat seat) (o ∷ os)) [
+        | None ↦ λ is k.
+            let low = later o.number n os y a.1 k in
+            let other : (o.number == num y) ≡ false = differ o.number (num y) (below-not o.number (num y) low) in
+            let first = count-cons (is_seat seat) o os in
+            let behind = count-cons (is_seat seat) o (stands_at (num y) (Out address) os) in
+            let rest = lent-out o.number n os y seat a.1 k in
+            rw other (omega (arith, first, behind, rest))
+        | Some x ↦ λ is k.
+            let same : x ≡ y = cc in
+            let f = subst (λ (z : Y). (o.number ≡ num z) × (o.class ≡ class) × (is_out o.stand ≡ false)) same (fits o x is) in
+            let own : (o.number == num y) ≡ true = ap (λ (k : ℕ). k == num y) f.0 ∙ nat_eq_equiv.refl (num y) in
+            let both = first-lent o y seat f in
+            let low = f.0 in
+            let tail = beyond (num y) (Out address) o.number n os (omega (arith, low)) a.1 in
+            let first = count-first (is_seat seat) o os false both.1 in
+            let behind = count-first (is_seat seat) (with_stand (Out address) o) (stands_at (num y) (Out address) os) (is_same (own_seat y) seat) both.0 in
+            let rest : count_by (is_seat seat) (stands_at (num y) (Out address) os) ≡ count_by (is_seat seat) os = ap (λ (r : List (Session S)). count_by (is_seat seat) r) tail in
+            rw own (omega (arith, first, behind, rest))
+      ]) refl e

@@ -138,11 +138,11 @@ module _ {W S : Type 0} (w : world.Ghosts W) (t : sitting.Ghosts S W) where
   asked-records (Records key first count syntax element) items slot asked before after answer h = tt
 
   -- a set is given where one is wanted
-  given-set : (task : Task) (at_ : List _) (most : ℕ) (seat : Seat) (parts : _) (slot hits : ℕ)
-      → TakenFits w t at_ (want_of task) most (taken.Reuse seat parts slot hits) → WantsSet task
-  given-set (Hits key) at_ most seat parts slot hits h = tt
-  given-set (Scan scan) at_ most seat parts slot hits h = absurd h.1
-  given-set (Records key first count syntax element) at_ most seat parts slot hits h = tt
+  given-set : (task : Task) (class : ℕ) (at_ : List _) (login : Option (List ℕ)) (most : ℕ) (seat : Seat) (parts : _) (slot hits : ℕ)
+      → TakenFits w t class at_ login (want_of task) most (taken.Reuse seat parts slot hits) → WantsSet task
+  given-set (Hits key) class at_ login most seat parts slot hits h = tt
+  given-set (Scan scan) class at_ login most seat parts slot hits h = absurd h.1
+  given-set (Records key first count syntax element) class at_ login most seat parts slot hits h = tt
 
 -- ---- one deed
 
@@ -171,13 +171,13 @@ module _ {W S : Type 0} (w : world.Ghosts W) (t : sitting.Ghosts S W) (terms : T
 
   -- ---- a take
 
-  taken-out : (answer : Taken S) (q : Pool S) → (answer, q) ≡ take_of terms.class terms.at (want_of task) now p → AreOut no_seat others p
+  taken-out : (answer : Taken S) (q : Pool S) → (answer, q) ≡ take_of terms.class terms.at terms.login (want_of task) now p → AreOut no_seat others p
       → AreOut (held_at (seat_in answer)) others q
   taken-out answer q e h =
       subst (λ (r : Taken S × Pool S). AreOut (held_at (seat_in r.0)) others r.1) (sym e)
-      (take-given terms.class terms.at (want_of task) now others p h)
+      (take-given terms.class terms.at terms.login (want_of task) now others p h)
 
-  took-out : (answer : Taken S) (q : Option (Pool S)) → Takes (Some p) q terms.class terms.at (want_of task) now answer → AreOut no_seat others p
+  took-out : (answer : Taken S) (q : Option (Pool S)) → Takes (Some p) q terms.class terms.at terms.login (want_of task) now answer → AreOut no_seat others p
       → AreOutOf (held_at (seat_in answer)) others q
   took-out answer None k h = absurd k
   took-out taken.Memory (Some q) k h = subst (λ (r : Pool S). AreOut (held_at None) others r) (sym k) (expire-out now no_seat others p h)
@@ -186,11 +186,11 @@ module _ {W S : Type 0} (w : world.Ghosts W) (t : sitting.Ghosts S W) (terms : T
   took-out (taken.Dial seat member) (Some q) k h = taken-out (taken.Dial seat member) q k h
   took-out (taken.Full open_) (Some q) k h = taken-out (taken.Full open_) q k h
 
-  take-both : (answer : Taken S) → TakenFits w t terms.at (want_of task) most answer
-      → Takes (Some p) behind terms.class terms.at (want_of task) now answer → AreOut no_seat others p → Both Begin (took answer)
+  take-both : (answer : Taken S) → TakenFits w t terms.class terms.at terms.login (want_of task) most answer
+      → Takes (Some p) behind terms.class terms.at terms.login (want_of task) now answer → AreOut no_seat others p → Both Begin (took answer)
   take-both (taken.Reuse seat parts slot hits) d k h =
       let there = took-out (taken.Reuse seat parts slot hits) behind k h in (
-        holds (Some seat) _ (set-keeps task (hold seat parts true) [] slot hits (given-set w t task terms.at most seat parts slot hits d)) there,
+        holds (Some seat) _ (set-keeps task (hold seat parts true) [] slot hits (given-set w t task terms.class terms.at terms.login most seat parts slot hits d)) there,
         λ x. holds (Some seat) (Spoiled seat) (kept task (Some seat) (Spoiled seat) refl tt) there,
       )
   take-both (taken.Fresh seat parts) d k h = (

@@ -210,7 +210,7 @@ module _ {W S : Type 0} (w : world.Ghosts W) (t : sitting.Ghosts S W) (exact : B
       → IsHeld old.phase old.task others door.pool → IsHeld new.phase new.task others after.pool
   had-held old new answer door after backend moved others h held =
       subst (λ (task : Task). IsHeld new.phase task others after.pool) (sym h.task)
-      (turn-keeps w t exact (terms_of route old.leg) old.task now old.phase new.phase old.account new.account answer door after backend moved
+      (turn-keeps w t exact (terms_of route old.login old.leg) old.task now old.phase new.phase old.account new.account answer door after backend moved
       others h.law held)
 
   turned-held : (done : Bool) (old new : LegView S) (round next : Round) (door after : DoorView S) (backend moved : BackendView) (others : Seat → ℕ)

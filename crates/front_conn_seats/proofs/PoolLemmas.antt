@@ -1,7 +1,9 @@
 -- What each function of the plain pool leaves out of it
-use Rattle.std.proofs.Common.{◌≡◌, ◌==◌, ◌&&◌, ◌∙◌, ℕ, ◌+◌, ◌≤◌, Bool, true, false, cond, List, [], ◌∷◌, map, Option, None, Some, refl, ap, arith, nat_lt, nat_le}
+use Rattle.std.proofs.Common.{◌≡◌, ◌==◌, ◌&&◌, ◌∙◌, ℕ, ◌+◌, ◌≤◌, Bool, true, false, not, cond, List, [], ◌∷◌, map, Option, None, Some, option_map, refl, ap, arith, nat_lt, nat_le}
+use Rattle.std.specs.Prelude.{IfSome}
 use Rattle.std.proofs.lemmas.Bool.{eqb-true}
 use Rattle.std.proofs.Math.Bool.{and-true}
+use Rattle.z_types.specs.Logins.{inner}
 use Rattle.z_types.specs.declared.address.Address.{Address}
 use Rattle.z_types.specs.declared.key.SetKey.{SetKey}
 use Rattle.z_types.specs.equality.Tests.{both_true}
@@ -12,13 +14,13 @@ use Rattle.pool_sets.specs.declared.doors.Seat.{Seat}
 use Rattle.pool_sets.specs.declared.doors.Taken.{Taken}
 use Rattle.pool_sets.specs.declared.doors.Taken.TheVariants.{Reuse, Fresh, Dial, Full, Memory}
 use Rattle.pool_sets.specs.Table.{Entry, set_of}
-use Rattle.pool_sets.specs.Sessions.{Session, Idler, first_some, idle_in, idle_with, idler, in_class, is_among, address_of, is_out, member_for, open_of, with_set, with_stand}
-use Rattle.pool_sets.specs.Plain.{Ascends, Pool, any_idle, choice, dial_for, expire, has_number, idle_again, is_seat, lost, one_idle, open_one, out_for, out_of, put, redial, redial_at_seat, redial_member, stays_open, take_of, with_fresh_sets}
+use Rattle.pool_sets.specs.Sessions.{Session, Idler, first_some, idle_for, idle_in, idle_with, idler, in_class, is_among, is_for, is_out, member_for, open_of, stand_target, with_set, with_stand}
+use Rattle.pool_sets.specs.Plain.{Ascends, Pool, any_idle, choice, dial_for, dial_in, expire, has_number, idle_again, is_seat, lost, made_room, one_idle, out_for, out_of, put, redial, redial_at_seat, redial_member, stays_open, take_of, with_fresh_sets, without_idle}
 use Rattle.pool_sets.proofs.SeatLemmas.{count-append, count-cons, once}
 use Rattle.pool_core.proofs.Ascending.{ascends_filter, ascends_map, ascends_push}
 use Rattle.front_conn.specs.leg.Turns.{lost_seat}
 use Rattle.front_conn_seats.specs.steps.Seats.{AreOut, held_at, is_same, no_seat}
-use Rattle.front_conn_seats.proofs.CountLemmas.{expired-out, lent-out, lost-out, put-out, redialled-out, without}
+use Rattle.front_conn_seats.proofs.CountLemmas.{dropped-out, expired-out, lent-out, lost-out, put-out, redialled-out, without}
 
 -- ---- who holds it
 
@@ -83,7 +85,7 @@ module _ {S : Type 0} where
   -- ---- one is dialled again
 
   again-number : (own : Seat) (at : List Address) (m : ℕ) (o : Session S) → (redial_at_seat own at m o).number ≡ o.number
-  again-number own at m o = (elim (is_seat own o) as (λ (b : Bool). (cond b (out_for o.number o.class at m) o).number ≡ o.number) [
+  again-number own at m o = (elim (is_seat own o) as (λ (b : Bool). (cond b (out_for o.number o.class at o.login m) o).number ≡ o.number) [
     | true ↦ refl
     | false ↦ refl
   ])
@@ -116,7 +118,7 @@ module _ {S : Type 0} where
   idle-fits class at o i true (Idle parts since) is e k =
       let own : record { number = o.number; parts = parts } ≡ i = cc in
       let number : o.number ≡ i.number = ap (λ (x : Idler S). x.number) own in
-      (number, eqb-true o.class class (both_true (o.class == class) (is_among at (address_of o)) is).0, ap (λ (s : Stand (Parts S) Address). is_out s) e)
+      (number, eqb-true o.class class (both_true (o.class == class) (is_among at (stand_target o.stand)) is).0, ap (λ (s : Stand (Parts S) Address). is_out s) e)
 
   any-fits : (class : ℕ) (at : List Address) (o : Session S) (i : Idler S) → idle_in class at o ≡ Some i
       → (o.number ≡ i.number) × (o.class ≡ class) × (is_out o.stand ≡ false)
@@ -130,9 +132,17 @@ module _ {S : Type 0} where
       held None k = absurd cc
       held (Some x) k = let same : (i, x) ≡ h = cc in ap (λ (y : Idler S × Entry). Some y.0) same
 
-  with-fits : (class : ℕ) (at : List Address) (key : SetKey) (o : Session S) (h : Idler S × Entry) → idle_with class at key o ≡ Some h
-      → (o.number ≡ h.0.number) × (o.class ≡ class) × (is_out o.stand ≡ false)
-  with-fits class at key o h e = any-fits class at o h.0 (set-fits key (idle_in class at o) h e)
+  given-in : (for_it : Bool) (found : Option (Idler S)) (i : Idler S) → cond for_it found None ≡ Some i → found ≡ Some i
+  given-in true found i e = e
+  given-in false found i e = absurd cc
+
+  for-fits : (class : ℕ) (at : List Address) (login : Option (List ℕ)) (o : Session S) (i : Idler S) → idle_for class at login o ≡ Some i
+      → (o.number ≡ i.number) × (o.class ≡ class) × (is_out o.stand ≡ false)
+  for-fits class at login o i e = any-fits class at o i (given-in (is_for login o) (idle_in class at o) i e)
+
+  with-fits : (class : ℕ) (at : List Address) (login : Option (List ℕ)) (key : SetKey) (o : Session S) (h : Idler S × Entry)
+      → idle_with class at login key o ≡ Some h → (o.number ≡ h.0.number) × (o.class ≡ class) × (is_out o.stand ≡ false)
+  with-fits class at login key o h e = for-fits class at login o h.0 (set-fits key (idle_for class at login o) h e)
 
   lent-number : (number : ℕ) (stand : Stand (Parts S) Address) (o : Session S) → (cond (o.number == number) (with_stand stand o) o).number ≡ o.number
   lent-number number stand o = (elim (o.number == number) as (λ (b : Bool). (cond b (with_stand stand o) o).number ≡ o.number) [
@@ -144,56 +154,73 @@ module _ {S : Type 0} where
       → Ascends 0 p.given (map (λ (o : Session S). cond (o.number == number) (with_stand stand o) o) p.sessions)
   lent-ascends number stand p a = ascends_map 0 p.given _ p.sessions (lent-number number stand) a
 
-  module _ (class : ℕ) (at : List Address) (others : Seat → ℕ) (p : Pool S) (h : AreOut no_seat others p) where
+  -- one that is dialled
+  dial-given : (class : ℕ) (at : List Address) (login : Option (List ℕ)) (m : ℕ) (others : Seat → ℕ) (p : Pool S) → AreOut no_seat others p
+      → IsGiven others (dial_for class at login m p)
+  dial-given class at login m others p h = record {
+    ascend = ascends_push 0 p.given p.sessions (out_for (p.given + 1) class at login m) refl h.ascend;
+    each = λ seat.
+        let o = out_for {S = S} (p.given + 1) class at login m in
+        let all = count-append (is_seat seat) p.sessions (o ∷ []) in
+        let one = count-cons (is_seat seat) o [] in
+        let own : ◌≡◌ {A = ℕ} (cond (is_seat seat o) 1 0) (cond (is_same (record { class = class; number = p.given + 1 }) seat) 1 0) =
+        ap (λ (b : Bool). cond b 1 0) (and-true (((p.given + 1) == seat.number) && (class == seat.class))) in
+        let was = h.each seat in
+        omega (arith, all, one, own, was);
+  }
+
+  module _ (class : ℕ) (at : List Address) (login : Option (List ℕ)) (others : Seat → ℕ) (p : Pool S) (h : AreOut no_seat others p) where
     lends : (seat : Seat) (n m : ℕ) → n ≡ m + out_of p seat → n ≡ m + others seat
     lends seat n m e = let was = h.each seat in omega (arith, e, was)
 
-    dial-given : (m : ℕ) → IsGiven others (dial_for class at m p)
-    dial-given m = record {
-      ascend = ascends_push 0 p.given p.sessions (out_for (p.given + 1) class at m) refl h.ascend;
-      each = λ seat.
-          let o = out_for {S = S} (p.given + 1) class at m in
-          let all = count-append (is_seat seat) p.sessions (o ∷ []) in
-          let one = count-cons (is_seat seat) o [] in
-          let own : ◌≡◌ {A = ℕ} (cond (is_seat seat o) 1 0) (cond (is_same (record { class = class; number = p.given + 1 }) seat) 1 0) =
-          ap (λ (b : Bool). cond b 1 0) (and-true (((p.given + 1) == seat.number) && (class == seat.class))) in
-          let was = h.each seat in
-          omega (arith, all, one, own, was);
-    }
+    -- where one makes room, it was idle
+    room-by : (i : Option (Idler S)) → first_some (idle_in class at) p.sessions ≡ i
+        → IfSome (option_map (without_idle p) i) (AreOut no_seat others)
+    room-by None e = tt
+    room-by (Some i) e =
+        out-still no_seat others p (without_idle p i)
+        (ascends_filter 0 p.given (λ (o : Session S). not (o.number == i.number)) p.sessions h.ascend)
+        (λ seat. dropped-out (idle_in class at) (λ (x : Idler S). x.number) class (any-fits class at) 0 p.given p.sessions i seat h.ascend e) h
 
-    open-given : IsGiven others (open_one class at p)
-    open-given = (elim (nat_lt (open_of class at p.sessions) p.max_sessions) as (λ (b : Bool). IsGiven others (cond b (cond (has_number p) (dial_for class at (member_for class at p.sessions) p) (Memory, p)) (Full p.max_sessions, p))) [
-      | true ↦ (elim (has_number p) as (λ (b : Bool). IsGiven others (cond b (dial_for class at (member_for class at p.sessions) p) (Memory, p))) [
-        | true ↦ dial-given (member_for class at p.sessions)
-        | false ↦ h
-      ])
+    room-out : IfSome (made_room class at p) (AreOut no_seat others)
+    room-out = (elim (nat_lt (open_of class at p.sessions) p.max_sessions) as (λ (b : Bool). IfSome (cond b (Some p) (option_map (without_idle p) (first_some (idle_in class at) p.sessions))) (AreOut no_seat others)) [
+      | true ↦ h
+      | false ↦ room-by (first_some (idle_in class at) p.sessions) refl
+    ])
+
+    dialled-given : (q : Option (Pool S)) → IfSome q (AreOut no_seat others) → IsGiven others (dial_in class at login p q)
+    dialled-given None k = h
+    dialled-given (Some q) k = (elim (has_number q) as (λ (b : Bool). IsGiven others (cond b (dial_for class at login (member_for class at q.sessions) q) (Memory, p))) [
+      | true ↦ dial-given class at login (member_for class at q.sessions) others q k
       | false ↦ h
     ])
 
-    any-given : (i : Option (Idler S)) → first_some (idle_in class at) p.sessions ≡ i → IsGiven others (any_idle class at p i)
-    any-given None e = open-given
+    any-given : (i : Option (Idler S)) → first_some (idle_for class at login) p.sessions ≡ i → IsGiven others (any_idle class at login p i)
+    any-given None e = dialled-given (made_room class at p) room-out
     any-given (Some i) e = record {
-      ascend = lent-ascends i.number (Out i.parts.address) p h.ascend;
+      ascend = lent-ascends i.number (Out (inner i.parts.address)) p h.ascend;
       each = λ seat.
           lends seat _ _
-          (lent-out (idle_in class at) (λ (x : Idler S). x.number) class i.parts.address (any-fits class at) 0 p.given p.sessions i seat h.ascend e);
-    }
-
-    one-given : (key : SetKey) (now : ℕ) (i : Option (Idler S × Entry)) → first_some (idle_with class at key) p.sessions ≡ i
-        → IsGiven others (one_idle class at key now p i)
-    one-given key now None e = any-given (first_some (idle_in class at) p.sessions) refl
-    one-given key now (Some i) e = record {
-      ascend = lent-ascends i.0.number (Out i.0.parts.address) p h.ascend;
-      each = λ seat.
-          lends seat _ _
-          (lent-out (idle_with class at key) (λ (x : Idler S × Entry). x.0.number) class i.0.parts.address (with-fits class at key) 0 p.given p.sessions i
+          (lent-out (idle_for class at login) (λ (x : Idler S). x.number) class (for-fits class at login) (inner i.parts.address) 0 p.given p.sessions i
           seat h.ascend e);
     }
 
-    choice-given : (want : Option SetKey) (now : ℕ) → IsGiven others (choice class at want now p)
-    choice-given None now = any-given (first_some (idle_in class at) p.sessions) refl
-    choice-given (Some key) now = one-given key now (first_some (idle_with class at key) p.sessions) refl
+    one-given : (key : SetKey) (now : ℕ) (i : Option (Idler S × Entry)) → first_some (idle_with class at login key) p.sessions ≡ i
+        → IsGiven others (one_idle class at login key now p i)
+    one-given key now None e = any-given (first_some (idle_for class at login) p.sessions) refl
+    one-given key now (Some i) e = record {
+      ascend = lent-ascends i.0.number (Out (inner i.0.parts.address)) p h.ascend;
+      each = λ seat.
+          lends seat _ _
+          (lent-out (idle_with class at login key) (λ (x : Idler S × Entry). x.0.number) class (with-fits class at login key) (inner i.0.parts.address)
+          0 p.given p.sessions i seat h.ascend e);
+    }
 
-  pub take-given : (class : ℕ) (at : List Address) (want : Option SetKey) (now : ℕ) (others : Seat → ℕ) (p : Pool S) → AreOut no_seat others p
-      → IsGiven others (take_of class at want now p)
-  take-given class at want now others p h = choice-given class at others (expire now p) (expire-out now no_seat others p h) want now
+    choice-given : (want : Option SetKey) (now : ℕ) → IsGiven others (choice class at login want now p)
+    choice-given None now = any-given (first_some (idle_for class at login) p.sessions) refl
+    choice-given (Some key) now = one-given key now (first_some (idle_with class at login key) p.sessions) refl
+
+  pub take-given : (class : ℕ) (at : List Address) (login : Option (List ℕ)) (want : Option SetKey) (now : ℕ) (others : Seat → ℕ) (p : Pool S)
+      → AreOut no_seat others p → IsGiven others (take_of class at login want now p)
+  take-given class at login want now others p h =
+      choice-given class at login others (expire now p) (expire-out now no_seat others p h) want now

@@ -10,6 +10,7 @@ use Rattle.z_types.specs.declared.requests.Request.{Request}
 use Rattle.z_types.specs.declared.requests.Request.TheVariants as request
 use Rattle.z_types.specs.declared.work.Work.{Work}
 use Rattle.z_types.specs.declared.world.World as world
+use Rattle.z_types.specs.Under.{under}
 use Rattle.route_config.specs.declared.route.Route.{Route}
 use Rattle.front_conn.specs.gateway_rules.Asking as asking
 use Rattle.front_conn.specs.gateway_rules.Asking.{Asking, asked}
@@ -18,7 +19,7 @@ use Rattle.front_conn.specs.gateway_rules.Course.{Course}
 use Rattle.front_conn.specs.gateway_rules.Cut.{cut_of}
 use Rattle.front_conn.specs.gateway_rules.Given.{returned}
 use Rattle.front_conn.specs.gateway_rules.Marks.{Cause}
-use Rattle.front_conn.specs.gateway_rules.Outcomes.{plain_outcome, under_mark}
+use Rattle.front_conn.specs.gateway_rules.Outcomes.{login_asked, plain_outcome, under_mark}
 use Rattle.front_conn.specs.gateway_rules.Runs.{marks_of}
 use Rattle.front_conn.specs.gateway_rules.Session.{answer_to, answered, run}
 use Rattle.front_conn.specs.gateway_rules.Settling.{asked_of, client_after, fetched_of, found_hits, given_of, sets_after, why_failed}
@@ -69,8 +70,9 @@ module _ {W : Type 0} (w : world.Ghosts W) (route : Route) where
       → (answer_to w route client asks one due).client ≡ (answer_to w route client asks other due).client
   asked-client client asks (asking.at_once reply) one other same = refl
   asked-client client asks (asking.works job) one other same =
-      marked-client client asks job one.mark one.class other.class (plain_outcome w route job)
-      ∙ ap (λ mark. client_after client asks job (under_mark mark other.class (plain_outcome w route job))) same
+      let plainly = plain_outcome (under (login_asked job) w) route job in
+      marked-client client asks job one.mark one.class other.class plainly
+      ∙ ap (λ mark. client_after client asks job (under_mark mark other.class plainly)) same
 
   -- causes of one mark leave the same client
   pub client-by-mark : (client : ClientState) (asks : Request) (one other : Cause) → one.mark ≡ other.mark

@@ -7,12 +7,13 @@ use Rattle.z_types.specs.declared.known_set.KnownSet.{KnownSet}
 use Rattle.z_types.specs.declared.requests.Request.{Request}
 use Rattle.z_types.specs.declared.requests.Request.TheVariants as request
 use Rattle.z_types.specs.declared.world.World as world
+use Rattle.z_types.specs.Under.{under}
 use Rattle.z_sets.specs.Sets.{StoredSet, set_named, stored}
 use Rattle.route_config.specs.declared.route.Route.{Route}
 use Rattle.front_conn.specs.gateway_rules.Asking.{asked, asked_with, hits_meant, known_hits, present_due, unless_refused}
 use Rattle.front_conn.specs.front_session.Admitting.{hits_named}
 use Rattle.front_conn.specs.front_session.Sessions.{SessionState, client_of}
-use Rattle.front_conn.specs.steps.States.{HasMeantHits}
+use Rattle.front_conn.specs.steps.States.{HasMeantHits, HaveMeantHits}
 
 module _ {W : Type 0} (w : world.Ghosts W) (route : Route) where
   -- the set of a name is this one, or the one that is found behind it
@@ -29,13 +30,14 @@ module _ {W : Type 0} (w : world.Ghosts W) (route : Route) where
       hits-at set (is_same set.name name) (find (λ s. is_same s.name name) sets)
       (find (λ s. is_same s.name name) (map stored sets)) all.0 (hits_named-meant sets name all.1)
 
-  pub asked-meant : (session : SessionState) (asks : Request) → AllByRecursion (HasMeantHits w route) session.sets
-      → asked_with (hits_named session.sets) route (client_of session) asks ≡ asked w route (client_of session) asks
-  asked-meant session (request.Init init) all = refl
-  asked-meant session (request.Search search) all = refl
-  asked-meant session (request.Present present) all =
-      let set : Option StoredSet = set_named present.set_name (map stored session.sets) in
-      ap (λ hits. unless_refused (request.Present present) (present_due route (client_of session) present set hits))
-      (hits_named-meant session.sets present.set_name all)
-  asked-meant session (request.Scan scan) all = refl
-  asked-meant session (request.Close close) all = refl
+-- so a request is due the same
+pub asked-meant : {W : Type 0} (w : world.Ghosts W) (route : Route) (session : SessionState) (asks : Request) → HaveMeantHits w route session
+    → asked_with (hits_named session.sets) route (client_of session) asks ≡ asked w route (client_of session) asks
+asked-meant w route session (request.Init init) sets = refl
+asked-meant w route session (request.Search search) sets = refl
+asked-meant w route session (request.Present present) sets =
+    let set : Option StoredSet = set_named present.set_name (map stored session.sets) in
+    ap (λ hits. unless_refused (request.Present present) (present_due route (client_of session) present set hits))
+    (hits_named-meant (under session.agreed.login w) route session.sets present.set_name sets.each)
+asked-meant w route session (request.Scan scan) sets = refl
+asked-meant w route session (request.Close close) sets = refl

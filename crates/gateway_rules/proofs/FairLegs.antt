@@ -47,7 +47,7 @@ leg-of_class route place found h =
     (λ leg there is. classed route.classes leg (slice_get route.databases leg.database) (slice_get route.classes leg.class) found refl is)
 
 pub members-answer : {W : Type 0} (w : world.Ghosts W) → MembersAnswer w
-members-answer w route place leg address fair found member =
+members-answer w route login place leg address fair found member =
     let of = leg-of_class route place leg found in
-    let class = fair leg.class of.class in
+    let class = fair login leg.class of.class in
     record { told = class.told address member; means = class.same address leg.address member of.address }

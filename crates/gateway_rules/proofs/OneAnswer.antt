@@ -6,6 +6,7 @@ use Rattle.gateway_rules.specs.Answers.{Ended, IsConnection}
 use Rattle.z_types.specs.declared.marks.Mark.{Mark}
 use Rattle.z_types.specs.declared.marks.Mark.TheVariants.{Plain}
 use Rattle.z_types.specs.declared.world.World as world
+use Rattle.z_types.specs.Under.{under}
 use Rattle.route_config.specs.declared.route.Route.{Route}
 use Rattle.unit_forms.specs.Replies.{spell_reply}
 use Rattle.gateway_rules.specs.Asking as asking
@@ -14,7 +15,7 @@ use Rattle.gateway_rules.specs.Course as at
 use Rattle.gateway_rules.specs.Course.{Course, end_of}
 use Rattle.gateway_rules.specs.Marks.{Cause}
 use Rattle.gateway_rules.specs.OneAnswer.{AreMarksPlain, HasOneAnswer}
-use Rattle.gateway_rules.specs.Outcomes.{under_mark, plain_outcome}
+use Rattle.gateway_rules.specs.Outcomes.{under_mark, plain_outcome, login_asked}
 use Rattle.gateway_rules.specs.Session.{run, answered, answer_to, Fits}
 use Rattle.gateway_rules.specs.Settling.{Settled, settled}
 use Rattle.gateway_rules.specs.State.{ClientState, new_client}
@@ -31,8 +32,9 @@ due-plain : {W : Type 0} (w : world.Ghosts W) (route : Route) (client : ClientSt
     → answer_to w route client request c due ≡ answer_to w route client request d due
 due-plain w route client request c d (asking.at_once reply) e f = refl
 due-plain w route client request c d (asking.works work) e f =
-    ap (λ m. settled client request work (under_mark m c.class (plain_outcome w route work))) e
-    ∙ sym (ap (λ m. settled client request work (under_mark m d.class (plain_outcome w route work))) f)
+    let plainly = plain_outcome (under (login_asked work) w) route work in
+    ap (λ m. settled client request work (under_mark m c.class plainly)) e
+    ∙ sym (ap (λ m. settled client request work (under_mark m d.class plainly)) f)
 
 -- two courses of causes that fit and are Plain are the same marks and get the same replies
 pub run-plain : {W : Type 0} (w : world.Ghosts W) (route : Route) (client : ClientState) (course : Course)

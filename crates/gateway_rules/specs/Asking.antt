@@ -8,6 +8,7 @@ use Rattle.z_types.specs.declared.requests.Asked.TheVariants.{Good, Bad}
 use Rattle.z_types.specs.declared.requests.Search.{Search}
 use Rattle.z_types.specs.declared.scan.ScanAsk.{ScanAsk}
 use Rattle.z_types.specs.declared.world.World as world
+use Rattle.z_types.specs.Under.{under}
 use Rattle.route_config.specs.declared.route.Route.{Route}
 use Rattle.gateway_rules.specs.Checks.{checked, search_checks, present_checks, scan_checks, no_expansion}
 use Rattle.z_types.specs.Bib1.{bib1}
@@ -134,7 +135,10 @@ asked_with hits_of_set route client (request.Scan scan) =
 asked_with hits_of_set route client (request.Close close) =
     at_once (close_reply close.ref_id finished)
 
--- what a request in its place is due, where each set has the hits that the targets mean
+-- what a request in its place is due, where each set has the hits that the targets mean under the
+-- client's login
 abbrev pub asked : {W : Type 0} → world.Ghosts W → Route → ClientState → Request → Asking
 asked w route client =
-    asked_with (λ name. hits_meant w route (set_named name client.sets)) route client
+    asked_with
+    (λ name. hits_meant (under client.agreed.login w) route (set_named name client.sets))
+    route client

@@ -5,11 +5,12 @@ use Rattle.z_types.specs.declared.address.Address.{Address}
 use Rattle.z_types.specs.declared.key.SetKey.{SetKey}
 use Rattle.z_types.specs.declared.scan.ScanAsk.{ScanAsk}
 use Rattle.z_types.specs.declared.world.World as world
+use Rattle.z_types.specs.Under.{under}
 use Rattle.route_config.specs.declared.route.Class.{Class}
 use Rattle.route_config.specs.declared.route.Route.{Route}
 use Rattle.virt_db.specs.Legs.{LegAt, leg_at}
 
--- Two addresses mean the same: a search, a record and a scan at one of them are those at the other.
+-- two addresses mean the same: a search, a record and a scan at one of them are those at the other
 pub record MeansAs {W : Type 0} (w : world.Ghosts W) (one other : Address) : Type 0 where
   pub search : (key : SetKey) → w.search one key ≡ w.search other key
   pub record_ : (key : SetKey) (position : ℕ) (syntax element : Option (List ℕ))
@@ -23,10 +24,12 @@ pub record IsFairClass {W : Type 0} (w : world.Ghosts W) (class : Class) : Type 
   pub same : (one other : Address) → Contains class.addresses one → Contains class.addresses other
       → MeansAs w one other
 
--- a fair route: each class that its legs go to is; a target that no leg goes to is asked for
--- nothing
+-- a fair route: each class that its legs go to is, by itself and inside every login; a target that
+-- no leg goes to is asked for nothing
 abbrev pub IsFair : {W : Type 0} → world.Ghosts W → Route → Type 0
-IsFair w route = (class : Class) → Contains route.classes class → IsFairClass w class
+IsFair w route =
+    (login : Option (List ℕ)) (class : Class) → Contains route.classes class
+    → IsFairClass (under login w) class
 
 -- what an address means is what a leg means, and it is told
 pub record AnswersFor {W : Type 0} (w : world.Ghosts W) (leg : LegAt)
@@ -34,9 +37,10 @@ pub record AnswersFor {W : Type 0} (w : world.Ghosts W) (leg : LegAt)
   pub told : w.told address
   pub means : MeansAs w address leg.address
 
--- on a fair route every member of the class that a leg goes to answers for the leg
+-- on a fair route every member of the class that a leg goes to answers for the leg, by itself and
+-- inside every login
 abbrev pub MembersAnswer : {W : Type 0} → world.Ghosts W → Type 0
 MembersAnswer w =
-    (route : Route) (place : ℕ) (leg : LegAt) (address : Address) → IsFair w route
-    → leg_at route place ≡ Some leg → Contains leg.class.addresses address
-    → AnswersFor w leg address
+    (route : Route) (login : Option (List ℕ)) (place : ℕ) (leg : LegAt) (address : Address)
+    → IsFair w route → leg_at route place ≡ Some leg → Contains leg.class.addresses address
+    → AnswersFor (under login w) leg address

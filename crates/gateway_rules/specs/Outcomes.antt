@@ -1,12 +1,13 @@
 -- What comes of a work under a cause (ANSI/NISO Z39.50-2003, 3.2.2.1, 3.2.3.1 and 3.2.8.1)
-use Rattle.std.specs.Prelude.{ℕ, ◌-◌, take, drop, ◌==◌, List, [], ◌∷◌, Result, Ok, Err, if◌then◌else◌, nat_le, nat_lt, flat_map}
-use Rattle.std.specs.Prelude.{option_to_list, slice_get}
+use Rattle.std.specs.Prelude.{ℕ, ◌-◌, take, drop, ◌==◌, List, [], ◌∷◌, Option, Result, Ok, Err, if◌then◌else◌, nat_le, nat_lt}
+use Rattle.std.specs.Prelude.{flat_map, option_to_list, slice_get}
 use Rattle.z_types.specs.declared.diagnostic.Diag.{Diag}
 use Rattle.z_types.specs.declared.marks.Mark.{Mark}
 use Rattle.z_types.specs.declared.marks.Mark.TheVariants.{Plain}
 use Rattle.z_types.specs.declared.records.NamedRecord.{NamedRecord}
 use Rattle.z_types.specs.declared.scan.ScanAnswer.{ScanAnswer}
 use Rattle.z_types.specs.declared.world.World as world
+use Rattle.z_types.specs.Under.{under}
 use Rattle.route_config.specs.declared.route.Route.{Route}
 use Rattle.z_types.specs.Bib1.{bib1}
 use Rattle.z_types.specs.declared.conditions.Condition.TheVariants.{TooManyRecordsRetrieved}
@@ -68,9 +69,17 @@ abbrev pub under_mark : Mark → List ℕ → Outcome → Outcome
 under_mark Plain class plainly = plainly
 under_mark mark class plainly = outcome.Marked mark class
 
--- what comes of a work under a cause
+-- the login under which a work asks, or none
+abbrev pub login_asked : Work → Option (List ℕ)
+login_asked (work.Search login legs query small large medium small_element medium_element syntax
+    room) = login
+login_asked (work.Fetch login legs query hits first count syntax element) = login
+login_asked (work.Scan login leg ask) = login
+
+-- what comes of a work under a cause: the targets mean what they mean under its login
 abbrev pub outcome_of : {W : Type 0} → world.Ghosts W → Route → Work → Cause → Outcome
-outcome_of w route work cause = under_mark cause.mark cause.class (plain_outcome w route work)
+outcome_of w route work cause =
+    under_mark cause.mark cause.class (plain_outcome (under (login_asked work) w) route work)
 
 -- the legs that a work asks, by their places in the route: a fetch asks those that have a record to
 -- give

@@ -45,7 +45,7 @@ pub fn rest_ends<W: World>()
 {}
 
 /// On a fair route, every member of the class that a leg goes to is told, and means what the leg's
-/// first member means.
+/// first member means: each by itself, and inside every login.
 pub fn fair_legs<W: World>()
     ensures { MembersAnswer W.World }
 {}

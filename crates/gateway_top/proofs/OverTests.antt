@@ -1,10 +1,11 @@
 -- a configuration's route, all of whose targets are test targets, is told by each world that tells these; so is all that a replay of it over
 -- a new wire prints
-use Rattle.std.proofs.Common.{◌≡◌, ℕ, Bool, true, false, cond, not, find, List, [], ◌∷◌, map, Option, Some, None, Result, Ok, Err, IfSome, option_map, unwrap_or, refl, subst}
+use Rattle.std.proofs.Common.{◌≡◌, ℕ, Bool, true, false, cond, not, find, Contains, List, [], ◌∷◌, map, Option, Some, None, Result, Ok, Err, IfSome, option_map, unwrap_or, refl, subst}
 use Rattle.std.specs.List.{AllByRecursion}
 use Rattle.std.proofs.lemmas.List.Elements.{All-contains, All-from_recursion}
 use Rattle.toml.specs.Data.{Data}
 use Rattle.z_types.specs.Same.{is_same}
+use Rattle.z_types.specs.Under.{under}
 use Rattle.z_types.specs.declared.address.Address.{Address}
 use Rattle.z_types.specs.declared.address.Address.TheVariants.{Test, Tcp, Login}
 use Rattle.z_types.specs.declared.world.World as world
@@ -45,7 +46,11 @@ of-values : (tree : Option Data) (route : Route) → route_or_refusal tree ≡ O
 of-values None route e = let f : ◌≡◌ {A = Result Route RouteFault} (Err Toml) (Ok route) = e in absurd cc
 of-values (Some tree) route e = (values_in tree, value-is (first_fault tree) (route_of (values_in tree)) route e)
 
-module _ {W : Type 0} (w : world.Ghosts W) (tells : TellsTests w) where
+module _ {W : Type 0} (w : world.Ghosts W) (tells : (number : ℕ) → w.told (Test number)) where
+  -- each target of a route is told, by itself
+  abbrev AreToldSo : Route → Type 0
+  AreToldSo route = (class : Class) → Contains route.classes class → (address : Address) → Contains class.addresses address → w.told address
+
   abbrev IsToldTarget : Target → Type 0
   IsToldTarget target = w.told target.address
 
@@ -97,25 +102,29 @@ module _ {W : Type 0} (w : world.Ghosts W) (tells : TellsTests w) where
   unfolding route_of
   values-told values e = classes-told (class_names values) values (all-told values.targets e)
 
-  told-by : (route : Route) → AllByRecursion IsToldClass route.classes → AreTold w route
+  told-by : (route : Route) → AllByRecursion IsToldClass route.classes → AreToldSo route
   told-by route all class is address at =
       All-contains w.told class.addresses address
       (All-from_recursion w.told class.addresses
       (All-contains IsToldClass route.classes class (All-from_recursion IsToldClass route.classes all) is)) at
 
-  told-as : (values : Values) (route : Route) → route_of values ≡ route → first_real route ≡ None → AreTold w route
+  told-as : (values : Values) (route : Route) → route_of values ≡ route → first_real route ≡ None → AreToldSo route
   told-as values route e =
-      subst (λ (r : Route). first_real r ≡ None → AreTold w r) e (λ none. told-by (route_of values) (values-told values none))
+      subst (λ (r : Route). first_real r ≡ None → AreToldSo r) e (λ none. told-by (route_of values) (values-told values none))
 
-  -- a configuration's route is told
-  pub configured-told : (route : Route) (text : List ℕ) → IsConfigurationOf route text → first_real route ≡ None → AreTold w route
-  configured-told route text configured none =
+  configured-so : (route : Route) (text : List ℕ) → IsConfigurationOf route text → first_real route ≡ None → AreToldSo route
+  configured-so route text configured none =
       let found = of-values (tree_of text) route configured.1 in told-as found.0 route found.1 none
+
+-- a configuration's route is told, as inside every login its targets are
+pub configured-told : {W : Type 0} (w : world.Ghosts W) → TellsTests w → (route : Route) (text : List ℕ) → IsConfigurationOf route text → first_real route ≡ None
+    → AreTold w route
+configured-told w tells route text configured none login = configured-so (under login w) (tells login) route text configured none
 
 -- ---- a replay
 
 fair-by : {W : Type 0} (w : world.Ghosts W) (route : Route) → AreTold w route → MembersAreAlike w route → IsFair w route
-fair-by w route told alike class is = record { told = told class is; same = alike class is }
+fair-by w route told alike login class is = record { told = told login class is; same = alike login class is }
 
 module _ {W S : Type 0} (w : world.Ghosts W) (calls : WireCalls W S) where
   -- at Ok no target is another, and the script was played

@@ -1,8 +1,10 @@
 -- What a replay prints where its world tells what test targets answer, and its wire was just made
 -- (this project's own). The program replays test targets alone: so of what the main theorem asks of
 -- targets that tell their answers, and of the wire, nothing is left to ask here
-use Rattle.std.specs.Prelude.{◌≡◌, ℕ, true, false, List, [], ◌∷◌, Some, Contains, codes, map}
+use Rattle.std.specs.Prelude.{◌≡◌, ℕ, true, false, List, [], ◌∷◌, Option, Some, Contains, codes, map}
 use Rattle.std.specs.List.{AllByRecursion}
+use Rattle.z_types.specs.Logins.{inside}
+use Rattle.z_types.specs.Under.{under}
 use Rattle.z_types.specs.declared.address.Address.{Address}
 use Rattle.z_types.specs.declared.address.Address.TheVariants.{Test}
 use Rattle.z_types.specs.declared.world.World as world
@@ -30,9 +32,9 @@ use Rattle.gateway_config.specs.declared.status.Status.{Status}
 use Rattle.gateway_config.specs.declared.status.Status.TheVariants.{Ok}
 use Rattle.gateway_top.specs.Outcome.{IsPlayable}
 
--- each test target tells what it answers
+-- each test target tells what it answers, by itself and inside every login
 abbrev pub TellsTests : {W : Type 0} → world.Ghosts W → Type 0
-TellsTests w = (number : ℕ) → w.told (Test number)
+TellsTests w = (login : Option (List ℕ)) (number : ℕ) → w.told (inside login (Test number))
 
 -- the wire counts exactly, had counted nothing, was without links, and nothing was made to happen
 -- to it
@@ -41,11 +43,13 @@ pub record IsNewWire {W S : Type 0} (calls : WireCalls W S) : Type 0 where
   pub uncounted : calls.before ≡ no_counts
   pub quiet : IsQuietWire calls.before calls.happened
 
--- all members of a class mean the same, as where it has but one
+-- all members of a class mean the same, by themselves and inside every login, as where it has but
+-- one
 abbrev pub MembersAreAlike : {W : Type 0} → world.Ghosts W → Route → Type 0
 MembersAreAlike w route =
-    (class : Class) → Contains route.classes class → (one other : Address)
-    → Contains class.addresses one → Contains class.addresses other → MeansAs w one other
+    (login : Option (List ℕ)) (class : Class) → Contains route.classes class
+    → (one other : Address) → Contains class.addresses one → Contains class.addresses other
+    → MeansAs (under login w) one other
 
 -- The page of one report was printed, and nothing else. It is of the clients that the script names;
 -- where the members of each class are alike, each was written the answers to what it was fed. The

@@ -36,7 +36,7 @@ use Rattle.route_config.specs.declared.route.PoolNumbers.{PoolNumbers}
 use Rattle.leg.specs.Right.{AnswerFits, IsRightAt, IsCaused}
 use Rattle.leg.specs.Rules.{after_present, gone_again, stopped, with_reply, Becomes}
 use Rattle.leg.specs.Tasks.{want_of, MayDo, IsLeft}
-use Rattle.leg.specs.Terms.{Terms}
+use Rattle.leg.specs.Terms.{Terms, sites}
 use Rattle.leg.proofs.Own.{goes_holds}
 use Rattle.leg.proofs.Lacks.{forgot}
 use Rattle.leg.proofs.Settled.{IsKeptIn, reply_account, spoiled_account}
@@ -115,7 +115,7 @@ module _ {W S : Type 0} (w : world.Ghosts W) (t : sitting.Ghosts S W) where
 
   pub gone_holds : (terms : Terms) (most : ℕ) (task : Task) (held : Held S) (items : List Item) (slot hits looks : ℕ) (a b : Account)
       → b ≡ counted terms.class gone held.given 0 a → IsHeld w t resting held → ItemsKept w t task held items → HasOwnSet w t task held slot hits
-      → MayDo task → Contains terms.at held.parts.address
+      → MayDo task → Contains (sites terms) held.parts.address
       → AccountKept (ahead_with 0 held.given) looks a → IsWithin terms.pool (Fetching held items slot hits looks) a
       → Holds w t terms task most (gone_again terms.pool.repeats b.gones (with_sets (after_forget slot held.parts.table) (hold held.seat held.parts false)) items) b
   gone_holds terms most task held items slot hits looks a b e h i own m among k n =

@@ -4,6 +4,7 @@ pub mod Own
 pub mod Fetched
 pub mod Heards
 pub mod Opened
+pub mod Sites
 pub mod Asked
 pub mod Lacks
 pub mod Settled

@@ -4,11 +4,13 @@ use Rattle.std.proofs.lemmas.List.Elements.{Contains-get_or}
 use Rattle.std.specs.List.{IsDistinct}
 use Rattle.z_types.specs.declared.key.SetKey.{SetKey}
 use Rattle.z_types.specs.declared.address.Address.{Address}
-use Rattle.z_types.specs.declared.address.Address.TheVariants.{Test, Tcp, Login}
+use Rattle.z_types.specs.declared.address.Address.TheVariants.{Test}
+use Rattle.z_types.specs.Logins.{inside, all_inside}
 use Rattle.z_types.specs.Members.{IsMember}
+use Rattle.z_types.proofs.LoginLemmas.{login_inside, inside_contains}
 use Rattle.z_types.specs.declared.sitting.Sitting as sitting
 use Rattle.z_types.specs.declared.world.World as world
-use Rattle.unit_forms.specs.Logins.{HasLogin}
+use Rattle.unit_forms.specs.Logins.{HasLogin, IsLoginIf}
 use Rattle.pool_sets.specs.Kept.{TableKept}
 use Rattle.leg.specs.declared.phases.Held.{Held}
 use Rattle.leg.specs.declared.tasks.Task.{Task}
@@ -19,10 +21,12 @@ use Rattle.pool_sets.specs.Plain.{address_at}
 use Rattle.pool_sets.specs.Doors.{LacksWanted}
 use Rattle.pool_sets.specs.Table.{Table, empty_table, same_key, set_of}
 
--- the address that was named is one of the members'
-pub named_among : (at : List Address) (member : ℕ) (address : Address) → member < length at → address ≡ address_at at member → Contains at address
-named_among at member address within e =
-    let P : Address → Type 0 = Contains at in subst P (sym e) (Contains-get_or at member (Test 0) within)
+-- the address that was named is one of the members', inside the login
+pub named_among : (login : Option (List ℕ)) (at : List Address) (member : ℕ) (address : Address) → member < length at
+    → address ≡ inside login (address_at at member) → Contains (all_inside login at) address
+named_among login at member address within e =
+    subst (Contains (all_inside login at)) (sym e)
+    (inside_contains login at (address_at at member) (Contains-get_or at member (Test 0) within))
 
 -- no key stands twice where there is none
 none_twice : IsDistinct same_key []
@@ -51,8 +55,6 @@ module _ {W S : Type 0} (w : world.Ghosts W) (t : sitting.Ghosts S W) where
   no_items (Hits key) held m = refl
   no_items (Scan scan) held m = refl
 
--- the address of a member is inside no login
-pub member_login : (address : Address) → IsMember address → HasLogin address
-member_login (Test number) m = tt
-member_login (Tcp host port) m = tt
-member_login (Login at login) m = absurd m
+-- inside a login the address of a member has that login
+pub opened_login : (login : Option (List ℕ)) (address : Address) → IsMember address → IsLoginIf login → HasLogin (inside login address)
+opened_login login address member is = subst IsLoginIf (sym (login_inside login address member)) is

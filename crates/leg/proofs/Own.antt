@@ -17,7 +17,7 @@ use Rattle.leg.specs.declared.answers.LegAnswer.{LegAnswer}
 use Rattle.leg.specs.declared.answers.LegAnswer.TheVariants as answer
 use Rattle.leg.specs.declared.tasks.Task.{Task}
 use Rattle.leg.specs.Right.{IsRight, IsRightAt}
-use Rattle.leg.specs.Terms.{Terms}
+use Rattle.leg.specs.Terms.{Terms, sites}
 use Rattle.leg.specs.steps.Follows.{GoesOn}
 
 -- a set that was recorded for the key that is wanted
@@ -58,7 +58,7 @@ module _ {W S : Type 0} (w : world.Ghosts W) (t : sitting.Ghosts S W) where
   own_count p slot key hits kept own = (kept_entry p slot key hits kept own).count
 
 -- what is right at one of the addresses
-pub right_among : {W : Type 0} (w : world.Ghosts W) (terms : Terms) (task : Task) (address : Address) (reply : LegAnswer) → Contains terms.at address
+pub right_among : {W : Type 0} (w : world.Ghosts W) (terms : Terms) (task : Task) (address : Address) (reply : LegAnswer) → Contains (sites terms) address
     → IsRightAt w terms.dbs task address reply → IsRight w terms task reply
 right_among w terms task address (answer.Marked mark) among right = tt
 right_among w terms task address (answer.Hits hits) among right = (address, among, right)

@@ -21,7 +21,7 @@ use Rattle.leg.specs.Phases.{hold}
 use Rattle.leg.specs.Right.{AnswerFits, IsRightAt, IsCaused}
 use Rattle.leg.specs.Rules.{scan_answer}
 use Rattle.leg.specs.Tasks.{MayDo}
-use Rattle.leg.specs.Terms.{Terms}
+use Rattle.leg.specs.Terms.{Terms, sites}
 use Rattle.leg.specs.steps.Follows.{Follows, Holds}
 use Rattle.leg.specs.steps.Replies.{ScanHeard}
 use Rattle.z_types.specs.Pending.{resting}
@@ -30,7 +30,7 @@ use Rattle.leg.proofs.AccountSteps.{account_goes, end_enough, within_on}
 module _ {W S : Type 0} (w : world.Ghosts W) (t : sitting.Ghosts S W) (terms : Terms) where
   scan_holds : (task : Task) (most : ℕ) (held : Held S) (looks : ℕ) (reply : LegAnswer) (a b : Account)
       → b ≡ counted terms.class no_rises held.given 0 a → MayDo task → IsHeld w t resting held → AnswerFits task reply
-      → Contains terms.at held.parts.address → IsRightAt w terms.dbs task held.parts.address reply → IsCaused terms.pool most b reply
+      → Contains (sites terms) held.parts.address → IsRightAt w terms.dbs task held.parts.address reply → IsCaused terms.pool most b reply
       → AccountKept (ahead_with 0 held.given) looks a → IsWithin terms.pool (Scanning held looks) a
       → Holds w t terms task most (Returning (hold held.seat held.parts false) reply) b
   scan_holds task most held looks reply a b e may is_held fits among right caused k n = record {
@@ -46,7 +46,7 @@ module _ {W S : Type 0} (w : world.Ghosts W) (t : sitting.Ghosts S W) (terms : T
   pub scan_replied : (task : Task) (now most : ℕ) (held : Held S) (looks : ℕ) (reply : Heard) (a b : Account)
       → b ≡ counted terms.class (rises_by (heard_counted reply)) held.given (looks_then looks reply) a
       → (reply ≡ look.NotYet → ⊥) → (reply ≡ look.Failed → ⊥) → (reply ≡ look.Memory → ⊥)
-      → ScanHeard w t terms task held reply → Contains terms.at held.parts.address → MayDo task
+      → ScanHeard w t terms task held reply → Contains (sites terms) held.parts.address → MayDo task
       → AccountKept (ahead_with 0 held.given) looks a → IsWithin terms.pool (Scanning held looks) a
       → Follows w t terms task now most (deed.heard reply held.parts.session) (Scanning held looks)
       (Returning (hold held.seat held.parts false) (scan_answer reply)) a b turned.Went

@@ -7,6 +7,7 @@ use Rattle.z_types.specs.declared.key.SetKey.{SetKey}
 use Rattle.z_types.specs.declared.records.Item.{Item}
 use Rattle.z_types.specs.declared.sitting.Sitting as sitting
 use Rattle.z_types.specs.declared.world.World as world
+use Rattle.unit_forms.specs.Logins.{IsLoginIf}
 use Rattle.gw_outside.specs.Peers.{AreRecords}
 use Rattle.pool_sets.specs.Doors.{HasSet, LacksWanted}
 use Rattle.pool_sets.specs.Entries.{IsRoom}
@@ -23,7 +24,7 @@ use Rattle.leg.specs.Phases.{looks_of}
 use Rattle.leg.specs.Right.{AnswerFits, IsRight, IsRightAt, IsCaused}
 use Rattle.leg.specs.Rules.{next_ask}
 use Rattle.leg.specs.Tasks.{want_of, MayDo}
-use Rattle.leg.specs.Terms.{Terms}
+use Rattle.leg.specs.Terms.{Terms, sites}
 
 -- ---- what its type keeps of its session
 
@@ -143,12 +144,18 @@ pub record AccountKept (ahead : Ahead) (looks : ℕ) (a : Account) : Type 0 wher
   pub one_booked : a.booked + ahead.takes ≤ 1
   pub most_looks : looks ≤ a.looks
 
--- what the type of a leg keeps
+-- what the type of a leg keeps of its task, its session and its account
 pub record LegKept {W S : Type 0} (w : world.Ghosts W) (t : sitting.Ghosts S W) (task : Task)
     (phase : Phase S) (a : Account) : Type 0 where
   pub may : MayDo task
   pub session : SessionKept w t task phase
   pub account : AccountKept (ahead_of (want_of task) phase) (looks_of phase) a
+
+-- what the type of a leg keeps
+pub record IsKeptLeg {W S : Type 0} (w : world.Ghosts W) (t : sitting.Ghosts S W)
+    (login : Option (List ℕ)) (task : Task) (phase : Phase S) (a : Account) : Type 0 where
+  pub login_is : IsLoginIf login
+  pub kept : LegKept w t task phase a
 
 -- ---- what holds where its turns are given one route
 
@@ -174,9 +181,9 @@ pub record IsWithin {S : Type 0} (pool : PoolNumbers) (phase : Phase S) (a : Acc
   pub looks : a.looks + may_wait phase ≤ pool.patience
 
 module _ {W S : Type 0} (w : world.Ghosts W) (t : sitting.Ghosts S W) (terms : Terms) where
-  -- the session is at one of the addresses
+  -- the session is at one of the addresses, inside the login
   abbrev pub IsAmong : Held S → Type 0
-  IsAmong held = Contains terms.at held.parts.address
+  IsAmong held = Contains (sites terms) held.parts.address
 
   -- the leg's own scan is awaited
   abbrev pub IsScanning : Task → Held S → Type 0

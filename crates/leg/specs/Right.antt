@@ -1,5 +1,5 @@
 -- What the answer of a leg is (this project's own): it fits what was asked, it is the world's at
--- one of the class's addresses, and a mark has its cause
+-- one of the class's addresses inside the login of who asks, and a mark has its cause
 use Rattle.std.specs.Prelude.{◌≡◌, ◌⊎◌, ℕ, ◌+◌, ◌-◌, ◌<◌, ◌≤◌, List, length, Contains, Result, Ok, Err}
 use Rattle.z_types.specs.Bounds.{most_number}
 use Rattle.z_types.specs.declared.address.Address.{Address}
@@ -15,7 +15,7 @@ use Rattle.leg.specs.declared.answers.LegAnswer.TheVariants as answer
 use Rattle.leg.specs.declared.tasks.Task.{Task}
 use Rattle.leg.specs.declared.tasks.Task.TheVariants.{Hits, Records, Scan}
 use Rattle.leg.specs.Rules.{out_of_range}
-use Rattle.leg.specs.Terms.{Terms}
+use Rattle.leg.specs.Terms.{Terms, sites}
 
 -- ---- at every address
 
@@ -69,11 +69,12 @@ module _ {W : Type 0} (w : world.Ghosts W) (dbs : List (List ℕ)) where
   IsRightAt task address (answer.Marked mark) = Unit {0}
   IsRightAt task address answer = w.told address → IsWorldsAt task address answer
 
--- so at one of the addresses
+-- so at one of the addresses, inside the login
 abbrev pub IsRight : {W : Type 0} → world.Ghosts W → Terms → Task → LegAnswer → Type 0
 IsRight w terms task (answer.Marked mark) = Unit {0}
 IsRight w terms task answer =
-    (address : Address) × Contains terms.at address × IsRightAt w terms.dbs task address answer
+    (address : Address) × Contains (sites terms) address
+    × IsRightAt w terms.dbs task address answer
 
 -- ---- its cause
 

@@ -53,12 +53,14 @@ module _ {W S : Type 0} (w : world.Ghosts W) (t : sitting.Ghosts S W) where
         → t.made after name ≡ made_after (t.pending before) reply (t.made before) name
 
   module _ (terms : Terms) (most : ℕ) (task : Task) where
-    -- in each phase one deed is due: a session of the class is taken, for the set that is wanted;
-    -- the address of the member that the door named is opened; a session is asked or looked at, put
-    -- back, given up or dialled again. What is opened or asked for is made before, and memory may
-    -- lack for it; a leg without a session lacks it for good; one that is done does nothing
+    -- in each phase one deed is due: a session of the class and login is taken, for the set that is
+    -- wanted; the address of the member that the door named is opened, inside the login; a session
+    -- is asked or looked at, put back, given up or dialled again. What is opened or asked for is
+    -- made before, and memory may lack for it; a leg without a session lacks it for good; one that
+    -- is done does nothing
     abbrev pub IsDue : Phase S → Deed S → Type 0
-    IsDue Begin (took taken) = TakenFits w t terms.at (want_of task) most taken
+    IsDue Begin (took taken) =
+        TakenFits w t terms.class terms.at terms.login (want_of task) most taken
     IsDue (Dialling seat member) (opened made) =
         IfSession made (IsNewSession t (opened_at terms member))
     IsDue (Dialling seat member) no_memory = Unit {0}
@@ -87,7 +89,8 @@ module _ {W S : Type 0} (w : world.Ghosts W) (t : sitting.Ghosts S W) where
 module _ {S : Type 0} (terms : Terms) (task : Task) (now : ℕ) where
   -- one function of the plain pool, or none
   abbrev pub PoolMoves : Phase S → Deed S → Option (plain.Pool S) → Option (plain.Pool S) → Type 0
-  PoolMoves phase (took taken) p q = Takes p q terms.class terms.at (want_of task) now taken
+  PoolMoves phase (took taken) p q =
+      Takes p q terms.class terms.at terms.login (want_of task) now taken
   PoolMoves (Returning held answer) put_back p q =
       q ≡ option_map (plain.put held.seat held.parts now) p
   PoolMoves (Losing seat answer) gave_up p q = q ≡ option_map (plain.lost seat) p
@@ -130,8 +133,8 @@ module _ {W S : Type 0} (w : world.Ghosts W) (t : sitting.Ghosts S W) (exact : B
 pub record IsLegOf {W S : Type 0} (w : world.Ghosts W) (t : sitting.Ghosts S W) (route : Route)
     (most : ℕ) (v : LegView S) : Type 0 where
   pub place : v.leg < length route.legs
-  pub stands : StandsAt w t (terms_of route v.leg) most v.task v.phase v.account
-  pub within : IsWithin (terms_of route v.leg).pool v.phase v.account
+  pub stands : StandsAt w t (terms_of route v.login v.leg) most v.task v.phase v.account
+  pub within : IsWithin (terms_of route v.login v.leg).pool v.phase v.account
 
 -- the session that is out for a leg, where one is, is lost
 abbrev pub lost_seat : {S : Type 0} → Option Seat → plain.Pool S → plain.Pool S

@@ -37,7 +37,14 @@ pub(crate) fn take<W: World, S: Sitting<W>, D: Door<W, S>>(
         (record { pool = D.pool door.new; counts = D.counts door.new })
         backend backend }
 {
-    let taken = door.take(alloc, terms.class, terms.at, want_of(task), now);
+    let taken = door.take(
+        alloc,
+        terms.class,
+        terms.at,
+        terms.login.as_ref(),
+        want_of(task),
+        now,
+    );
     after_take(alloc, terms, task, account, taken)
 }
 
@@ -69,10 +76,11 @@ fn after_take<W: World, S: Sitting<W>>(
     requires kept { LegKept W.World S.Sitting task.now Begin account.old }
     requires counts { MayCount S (lent_terms terms.now) task.now Begin account.old }
     requires first { IsFirst account.old }
-    requires fits { (most : ℕ) × TakenFits W.World S.Sitting
-        (lent_terms terms.now).at (want_of task.now) most taken }
+    requires fits { (most : ℕ) × TakenFits W.World S.Sitting (lent_terms terms.now).class
+        (lent_terms terms.now).at (lent_terms terms.now).login (want_of task.now) most taken }
     ensures follows { (most now : ℕ)
-        → TakenFits W.World S.Sitting (lent_terms terms.now).at (want_of task.now) most taken
+        → TakenFits W.World S.Sitting (lent_terms terms.now).class (lent_terms terms.now).at
+        (lent_terms terms.now).login (want_of task.now) most taken
         → Follows W.World S.Sitting (lent_terms terms.now) task.now now most
         (took taken) Begin result.0 account.old account.new result.1 }
 {

@@ -3,7 +3,7 @@
 ghost use Rattle.std.specs.Prelude.{◌≡◌, ◌<◌, ℕ, length, Contains, Option, IfOk};
 ghost use Rattle.z_types.specs.Members.{AreMembers};
 ghost use Rattle.z_types.specs.declared.key.SetKey.{SetKey};
-ghost use Rattle.unit_forms.specs.Logins.{HasLogin};
+ghost use Rattle.unit_forms.specs.Logins.{HasLogin, IsLoginIf};
 ghost use Rattle.pool_sets.specs.Table.{empty_table};
 ghost use Rattle.leg.specs.Deeds as deed;
 ghost use Rattle.leg.specs.Deeds.{rises_of};
@@ -12,7 +12,7 @@ ghost use Rattle.gw_outside.specs.Sessions.{IfSession, IsNewSession};
 ghost use Rattle.leg.specs.steps.Replies.{InitHeard};
 ghost use Rattle.leg.specs.Tasks.{MayDo};
 ghost use Rattle.route_config.specs.Sound.{ArePoolNumbers};
-ghost use Rattle.leg.specs.Terms.{lent_terms, opened_at};
+ghost use Rattle.leg.specs.Terms.{lent_terms, opened_at, sites};
 ghost use Rattle.leg.specs.steps.Follows.{MayCount, IsStep, Follows};
 ghost use Rattle.leg.specs.Turns.{DoorView};
 ghost use Rattle.leg.specs.declared.phases.Phase.TheVariants.{Dialling, Dialled, Spoiled};
@@ -23,7 +23,7 @@ use crate::{Account, Held, LegAnswer, LentTerms, Phase, Rises, Task, Turned};
 use gw_outside::{Backend, Heard, Opening};
 use pool_sets::{Parts, Seat, SetTable};
 use std::alloc::Global;
-use z_types::{Address, List, Mark, Memory, Sitting, World, copy};
+use z_types::{Address, List, Mark, Memory, Sitting, World};
 
 /// Dials the member that the door named.
 pub(crate) fn dial<W: World, S: Sitting<W>, B: Backend<W, Session = S>>(
@@ -37,6 +37,7 @@ pub(crate) fn dial<W: World, S: Sitting<W>, B: Backend<W, Session = S>>(
 ) -> (Phase<S>, Turned)
     requires members { AreMembers (lent_terms terms.now).at }
     requires within { member < length (lent_terms terms.now).at }
+    requires login { IsLoginIf (lent_terms terms.now).login }
     requires kept { LegKept W.World S.Sitting task.now (Dialling seat member) account.old }
     requires counts { MayCount S (lent_terms terms.now) task.now
         (Dialling seat member) account.old }
@@ -54,8 +55,8 @@ pub(crate) fn dial<W: World, S: Sitting<W>, B: Backend<W, Session = S>>(
     after_open(terms, task, account, seat, member, address, table, opening)
 }
 
-/// The address that is opened for a member, and a table without sets.
-#[tactic(auto, using(crate::proofs::Opened::member_login))]
+/// The address that is opened for a member, inside the login, and a table without sets.
+#[tactic(auto, using(crate::proofs::Opened::opened_login))]
 fn place_for(
     alloc: Global,
     terms: &LentTerms<'_>,
@@ -63,6 +64,7 @@ fn place_for(
 ) -> Result<(Address, SetTable), Memory>
     requires members { AreMembers (lent_terms terms.now).at }
     requires within { member < length (lent_terms terms.now).at }
+    requires login { IsLoginIf (lent_terms terms.now).login }
     requires pool { ArePoolNumbers (lent_terms terms.now).pool }
     ensures address { IfOk result (λ place. place.0 ≡ opened_at (lent_terms terms.now) member) }
     ensures login { IfOk result (λ place. HasLogin place.0) }
@@ -70,7 +72,10 @@ fn place_for(
         ≡ empty_table (lent_terms terms.now).pool.sets_max) }
 {
     let address = &terms.at[member as usize];
-    Ok((copy(address)?, SetTable::new(alloc, terms.pool.sets_max)?))
+    Ok((
+        address.inside(terms.login)?,
+        SetTable::new(alloc, terms.pool.sets_max)?,
+    ))
 }
 
 /// Which counts rise at what an opening gave.
@@ -143,7 +148,7 @@ pub(crate) fn wait_for_init<W: World, S: Sitting<W>, B: Backend<W, Session = S>>
 ) -> (Phase<S>, Turned)
     requires kept { LegKept W.World S.Sitting task.now (Dialled held looks) account.old }
     requires counts { MayCount S (lent_terms terms.now) task.now (Dialled held looks) account.old }
-    requires among { Contains (lent_terms terms.now).at held.parts.address }
+    requires among { Contains (sites (lent_terms terms.now)) held.parts.address }
     ensures step { (now : ℕ) (door : DoorView S)
         → IsStep W.World S.Sitting (lent_terms terms.now) task.now now B.exact
         (Dialled held looks) result.0 account.old account.new result.1 door door
@@ -167,7 +172,7 @@ fn after_init<W: World, S: Sitting<W>>(
     requires may { MayDo task.now }
     requires counts { MayCount S (lent_terms terms.now) task.now (Dialled held looks) account.old }
     requires heard { InitHeard W.World S.Sitting task.now held heard }
-    requires among { Contains (lent_terms terms.now).at held.parts.address }
+    requires among { Contains (sites (lent_terms terms.now)) held.parts.address }
     ensures follows { (now most : ℕ)
         → Follows W.World S.Sitting (lent_terms terms.now) task.now now most
         (deed.heard heard held.parts.session) (Dialled held looks) result.0

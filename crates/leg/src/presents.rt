@@ -7,7 +7,7 @@ ghost use Rattle.leg.specs.Phases.{is_done};
 ghost use Rattle.leg.specs.steps.Replies.{PresentHeard, AreNext, IsPresentReply};
 ghost use Rattle.leg.specs.Rules.{next_ask, with_items, with_reply, stopped, gone_again, Becomes};
 ghost use Rattle.leg.specs.Tasks.{MayDo, IsLeft};
-ghost use Rattle.leg.specs.Terms.{lent_terms};
+ghost use Rattle.leg.specs.Terms.{lent_terms, sites};
 ghost use Rattle.leg.specs.steps.Follows.{MayCount, IsStep, Follows, GoesOn};
 ghost use Rattle.leg.specs.Turns.{DoorView, is_done_answer};
 ghost use Rattle.leg.specs.declared.accounts.Account.{Account};
@@ -64,7 +64,7 @@ pub(crate) fn present<W: World, S: Sitting<W>, B: Backend<W, Session = S>>(
         (Presenting held items slot hits) account.old }
     requires counts { MayCount S (lent_terms terms.now) task.now
         (Presenting held items slot hits) account.old }
-    requires among { Contains (lent_terms terms.now).at held.parts.address }
+    requires among { Contains (sites (lent_terms terms.now)) held.parts.address }
     ensures step { (now : ℕ) (door : DoorView S)
         → IsStep W.World S.Sitting (lent_terms terms.now) task.now now B.exact
         (Presenting held items slot hits) result.0 account.old account.new result.1 door door
@@ -119,7 +119,7 @@ pub(crate) fn wait_for_items<W: World, S: Sitting<W>, B: Backend<W, Session = S>
         (Fetching held items slot hits looks) account.old }
     requires counts { MayCount S (lent_terms terms.now) task.now
         (Fetching held items slot hits looks) account.old }
-    requires among { Contains (lent_terms terms.now).at held.parts.address }
+    requires among { Contains (sites (lent_terms terms.now)) held.parts.address }
     ensures step { (now : ℕ) (door : DoorView S)
         → IsStep W.World S.Sitting (lent_terms terms.now) task.now now B.exact
         (Fetching held items slot hits looks) result.0 account.old account.new result.1 door door
@@ -151,7 +151,7 @@ fn after_present<W: World, S: Sitting<W>>(
     requires heard { PresentHeard W.World S.Sitting task.now held items slot heard }
     requires items { ItemsKept W.World S.Sitting task.now held items }
     requires own { HasOwnSet W.World S.Sitting task.now held slot hits }
-    requires among { Contains (lent_terms terms.now).at held.parts.address }
+    requires among { Contains (sites (lent_terms terms.now)) held.parts.address }
     ensures follows { (now most : ℕ)
         → Follows W.World S.Sitting (lent_terms terms.now) task.now now most
         (deed.heard heard held.parts.session) (Fetching held items slot hits looks) result.0
@@ -210,7 +210,7 @@ fn with_reply<W: World, S: Sitting<W>>(
     requires heard { PresentHeard W.World S.Sitting task.now held items slot reply }
     requires items { ItemsKept W.World S.Sitting task.now held items }
     requires own { HasOwnSet W.World S.Sitting task.now held slot hits }
-    requires among { Contains (lent_terms terms.now).at held.parts.address }
+    requires among { Contains (sites (lent_terms terms.now)) held.parts.address }
     ensures goes { Becomes (deed.heard reply held.parts.session)
         (with_reply task.now held items slot hits reply) (Spoiled held.seat) result.1 result.0 }
     ensures session { SessionKept W.World S.Sitting task.now result.0 }
@@ -275,7 +275,7 @@ fn with_items<W: World, S: Sitting<W>>(
     requires next { AreNext W.World S.Sitting task.now held items others }
     requires items { ItemsKept W.World S.Sitting task.now held items }
     requires own { HasOwnSet W.World S.Sitting task.now held slot hits }
-    requires among { Contains (lent_terms terms.now).at held.parts.address }
+    requires among { Contains (sites (lent_terms terms.now)) held.parts.address }
     ensures goes { GoesOn
         (with_items task.now held (items ++ others) slot hits) (Spoiled held.seat) result.1 result.0 }
     ensures session { SessionKept W.World S.Sitting task.now result.0 }

@@ -8,7 +8,7 @@ ghost use Rattle.leg.specs.Kept.{LegKept, IsScanning};
 ghost use Rattle.leg.specs.steps.Replies.{ScanHeard, IsScanReply};
 ghost use Rattle.leg.specs.Rules.{scan_answer};
 ghost use Rattle.leg.specs.Tasks.{MayDo};
-ghost use Rattle.leg.specs.Terms.{lent_terms};
+ghost use Rattle.leg.specs.Terms.{lent_terms, sites};
 ghost use Rattle.leg.specs.steps.Follows.{MayCount, IsStep, Follows};
 ghost use Rattle.leg.specs.Turns.{DoorView};
 ghost use Rattle.leg.specs.declared.phases.Phase.TheVariants.{Ready, Scanning};
@@ -46,7 +46,7 @@ pub(crate) fn scan<W: World, S: Sitting<W>, B: Backend<W, Session = S>>(
     requires dbs { AreFewShort (lent_terms terms.now).dbs }
     requires kept { LegKept W.World S.Sitting task.now (Ready held items) account.old }
     requires counts { MayCount S (lent_terms terms.now) task.now (Ready held items) account.old }
-    requires among { Contains (lent_terms terms.now).at held.parts.address }
+    requires among { Contains (sites (lent_terms terms.now)) held.parts.address }
     ensures step { (now : ℕ) (door : DoorView S)
         → IsStep W.World S.Sitting (lent_terms terms.now) task.now now B.exact
         (Ready held items) result.0 account.old account.new result.1 door door
@@ -83,7 +83,7 @@ pub(crate) fn wait_for_entries<W: World, S: Sitting<W>, B: Backend<W, Session = 
 ) -> (Phase<S>, Turned)
     requires kept { LegKept W.World S.Sitting task.now (Scanning held looks) account.old }
     requires counts { MayCount S (lent_terms terms.now) task.now (Scanning held looks) account.old }
-    requires among { Contains (lent_terms terms.now).at held.parts.address }
+    requires among { Contains (sites (lent_terms terms.now)) held.parts.address }
     requires scan { IsScanning W.World S.Sitting (lent_terms terms.now) task.now held }
     ensures step { (now : ℕ) (door : DoorView S)
         → IsStep W.World S.Sitting (lent_terms terms.now) task.now now B.exact
@@ -107,7 +107,7 @@ fn after_scan<W: World, S: Sitting<W>>(
     requires may { MayDo task.now }
     requires counts { MayCount S (lent_terms terms.now) task.now (Scanning held looks) account.old }
     requires heard { ScanHeard W.World S.Sitting (lent_terms terms.now) task.now held heard }
-    requires among { Contains (lent_terms terms.now).at held.parts.address }
+    requires among { Contains (sites (lent_terms terms.now)) held.parts.address }
     ensures follows { (now most : ℕ)
         → Follows W.World S.Sitting (lent_terms terms.now) task.now now most
         (deed.heard heard held.parts.session) (Scanning held looks) result.0

@@ -11,7 +11,7 @@ ghost use Rattle.leg.specs.Phases.{is_done};
 ghost use Rattle.leg.specs.steps.Replies.{SearchHeard, IsFound};
 ghost use Rattle.leg.specs.Rules.{with_set, recorded, out_of_range};
 ghost use Rattle.leg.specs.Tasks.{want_of, MayDo};
-ghost use Rattle.leg.specs.Terms.{lent_terms};
+ghost use Rattle.leg.specs.Terms.{lent_terms, sites};
 ghost use Rattle.leg.specs.steps.Follows.{MayCount, IsStep, Follows, GoesOn};
 ghost use Rattle.leg.specs.Turns.{DoorView, is_done_answer};
 ghost use Rattle.leg.specs.declared.accounts.Account.{Account};
@@ -58,7 +58,7 @@ pub(crate) fn search<W: World, S: Sitting<W>, B: Backend<W, Session = S>>(
     requires wants { want_of task.now ≡ Some key.now }
     requires kept { LegKept W.World S.Sitting task.now (Ready held items) account.old }
     requires counts { MayCount S (lent_terms terms.now) task.now (Ready held items) account.old }
-    requires among { Contains (lent_terms terms.now).at held.parts.address }
+    requires among { Contains (sites (lent_terms terms.now)) held.parts.address }
     ensures step { (now : ℕ) (door : DoorView S)
         → IsStep W.World S.Sitting (lent_terms terms.now) task.now now B.exact
         (Ready held items) result.0 account.old account.new result.1 door door
@@ -113,7 +113,7 @@ pub(crate) fn wait_for_hits<W: World, S: Sitting<W>, B: Backend<W, Session = S>>
         (Searching held items slot looks) account.old }
     requires counts { MayCount S (lent_terms terms.now) task.now
         (Searching held items slot looks) account.old }
-    requires among { Contains (lent_terms terms.now).at held.parts.address }
+    requires among { Contains (sites (lent_terms terms.now)) held.parts.address }
     ensures step { (door : DoorView S)
         → IsStep W.World S.Sitting (lent_terms terms.now) task.now now B.exact
         (Searching held items slot looks) result.0 account.old account.new result.1 door door
@@ -144,7 +144,7 @@ fn after_search<W: World, S: Sitting<W>>(
         (Searching held items slot looks) account.old }
     requires heard { SearchHeard W.World S.Sitting task.now held slot heard }
     requires items { ItemsKept W.World S.Sitting task.now held items }
-    requires among { Contains (lent_terms terms.now).at held.parts.address }
+    requires among { Contains (sites (lent_terms terms.now)) held.parts.address }
     ensures follows { (most : ℕ)
         → Follows W.World S.Sitting (lent_terms terms.now) task.now now most
         (deed.heard heard held.parts.session) (Searching held items slot looks) result.0
@@ -204,7 +204,7 @@ fn found<W: World, S: Sitting<W>>(
     requires may { MayDo task.now }
     requires known { IsFound W.World S.Sitting task.now held slot hits }
     requires items { ItemsKept W.World S.Sitting task.now held items }
-    requires among { Contains (lent_terms terms.now).at held.parts.address }
+    requires among { Contains (sites (lent_terms terms.now)) held.parts.address }
     ensures goes { GoesOn
         (with_set task.now (recorded (want_of task.now) slot hits now held) items slot hits)
         (Spoiled held.seat) result.1 result.0 }
@@ -239,7 +239,7 @@ pub(crate) fn with_set<W: World, S: Sitting<W>>(
     requires own { HasWanted (want_of task.now) held.parts.table.entries slot hits }
     requires held { IsHeld W.World S.Sitting resting held }
     requires items { ItemsKept W.World S.Sitting task.now held items }
-    requires among { Contains (lent_terms terms.now).at held.parts.address }
+    requires among { Contains (sites (lent_terms terms.now)) held.parts.address }
     ensures goes { GoesOn
         (with_set task.now held items slot hits) (Spoiled held.seat) result.1 result.0 }
     ensures session { SessionKept W.World S.Sitting task.now result.0 }

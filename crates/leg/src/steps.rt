@@ -2,6 +2,7 @@
 
 ghost use Rattle.std.specs.Prelude.{◌≡◌, ℕ, Bool};
 ghost use Rattle.z_types.specs.Members.{AreMembers};
+ghost use Rattle.unit_forms.specs.Logins.{IsLoginIf};
 ghost use Rattle.gw_outside.specs.Asks.{AreFewShort};
 ghost use Rattle.leg.specs.Deeds.{BackendView};
 ghost use Rattle.leg.specs.Kept.{LegKept, StandsAt};
@@ -34,6 +35,7 @@ pub(crate) fn turn_phase<W: World, S: Sitting<W>, B: Backend<W, Session = S>, D:
     now: u64,
 ) -> (Phase<S>, Turned)
     requires members { AreMembers (lent_terms terms.now).at }
+    requires login { IsLoginIf (lent_terms terms.now).login }
     requires dbs { AreFewShort (lent_terms terms.now).dbs }
     requires kept { LegKept W.World S.Sitting task.now phase account.old }
     requires counts { MayCount S (lent_terms terms.now) task.now phase account.old }
@@ -88,6 +90,7 @@ fn open_or_ask<W: World, S: Sitting<W>, B: Backend<W, Session = S>>(
     backend: &mut B,
 ) -> (Phase<S>, Turned)
     requires members { AreMembers (lent_terms terms.now).at }
+    requires login { IsLoginIf (lent_terms terms.now).login }
     requires asks { IsAsking W.World S.Sitting (lent_terms terms.now) phase }
     requires dbs { AreFewShort (lent_terms terms.now).dbs }
     requires kept { LegKept W.World S.Sitting task.now phase account.old }

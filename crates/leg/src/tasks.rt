@@ -31,6 +31,8 @@ pub enum Job {
 pub struct LegAsk {
     /// The leg's place in the route, counted from 0.
     pub leg: u32,
+    /// The login of who asks, or none.
+    pub login: Option<Text>,
     /// The databases and the query; none where the job is a scan.
     pub key: Option<SetKey>,
     /// What is asked of its target.

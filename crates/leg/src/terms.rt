@@ -1,4 +1,4 @@
-//! What a route says of a leg.
+//! What a route says of a leg, and who asks there.
 
 ghost use Rattle.std.specs.Prelude.{◌≡◌, ◌<◌, length};
 ghost use Rattle.z_types.specs.Members.{AreMembers};
@@ -9,11 +9,13 @@ ghost use Rattle.leg.specs.Terms.{terms_of, lent_terms};
 use route_config::{PoolNumbers, Route};
 use z_types::{Address, List, Text};
 
-/// What a route says of a leg, lent.
+/// What a route says of a leg, and who asks there, lent.
 #[derive(Drop)]
 pub struct LentTerms<'a> {
     /// The class that it goes to.
     pub class: u32,
+    /// The login of who asks, or none.
+    pub login: &'a Option<Text>,
     /// The addresses of the class's members.
     pub at: &'a [Address],
     /// The databases that it is there.
@@ -22,19 +24,20 @@ pub struct LentTerms<'a> {
     pub pool: PoolNumbers,
 }
 
-/// What a route says of the leg at a place.
-pub(crate) fn terms_of(route: &Route, leg: u32) -> LentTerms<'_>
+/// What a route says of the leg at a place, for a login.
+pub(crate) fn terms_of<'a>(route: &'a Route, login: &'a Option<Text>, leg: u32) -> LentTerms<'a>
     requires { leg < length route.now.legs }
-    ensures terms { lent_terms result ≡ terms_of route.now leg }
-    ensures members { AreMembers (terms_of route.now leg).at }
-    ensures dbs { AreFewShort (terms_of route.now leg).dbs }
-    ensures pool { ArePoolNumbers (terms_of route.now leg).pool }
+    ensures terms { lent_terms result ≡ terms_of route.now login.now leg }
+    ensures members { AreMembers (terms_of route.now login.now leg).at }
+    ensures dbs { AreFewShort (terms_of route.now login.now leg).dbs }
+    ensures pool { ArePoolNumbers (terms_of route.now login.now leg).pool }
 {
     let parts = route.parts();
     let leg = &parts.legs.as_slice()[leg as usize];
     let class = &parts.classes.as_slice()[leg.class as usize];
     LentTerms {
         class: leg.class,
+        login,
         at: class.addresses.as_slice(),
         dbs: &leg.databases,
         pool: parts.pool,

@@ -11,14 +11,15 @@ use route_config::Route;
 use std::alloc::Global;
 use std::marker::{Model, PhantomData};
 use std::mem;
-use z_types::{Sitting, World};
+use z_types::{Sitting, Text, World};
 
-/// One leg of a request: it takes a session of its class from a door, opens it over a backend where it
-/// is dialled, does its job there and puts the session back, one deed a turn. It is turned until it is
-/// done, or given up; then no session is out for it.
+/// One leg of a request: it takes a session of its class and of the login of who asks from a door, opens it
+/// over a backend where it is dialled, inside that login, does its job there and puts the session back, one
+/// deed a turn. It is turned until it is done, or given up; then no session is out for it.
 #[derive(Drop)]
 pub struct Leg<W: World, S: Sitting<W>> {
     leg: u32,
+    login: Option<Text>,
     task: Task,
     phase: Phase<S>,
     account: Account,
@@ -34,15 +35,16 @@ impl<W: World, S: Sitting<W>> Model for Leg<W, S> {
 
     ghost coded = { Prim.hlevel (codes, tree_code) };
 
-    ghost use Rattle.leg.specs.Kept.{LegKept};
+    ghost use Rattle.leg.specs.Kept.{IsKeptLeg};
 
-    ghost view = { λ l. record { leg = l.leg; task = l.task; phase = l.phase; account = l.account } };
+    ghost view = { λ l. record { leg = l.leg; login = l.login; task = l.task; phase = l.phase; account = l.account } };
 
-    ghost invariant = { λ l. LegKept W.World S.Sitting l.task l.phase l.account };
+    ghost invariant = { λ l. IsKeptLeg W.World S.Sitting l.login l.task l.phase l.account };
 }
 
 impl<W: World, S: Sitting<W>> Leg<W, S> {
     ghost use Rattle.std.specs.Prelude.{◌≡◌, ◌↔◌, ◌≤◌, ◌+◌, Some, IfSome, IsTrue};
+    ghost use Rattle.unit_forms.specs.Logins.{IsLoginIf};
     ghost use Rattle.leg.specs.Accounts.{no_account, AccountFits};
     ghost use Rattle.std.specs.Option.{option_copied};
     ghost use Rattle.leg.specs.Phases.{IsDone, answered, is_done, given_up};
@@ -52,17 +54,25 @@ impl<W: World, S: Sitting<W>> Leg<W, S> {
     ghost use Rattle.leg.specs.Turns.{IsTurn, IsLegOf, GivesUp, is_done_answer};
     ghost use Rattle.leg.specs.declared.phases.Phase.TheVariants.{Begin, Done};
 
-    /// A leg that is to do what is asked.
+    /// A leg that is to do what is asked, under a login that can be read in an Init, or under none.
     pub fn new(ask: LegAsk) -> Leg<W, S>
+        requires login { IsLoginIf ask.login }
         requires may { MayBeAsked (task_of ask.key ask.job) }
         ensures leg { result.leg ≡ ask.leg }
+        ensures login { result.login ≡ ask.login }
         ensures task { task_of ask.key ask.job ≡ Some result.task }
         ensures phase { result.phase ≡ Begin }
         ensures account { result.account ≡ no_account }
     {
-        let LegAsk { leg, key, job } = ask;
+        let LegAsk {
+            leg,
+            login,
+            key,
+            job,
+        } = ask;
         Leg {
             leg,
+            login,
             task: task_of(key, job),
             phase: Phase::Begin,
             account: Account::new(),
@@ -84,19 +94,20 @@ impl<W: World, S: Sitting<W>> Leg<W, S> {
         requires of { IsLegOf W.World S.Sitting route.now (D.counts door.old).most self.old }
         ensures of { IsLegOf W.World S.Sitting route.now (D.counts door.new).most self.new }
         ensures leg { self.new.leg ≡ self.old.leg }
+        ensures login { self.new.login ≡ self.old.login }
         ensures task { self.new.task ≡ self.old.task }
         ensures done { is_done_answer result ≡ is_done self.new.phase }
         ensures bounds { AccountFits self.new.account }
         ensures most { (D.counts door.new).most ≡ (D.counts door.old).most }
         ensures law { IsTurn W.World S.Sitting B.exact
-            (terms_of route.now self.old.leg) self.old.task now
+            (terms_of route.now self.old.login self.old.leg) self.old.task now
             self.old.phase self.new.phase self.old.account self.new.account result
             (record { pool = D.pool door.old; counts = D.counts door.old })
             (record { pool = D.pool door.new; counts = D.counts door.new })
             (record { counts = B.counts backend.old; happened = B.happened backend.old })
             (record { counts = B.counts backend.new; happened = B.happened backend.new }) }
     {
-        let terms = terms_of(route, self.leg);
+        let terms = terms_of(route, &self.login, self.leg);
         let phase = mem::replace(&mut self.phase, Phase::Ended);
         let (phase, turned) = turn_phase(
             alloc,
@@ -156,6 +167,7 @@ impl<W: World, S: Sitting<W>> Leg<W, S> {
     {
         let Leg {
             leg: _,
+            login: _,
             task: _,
             phase,
             account,
@@ -173,6 +185,7 @@ impl<W: World, S: Sitting<W>> Leg<W, S> {
         ensures phase { self.new.phase ≡ given_up self.old.phase }
         ensures task { self.new.task ≡ self.old.task }
         ensures leg { self.new.leg ≡ self.old.leg }
+        ensures login { self.new.login ≡ self.old.login }
         ensures account { self.new.account ≡ self.old.account }
         ensures bounds { AccountFits self.new.account }
         ensures pool { GivesUp self.old.phase (D.pool door.old) (D.pool door.new) }

@@ -1,4 +1,4 @@
--- What others do with other classes leaves a leg where it stands
+-- What others do with sessions that are not its own leaves a leg where it stands
 use Rattle.std.proofs.Common.{◌∙◌, ℕ, inl, inr, List, sym, subst, arith}
 use Rattle.z_types.specs.declared.sitting.Sitting as sitting
 use Rattle.z_types.specs.declared.world.World as world
@@ -13,56 +13,58 @@ use Rattle.leg.specs.declared.phases.Held.{Held}
 use Rattle.leg.specs.declared.phases.Phase.{Phase}
 use Rattle.leg.specs.declared.phases.Phase.TheVariants.{Begin, Dialling, Dialled, Ready, Searching, Presenting, Fetching, Scanning, Returning, Losing, Redialling, Spoiled, Done, Ended}
 use Rattle.leg.specs.declared.tasks.Task.{Task}
+use Rattle.sharing_rules.specs.Sharers.{Sharers}
 use Rattle.sharing_rules.specs.Uses.{Use}
-use Rattle.sharing_rules.specs.steps.Shared.{AreKept, IsLent, of_class}
-use Rattle.sharing_rules.proofs.PoolUses.{class_expires, kept_expired}
+use Rattle.sharing_rules.specs.steps.Shared.{AreKept, IsLent, shared_by}
+use Rattle.sharing_rules.proofs.PoolUses.{kept_expired, theirs_expire}
 use Rattle.sharing_rules.proofs.PutUses.{lent_stays}
 use Rattle.leg_shares.specs.steps.Pools.{StayOrExpire}
 use Rattle.leg_shares.specs.steps.Sharing.{IsBeforeUse, IsKeptBehind, IsOutBehind, Shares, StandsBy, with_use}
 
 -- a session that is out stays so
-lent-on : {S : Type 0} (route : Route) (class now : ℕ) (seat : Seat) (os ps : List (Session S))
-    → StayOrExpire route now (of_class class os) (of_class class ps) → IsLent class seat os → IsLent class seat ps
-lent-on route class now seat os ps (inl e) lent = (lent.0, e ∙ lent.1, lent.2)
-lent-on route class now seat os ps (inr e) lent =
-    let stays = lent_stays class seat now route.pool.session_ttl route.pool.set_ttl os lent in
-    (stays.0, e ∙ sym (class_expires class now route.pool.session_ttl route.pool.set_ttl os) ∙ stays.1, stays.2)
+lent-on : {S : Type 0} (route : Route) (who : Sharers) (now : ℕ) (seat : Seat) (os ps : List (Session S))
+    → StayOrExpire route now (shared_by who os) (shared_by who ps) → IsLent who seat os → IsLent who seat ps
+lent-on route who now seat os ps (inl e) lent = (lent.0, e ∙ lent.1, lent.2)
+lent-on route who now seat os ps (inr e) lent =
+    let stays = lent_stays who seat now route.pool.session_ttl route.pool.set_ttl os lent in
+    (stays.0, e ∙ sym (theirs_expire who now route.pool.session_ttl route.pool.set_ttl os) ∙ stays.1, stays.2)
 
-module _ {W S : Type 0} (w : world.Ghosts W) (route : Route) (class now : ℕ) (old new : Pool S) where
+module _ {W S : Type 0} (w : world.Ghosts W) (route : Route) (who : Sharers) (now : ℕ) (old new : Pool S) where
   -- and what is kept is kept
-  pub kept-on : (uses : List Use) → StayOrExpire route now (of_class class old.sessions) (of_class class new.sessions)
-      → IsKeptBehind w route class now uses old → IsKeptBehind w route class now uses new
-  kept-on uses (inl e) kept = subst (λ (os : List (Session S)). AreKept w route class (members_of route class) now uses os) (sym e) kept
+  pub kept-on : (uses : List Use) → StayOrExpire route now (shared_by who old.sessions) (shared_by who new.sessions)
+      → IsKeptBehind w route who now uses old → IsKeptBehind w route who now uses new
+  kept-on uses (inl e) kept = subst (λ (os : List (Session S)). AreKept w route who (members_of route who.class) now uses os) (sym e) kept
   kept-on uses (inr e) kept =
-      subst (λ (os : List (Session S)). AreKept w route class (members_of route class) now uses os) (sym e)
-      (kept_expired w route class (members_of route class) now now uses (of_class class old.sessions) kept (omega arith))
+      subst (λ (os : List (Session S)). AreKept w route who (members_of route who.class) now uses os) (sym e)
+      (kept_expired w route who (members_of route who.class) now now uses (shared_by who old.sessions) kept (omega arith))
 
-  out-on : (uses : List Use) (held : Held S) → StayOrExpire route now (of_class class old.sessions) (of_class class new.sessions)
-      → IsOutBehind w route class now uses held old → IsOutBehind w route class now uses held new
+  out-on : (uses : List Use) (held : Held S) → StayOrExpire route now (shared_by who old.sessions) (shared_by who new.sessions)
+      → IsOutBehind w route who now uses held old → IsOutBehind w route who now uses held new
   out-on uses held stay out = record {
     own = out.own;
-    out = lent-on route class now held.seat old.sessions new.sessions stay out.out;
+    out = lent-on route who now held.seat old.sessions new.sessions stay out.out;
     among = out.among;
+    inside_ = out.inside_;
     holds = out.holds;
   }
 
-module _ {W S : Type 0} (w : world.Ghosts W) (t : sitting.Ghosts S W) (route : Route) (class now : ℕ) (before : List Use) (old new : Pool S)
-    (stay : StayOrExpire route now (of_class class old.sessions) (of_class class new.sessions)) where
-  before-on : (task : Task) (held : Held S) → IsBeforeUse w t route class now before (want_of task) held old
-      → IsBeforeUse w t route class now before (want_of task) held new
+module _ {W S : Type 0} (w : world.Ghosts W) (t : sitting.Ghosts S W) (route : Route) (who : Sharers) (now : ℕ) (before : List Use) (old new : Pool S)
+    (stay : StayOrExpire route now (shared_by who old.sessions) (shared_by who new.sessions)) where
+  before-on : (task : Task) (held : Held S) → IsBeforeUse w t route who now before (want_of task) held old
+      → IsBeforeUse w t route who now before (want_of task) held new
   before-on task held is = record {
-    out = out-on w route class now old new before held stay is.out;
+    out = out-on w route who now old new before held stay is.out;
     address = is.address;
     lacks = is.lacks;
     search = is.search;
   }
 
-  stands-on : (task : Task) (phase : Phase S) → StandsBy w t route class now before task phase old
-      → StandsBy w t route class now before task phase new
-  stands-on task Begin is = kept-on w route class now old new before stay is
+  stands-on : (task : Task) (phase : Phase S) → StandsBy w t route who now before task phase old
+      → StandsBy w t route who now before task phase new
+  stands-on task Begin is = kept-on w route who now old new before stay is
   stands-on task (Dialling seat member) is = record {
     own = is.own;
-    out = lent-on route class now seat old.sessions new.sessions stay is.out;
+    out = lent-on route who now seat old.sessions new.sessions stay is.out;
     place = is.place;
     holds = is.holds;
     dial = is.dial;
@@ -71,16 +73,16 @@ module _ {W S : Type 0} (w : world.Ghosts W) (t : sitting.Ghosts S W) (route : R
   stands-on task (Dialled held looks) is = (before-on task held is.0, is.1)
   stands-on task (Ready held items) is = before-on task held is
   stands-on task (Searching held items slot looks) is = record { session = before-on task held is.session; free = is.free; awaits = is.awaits }
-  stands-on task (Presenting held items slot hits) is = out-on w route class now old new (with_use class now before task) held stay is
-  stands-on task (Fetching held items slot hits looks) is = (out-on w route class now old new (with_use class now before task) held stay is.0, is.1)
-  stands-on task (Scanning held looks) is = (out-on w route class now old new (with_use class now before task) held stay is.0, is.1)
-  stands-on task (Returning held answer) is = out-on w route class now old new (with_use class now before task) held stay is
+  stands-on task (Presenting held items slot hits) is = out-on w route who now old new (with_use who now before task) held stay is
+  stands-on task (Fetching held items slot hits looks) is = (out-on w route who now old new (with_use who now before task) held stay is.0, is.1)
+  stands-on task (Scanning held looks) is = (out-on w route who now old new (with_use who now before task) held stay is.0, is.1)
+  stands-on task (Returning held answer) is = out-on w route who now old new (with_use who now before task) held stay is
   stands-on task (Losing seat answer) is = is
   stands-on task (Redialling seat) is = is
   stands-on task (Spoiled seat) is = is
-  stands-on task (Done answer) is = kept-on w route class now old new (with_use class now before task) stay is
+  stands-on task (Done answer) is = kept-on w route who now old new (with_use who now before task) stay is
   stands-on task Ended is = is
 
-  pub shares-on : (task : Task) (phase : Phase S) (account : Account) → Shares w t route class now before task phase account old
-      → Shares w t route class now before task phase account new
+  pub shares-on : (task : Task) (phase : Phase S) (account : Account) → Shares w t route who now before task phase account old
+      → Shares w t route who now before task phase account new
   shares-on task phase account is = record { stands = stands-on task phase is.stands; dials = is.dials; searches = is.searches }

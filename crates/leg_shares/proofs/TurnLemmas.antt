@@ -14,16 +14,17 @@ use Rattle.leg.specs.Deeds.{BackendView, Deed, took, opened, began, heard, put_b
 use Rattle.leg.specs.Phases.{is_given, looks_of}
 use Rattle.leg.specs.Rules.{Ends, Lack, never, always, perhaps, answer_of, lack_of, left_by, next}
 use Rattle.leg.specs.Tasks.{want_of}
-use Rattle.leg.specs.Terms.{class_of, databases_of, terms_of}
+use Rattle.leg.specs.Terms.{databases_of, terms_of}
 use Rattle.leg.specs.Turns.{DoorView, IsTurn, PoolMoves}
 use Rattle.leg.specs.declared.accounts.Account.{Account}
 use Rattle.leg.specs.declared.answers.Turned.{Turned}
 use Rattle.leg.specs.declared.answers.Turned.TheVariants as turned
 use Rattle.leg.specs.declared.phases.Phase.{Phase}
 use Rattle.leg.specs.declared.tasks.Task.{Task}
+use Rattle.sharing_rules.specs.Sharers.{Sharers}
 use Rattle.sharing_rules.specs.Uses.{Use}
-use Rattle.leg_shares.specs.steps.Pools.{IsPoolOf, MayUse}
-use Rattle.leg_shares.specs.steps.Sharing.{Shares, SharesThen, StandsBy, WentOn, dials_by, searches_by}
+use Rattle.leg_shares.specs.steps.Pools.{IsPoolOf, MayUse, sharers_at}
+use Rattle.leg_shares.specs.steps.Sharing.{AreOthersKept, Shares, SharesThen, StandsBy, WentOn, dials_by, searches_by}
 use Rattle.leg_shares.proofs.DeedLemmas.{IsFine, deed-goes}
 
 -- ---- memory
@@ -96,23 +97,24 @@ module _ {S : Type 0} (want : Option SetKey) (class looks : ℕ) (given : Bool) 
 
 -- ---- the turn
 
-module _ {W S : Type 0} (w : world.Ghosts W) (t : sitting.Ghosts S W) (exact : Bool) (route : Route) (place now : ℕ) (before : List Use) (task : Task) where
-  abbrev class : ℕ
-  class = class_of route place
+module _ {W S : Type 0} (w : world.Ghosts W) (t : sitting.Ghosts S W) (exact : Bool) (route : Route) (login : Option (List ℕ)) (place now : ℕ)
+    (before : List Use) (task : Task) where
+  abbrev who : Sharers
+  who = sharers_at route login place
 
   abbrev wanted_by : (old : Phase S) → Deed S → Account → Phase S
-  wanted_by old deed b = next (terms_of route place) task now b.gones old deed
+  wanted_by old deed b = next (terms_of route login place) task now b.gones old deed
 
   pub turn-shares : (old new : Phase S) (a b : Account) (answer : Turned) (door after : DoorView S) (backend moved : BackendView) (pool : Pool S)
-      → MayUse w route class now before (want_of task) → door.pool ≡ Some pool → IsPoolOf route pool
-      → IsTurn w t exact (terms_of route place) task now old new a b answer door after backend moved → WentOn answer b
-      → Shares w t route class now before task old a pool
-      → SharesThen w t route class now before task new b pool after.pool
-  turn-shares old new a b answer door after backend moved pool may told of turn on shares =
-      let fine = is-fine (want_of task) class (looks_of old) (is_given old) a b turn.deed answer on
+      → MayUse w route who now before (want_of task) → AreOthersKept w route who now before pool → door.pool ≡ Some pool → IsPoolOf route pool
+      → IsTurn w t exact (terms_of route login place) task now old new a b answer door after backend moved → WentOn answer b
+      → Shares w t route who now before task old a pool
+      → SharesThen w t route who now before task new b pool after.pool
+  turn-shares old new a b answer door after backend moved pool may rest told of turn on shares =
+      let fine = is-fine (want_of task) who.class (looks_of old) (is_given old) a b turn.deed answer on
       (had-some (lack_of turn.deed) (wanted_by old turn.deed b) (left_by old turn.deed) new (answer_of turn.deed new) answer on.memory turn.goes) turn.account in
-      let goes = deed-goes w t route class now before (databases_of route place) door.counts.most b.gones task may pool of after.pool old turn.deed turn.due fine
-      shares.stands (subst (λ (p : Option (Pool S)). PoolMoves (terms_of route place) task now old turn.deed p after.pool) told turn.pool) in
+      let goes = deed-goes w t route who now before (databases_of route place) door.counts.most b.gones task may pool rest of after.pool old turn.deed turn.due fine
+      shares.stands (subst (λ (p : Option (Pool S)). PoolMoves (terms_of route login place) task now old turn.deed p after.pool) told turn.pool) in
       let at : new ≡ wanted_by old turn.deed b =
       goes-on (lack_of turn.deed) (wanted_by old turn.deed b) (left_by old turn.deed) new (answer_of turn.deed new) answer on.memory turn.goes in
       record {
@@ -120,11 +122,11 @@ module _ {W S : Type 0} (w : world.Ghosts W) (t : sitting.Ghosts S W) (exact : B
         told = goes.told;
         of = goes.of;
         shares = record {
-          stands = subst (λ (x : Phase S). StandsBy w t route class now before task x goes.pool) (sym at) goes.stands;
+          stands = subst (λ (x : Phase S). StandsBy w t route who now before task x goes.pool) (sym at) goes.stands;
           dials = ap (λ (x : Account). x.dials) turn.account ∙ ap (λ (n : ℕ). more (rises_of (want_of task) turn.deed).dials n) shares.dials
-              ∙ goes.dials ∙ ap (λ (x : Phase S). dials_by route class now before x) (sym at);
+              ∙ goes.dials ∙ ap (λ (x : Phase S). dials_by route who now before x) (sym at);
           searches = ap (λ (x : Account). x.searches) turn.account ∙ ap (λ (n : ℕ). more (rises_of (want_of task) turn.deed).searches n) shares.searches
-              ∙ goes.searches ∙ ap (λ (x : Phase S). searches_by w route class now before (want_of task) x) (sym at);
+              ∙ goes.searches ∙ ap (λ (x : Phase S). searches_by w route who now before (want_of task) x) (sym at);
         };
         others = goes.others;
       }

@@ -11,24 +11,26 @@ use Rattle.pool_sets.specs.Sessions.{Session}
 use Rattle.pool_sets.specs.declared.pooled.Parts.{Parts}
 use Rattle.pool_sets.specs.declared.sessions.Stand.{Stand}
 use Rattle.pool_sets.specs.declared.sessions.Stand.TheVariants.{Idle, Out}
-use Rattle.sharing_rules.specs.Needed.{is_in, is_late, is_refused, is_set_in, last_at}
+use Rattle.sharing_rules.specs.Needed.{is_by, is_late, is_refused, is_set_by, last_at}
+use Rattle.sharing_rules.specs.Sharers.{Sharers}
 use Rattle.sharing_rules.specs.Uses.{Use}
 use Rattle.sharing_rules.specs.steps.Shared.{AreKept, IsKeptIn, dial_due, search_due}
 use Rattle.sharing_rules.proofs.TableUses.{same_uses}
 use Rattle.leg_shares.specs.steps.Pools.{HaveSameLast}
 
-module _ {W S : Type 0} (w : world.Ghosts W) (route : Route) (class : ℕ) (at : List Address) (now : ℕ) (uses others : List Use)
-    (same : HaveSameLast class uses others) where
-  kept-in : (stand : Stand (Parts S) Address) → IsKeptIn w route class at now uses stand → IsKeptIn w route class at now others stand
+module _ {W S : Type 0} (w : world.Ghosts W) (route : Route) (who : Sharers) (at : List Address) (now : ℕ) (uses others : List Use)
+    (same : HaveSameLast who uses others) where
+  kept-in : (stand : Stand (Parts S) Address) → IsKeptIn w route who at now uses stand → IsKeptIn w route who at now others stand
   kept-in (Out address) kept = kept
   kept-in (Idle parts since) kept = record {
-    since_last = same.of_class ∙ kept.since_last;
+    since_last = same.of_theirs ∙ kept.since_last;
     among = kept.among;
-    holds = same_uses w route class now uses parts.table others kept.holds (λ key. same.of_key key);
+    inside_ = kept.inside_;
+    holds = same_uses w route who now uses parts.table others kept.holds (λ key. same.of_key key);
   }
 
-  pub kept-by-last : (os : List (Session S)) → AreKept w route class at now uses os → AreKept w route class at now others os
-  kept-by-last [] kept = subst (λ (o : Option ℕ). is_late route.pool.session_ttl now o ≡ true) (sym same.of_class) kept
+  pub kept-by-last : (os : List (Session S)) → AreKept w route who at now uses os → AreKept w route who at now others os
+  kept-by-last [] kept = subst (λ (o : Option ℕ). is_late route.pool.session_ttl now o ≡ true) (sym same.of_theirs) kept
   kept-by-last (o ∷ []) kept = kept-in o.stand kept
   kept-by-last (o ∷ (p ∷ os)) kept = absurd kept
 
@@ -37,12 +39,12 @@ module _ {W S : Type 0} (w : world.Ghosts W) (route : Route) (class : ℕ) (at :
 not-late : (ttl now : ℕ) → 1 ≤ ttl → nat_le ttl (now - now) ≡ false
 not-late ttl now some = grind (arith, leb_tells)
 
-pub again-none : {W : Type 0} (w : world.Ghosts W) (route : Route) (class now : ℕ) (before : List Use) (key : SetKey) → ArePoolNumbers route.pool
-    → last_at (is_in class) before ≡ Some now → last_at (is_set_in class key) before ≡ Some now
-    → (dial_due route class now before ≡ false) × (search_due w route class now before (Some key) ≡ is_refused w route class key)
-again-none w route class now before key numbers used set = (
+pub again-none : {W : Type 0} (w : world.Ghosts W) (route : Route) (who : Sharers) (now : ℕ) (before : List Use) (key : SetKey) → ArePoolNumbers route.pool
+    → last_at (is_by who) before ≡ Some now → last_at (is_set_by who key) before ≡ Some now
+    → (dial_due route who now before ≡ false) × (search_due w route who now before (Some key) ≡ is_refused w route who key)
+again-none w route who now before key numbers used set = (
   ap (λ (o : Option ℕ). is_late route.pool.session_ttl now o) used ∙ not-late route.pool.session_ttl now numbers.session_ttl.0,
-  ap (λ (o : Option ℕ). is_refused w route class key || is_late route.pool.set_ttl now o) set
-      ∙ ap (λ (b : Bool). is_refused w route class key || b) (not-late route.pool.set_ttl now numbers.set_ttl.0)
-      ∙ or-false (is_refused w route class key),
+  ap (λ (o : Option ℕ). is_refused w route who key || is_late route.pool.set_ttl now o) set
+      ∙ ap (λ (b : Bool). is_refused w route who key || b) (not-late route.pool.set_ttl now numbers.set_ttl.0)
+      ∙ or-false (is_refused w route who key),
 )

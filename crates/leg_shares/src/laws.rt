@@ -1,4 +1,4 @@
-//! A leg shares the session of its class. These functions do nothing; what they ensure is the law. They speak of
+//! A leg shares the session of its class and login. These functions do nothing; what they ensure is the law. They speak of
 //! legs with which nothing goes wrong, which is so over a quiet backend at addresses that are told.
 
 ghost use Rattle.leg_shares.specs.steps.Laws.{AgainNeedsNone, FairClassIsOne, LastUsesDecide, LegsShare, OthersShare, StaysOnce, TurnsShare};
@@ -27,13 +27,13 @@ pub fn again_needs_none<W: World>()
     ensures { AgainNeedsNone W.World }
 {}
 
-/// A turn goes on as the leg's use of its class needs, and leaves the sessions of other classes but for
-/// those that expire.
+/// A turn goes on as the leg's use of its class needs, and leaves the sessions of other classes and
+/// logins but for those that expire.
 pub fn turns_share<W: World, S: Sitting<W>>()
     ensures { TurnsShare W.World S.Sitting }
 {}
 
-/// What others do with other classes leaves a leg where it stands.
+/// What others do with sessions of other classes and logins leaves a leg where it stands.
 pub fn others_share<W: World, S: Sitting<W>>()
     ensures { OthersShare W.World S.Sitting }
 {}

@@ -1,10 +1,12 @@
 //! What the legs that are played are asked for.
 
 ghost use Rattle.std.specs.Prelude.{◌≡◌, ◌≤◌, length, IfOk, IsTrue, []};
+ghost use Rattle.unit_forms.specs.Logins.{IsLoginIf};
 ghost use Rattle.gw_outside.specs.Asks.{AreFewShort, MaySearch, MayScan};
 ghost use Rattle.leg.specs.Tasks.{task_of, MayBeAsked};
 ghost use Rattle.leg_tests.specs.Played.{AreFew, IsOneAttribute};
 
+use crate::logins::{Under, login_of};
 use leg::{Job, LegAsk};
 use std::alloc::Global;
 use z_types::{Attr, List, Memory, Oid, Rpn, RpnQuery, ScanAsk, SetKey, Term, Text};
@@ -81,14 +83,23 @@ fn scan(alloc: Global) -> Result<ScanAsk, Memory>
 }
 
 /// Records of a letter's set, in the syntax that the target chooses.
-fn records(alloc: Global, letter: u8, first: u32, count: u32) -> Result<LegAsk, Memory>
-    requires { AreFew first count }
+fn records(
+    alloc: Global,
+    login: Option<Text>,
+    letter: u8,
+    first: u32,
+    count: u32,
+) -> Result<LegAsk, Memory>
+    requires few { AreFew first count }
+    requires login { IsLoginIf login }
     ensures leg { IfOk result (λ ask. ask.leg ≡ 0) }
+    ensures login { IfOk result (λ ask. IsLoginIf ask.login) }
     ensures may { IfOk result (λ ask. MayBeAsked (task_of ask.key ask.job)) }
 {
     let key = key_of(alloc, b"Default", letter)?;
     Ok(LegAsk {
         leg: 0,
+        login,
         key: Some(key),
         job: Job::Records {
             first,
@@ -100,36 +111,42 @@ fn records(alloc: Global, letter: u8, first: u32, count: u32) -> Result<LegAsk, 
 }
 
 /// The hits of a letter in a database.
-fn hits(alloc: Global, name: &[u8], letter: u8) -> Result<LegAsk, Memory>
-    requires { length name.now ≤ 7 }
+fn hits(alloc: Global, login: Option<Text>, name: &[u8], letter: u8) -> Result<LegAsk, Memory>
+    requires short { length name.now ≤ 7 }
+    requires login { IsLoginIf login }
     ensures leg { IfOk result (λ ask. ask.leg ≡ 0) }
+    ensures login { IfOk result (λ ask. IsLoginIf ask.login) }
     ensures may { IfOk result (λ ask. MayBeAsked (task_of ask.key ask.job)) }
 {
     let key = key_of(alloc, name, letter)?;
     Ok(LegAsk {
         leg: 0,
+        login,
         key: Some(key),
         job: Job::Hits,
     })
 }
 
-/// What the first leg of a route is asked for. More than 5000 records are not asked for, nor any behind
-/// such a position.
-pub(crate) fn ask_of(alloc: Global, asked: Asked) -> Result<LegAsk, Memory>
+/// What the first leg of a route is asked for under a login. More than 5000 records are not asked for, nor
+/// any behind such a position.
+pub(crate) fn ask_of(alloc: Global, under: Under, asked: Asked) -> Result<LegAsk, Memory>
     ensures leg { IfOk result (λ ask. ask.leg ≡ 0) }
+    ensures login { IfOk result (λ ask. IsLoginIf ask.login) }
     ensures may { IfOk result (λ ask. MayBeAsked (task_of ask.key ask.job)) }
 {
+    let login = login_of(alloc, under)?;
     match asked {
-        Asked::Hits(letter) => hits(alloc, b"Default", letter),
-        Asked::HitsOfNone(letter) => hits(alloc, b"Nope", letter),
+        Asked::Hits(letter) => hits(alloc, login, b"Default", letter),
+        Asked::HitsOfNone(letter) => hits(alloc, login, b"Nope", letter),
         Asked::Records(letter, first, count) => {
             if !are_few(first, count) {
                 return Err(Memory);
             }
-            records(alloc, letter, first, count)
+            records(alloc, login, letter, first, count)
         }
         Asked::Scan => Ok(LegAsk {
             leg: 0,
+            login,
             key: None,
             job: Job::Scan(scan(alloc)?),
         }),

@@ -6,6 +6,7 @@
 mod asks;
 mod far;
 mod happens;
+mod logins;
 mod players;
 mod plays;
 mod routes;

@@ -6,6 +6,7 @@ ghost use Rattle.leg_tests.specs.Played.{ArePlayed};
 
 use crate::asks::ask_of;
 use crate::happens::Happens;
+use crate::logins::Under;
 use crate::steps::Step;
 use crate::words::{put_account, put_answer, put_turned, put_turns};
 use gw_outside::Backend;
@@ -19,12 +20,13 @@ use z_types::{Memory, Sitting, Text, World};
 /// The most turns of a leg that is turned to its end.
 const MOST_TURNS: u32 = 3000;
 
-/// The leg that is played and another, the moment, and the answers so far.
+/// The leg that is played and another, the moment, the login of the next leg, and the answers so far.
 #[derive(Drop)]
 pub(crate) struct Play<W: World, S: Sitting<W>> {
     leg: Option<Leg<W, S>>,
     other: Option<Leg<W, S>>,
     now: u64,
+    under: Under,
     line: Text,
 }
 
@@ -53,6 +55,7 @@ fn new_play<W: World, S: Sitting<W>>(alloc: Global) -> Play<W, S>
         leg: None,
         other: None,
         now: 0,
+        under: Under::Nobody,
         line: Text::new(alloc),
     }
 }
@@ -98,7 +101,7 @@ fn take_step<W: World, B: Backend<W> + Happens, D: Door<W, B::Session>>(
 {
     match step {
         Step::Begin(asked) => {
-            play.leg = Some(Leg::new(ask_of(alloc, asked)?));
+            play.leg = Some(Leg::new(ask_of(alloc, play.under, asked)?));
             Ok(())
         }
         Step::Turn => turn(alloc, route, backend, door, play),
@@ -113,6 +116,10 @@ fn take_step<W: World, B: Backend<W> + Happens, D: Door<W, B::Session>>(
         }
         Step::Now(now) => {
             play.now = now;
+            Ok(())
+        }
+        Step::Under(under) => {
+            play.under = under;
             Ok(())
         }
         Step::Happen(event) => backend.happen(event),

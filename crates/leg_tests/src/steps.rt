@@ -2,6 +2,7 @@
 
 use crate::asks::Asked;
 use crate::happens::Event;
+use crate::logins::Under;
 use std::alloc::Global;
 use test_cases::{Case, step_words};
 use z_types::{List, Memory};
@@ -21,6 +22,8 @@ pub(crate) enum Step {
     Other,
     /// `now SECONDS`: the moment of the turns from now on.
     Now(u64),
+    /// `login LETTER`, `empty login` or `no login`: that of the legs that are made from now on.
+    Under(Under),
     /// `gone N`, `slow N` or `cut`: something happens to the links.
     Happen(Event),
     /// Another line.
@@ -47,6 +50,9 @@ fn step_of(words: &[&str]) -> Step {
         ["begin", "records", letter, first, count] => records_step(letter, first, count),
         ["begin", "scan"] => Step::Begin(Asked::Scan),
         ["give", "up"] => Step::GiveUp,
+        ["no", "login"] => Step::Under(Under::Nobody),
+        ["empty", "login"] => Step::Under(Under::Empty),
+        ["login", letter] => Step::Under(Under::Letter(octet_of(letter))),
         [word] => bare_step(word),
         [word, number] => counted_step(word, number.parse().ok()),
         _ => Step::Unknown,

@@ -1,5 +1,5 @@
 -- What the uses of a load need: a search for the first client of each letter, and for each where the target refuses it; and one dial
-use Rattle.std.proofs.Common.{◌≡◌, ◌≢◌, ◌∙◌, ◌+◌, ◌-◌, ◌%◌, ◌≤◌, ◌<◌, ◌==◌, ◌||◌, ℕ, zero, suc, Bool, true, false, cond, if◌then◌else◌, List, [], ◌∷◌, ◌++◌, map, count_by, find, nat_le, Some, option_map, refl, sym, ap, subst, eqb-true, le-leb, leb-false, leb-true, mod-lt, mod-eq_of_lt, arith}
+use Rattle.std.proofs.Common.{◌≡◌, ◌≢◌, ◌∙◌, ◌+◌, ◌-◌, ◌%◌, ◌≤◌, ◌<◌, ◌==◌, ◌||◌, ℕ, zero, suc, Bool, true, false, cond, if◌then◌else◌, List, [], ◌∷◌, ◌++◌, map, count_by, find, nat_le, None, Some, option_map, refl, sym, ap, subst, eqb-true, le-leb, leb-false, leb-true, mod-lt, mod-eq_of_lt, arith}
 use Rattle.std.specs.List.{AllByRecursion, range_with_len}
 use Rattle.std.proofs.lemmas.Bool.{lt-leb}
 use Rattle.std.proofs.lemmas.List.Sums.{sum_by-cons}
@@ -12,7 +12,8 @@ use Rattle.z_types.specs.equality.Key as exact
 use Rattle.route_config.specs.Smallest.{smallest_route}
 use Rattle.pool_sets.specs.Table.{same_key}
 use Rattle.sample_maker.specs.Load.{letter_of}
-use Rattle.sharing_rules.specs.Needed.{count_after, dials_needed, is_in, is_late, is_set_in, last_at, needed, needs_dial, needs_search}
+use Rattle.sharing_rules.specs.Needed.{count_after, dials_needed, is_by, is_late, is_set_by, last_at, needed, needs_dial, needs_search}
+use Rattle.sharing_rules.specs.Sharers.{Sharers}
 use Rattle.sharing_rules.specs.Uses.{Use, uses_of}
 use Rattle.replay_shares.specs.package_shares.steps.Requests.{behind}
 use Rattle.replay_shares.specs.Orderly.{dated}
@@ -56,9 +57,13 @@ zero-plus n = omega arith
 
 -- ---- when a letter was used
 
+-- all clients of a load share, without a login
+abbrev nobody : Sharers
+nobody = record { class = 0; login = None }
+
 -- a letter's set was not used before, or is too old; all uses are at moment 0
 abbrev late : List Use → ℕ → Bool
-late before letter = is_late 60 0 (last_at (is_set_in 0 (key_for letter)) before)
+late before letter = is_late 60 0 (last_at (is_set_by nobody (key_for letter)) before)
 
 -- the letter of a structure
 abbrev letter_in : Tree → ℕ
@@ -75,13 +80,13 @@ keys-apart letter other ne =
 late-own : (before : List Use) (letter : ℕ) → late (use_for letter ∷ before) letter ≡ false
 late-own before letter =
     ap
-    (λ (own : Bool). is_late 60 0 (option_map (λ this. this.at) (cond own (Some (use_for letter)) (find (is_set_in 0 (key_for letter)) before))))
+    (λ (own : Bool). is_late 60 0 (option_map (λ this. this.at) (cond own (Some (use_for letter)) (find (is_set_by nobody (key_for letter)) before))))
     (key_law.laws-law.refl (key_for letter))
 
 late-other : (before : List Use) (letter other : ℕ) → letter ≢ other → late (use_for other ∷ before) letter ≡ late before letter
 late-other before letter other ne =
     ap
-    (λ (own : Bool). is_late 60 0 (option_map (λ this. this.at) (cond own (Some (use_for other)) (find (is_set_in 0 (key_for letter)) before))))
+    (λ (own : Bool). is_late 60 0 (option_map (λ this. this.at) (cond own (Some (use_for other)) (find (is_set_by nobody (key_for letter)) before))))
     (keys-apart letter other ne)
 
 -- before a client's turn each letter was used whose first client came before
@@ -188,12 +193,12 @@ module _ {W : Type 0} (w : world.Ghosts W) where
       )
 
   -- where the class was used no dial is needed
-  no-dial : (before uses : List Use) → is_late 300 0 (last_at (is_in 0) before) ≡ false → AllByRecursion IsOfLetter uses
+  no-dial : (before uses : List Use) → is_late 300 0 (last_at (is_by nobody) before) ≡ false → AllByRecursion IsOfLetter uses
       → count_after (needs_dial smallest_route 0) before uses ≡ 0
   no-dial before [] used each = refl
   no-dial before (this ∷ uses) used each =
       let first : needs_dial smallest_route 0 before this ≡ false = ap (needs_dial smallest_route 0 before) each.0.1 ∙ used in
-      let still : is_late 300 0 (last_at (is_in 0) (this ∷ before)) ≡ false = ap (λ (own : Use). is_late 300 0 (last_at (is_in 0) (own ∷ before))) each.0.1 in
+      let still : is_late 300 0 (last_at (is_by nobody) (this ∷ before)) ≡ false = ap (λ (own : Use). is_late 300 0 (last_at (is_by nobody) (own ∷ before))) each.0.1 in
       ap (λ (b : Bool). (if b then 1 else 0) + count_after (needs_dial smallest_route 0) (this ∷ before) uses) first
       ∙ zero-plus (count_after (needs_dial smallest_route 0) (this ∷ before) uses) ∙ no-dial (this ∷ before) uses still each.1
 

@@ -12,6 +12,7 @@ use Rattle.z_types.specs.declared.requests.Present.{Present}
 use Rattle.z_types.specs.declared.requests.Request.{Request}
 use Rattle.z_types.specs.declared.requests.Request.TheVariants as request
 use Rattle.z_types.specs.declared.work.Work.{Work}
+use Rattle.z_types.specs.Under.{under}
 use Rattle.z_types.specs.declared.world.World as world
 use Rattle.route_config.specs.Smallest.{smallest_route}
 use Rattle.route_config.specs.declared.route.RouteLeg.{RouteLeg}
@@ -19,7 +20,7 @@ use Rattle.z_sets.specs.Sets.{StoredSet, set_named}
 use Rattle.replay_shares.specs.gateway_rules.Asking.{at_once, fetch_work, hits_meant, unless_refused}
 use Rattle.replay_shares.specs.gateway_rules.Checks.{checked, present_checks}
 use Rattle.replay_shares.specs.gateway_rules.Given.{present_reply}
-use Rattle.replay_shares.specs.gateway_rules.Outcomes.{found, legs_asked}
+use Rattle.replay_shares.specs.gateway_rules.Outcomes.{found, legs_asked, login_asked}
 use Rattle.replay_shares.specs.gateway_rules.Settling.{sets_after, why_failed}
 use Rattle.replay_shares.specs.gateway_rules.Targets.{all_or_first, hidden}
 use Rattle.replay_shares.specs.front_conn_works.Works.{work_in, work_of}
@@ -32,7 +33,7 @@ use Rattle.load_shares.proofs.WorkLemmas.{IsOf, behind_search, fetch-works, firs
 
 -- the use of a letter's set
 abbrev pub use_for : ℕ → Use
-use_for letter = record { class = 0; key = Some (key_for letter); at = 0 }
+use_for letter = record { by = record { class = 0; login = None }; key = Some (key_for letter); at = 0 }
 
 -- a use is that of a letter
 abbrev pub IsUseFor : ℕ → Use → Type 0
@@ -47,12 +48,13 @@ later_uses w letter = uses_of smallest_route (map (dated 0) (later_works w lette
 
 -- ---- they are of its letter
 
-legs-use : (letter : ℕ) (query : Option RpnQuery) (legs : List RouteLeg) → query ≡ Some (query_for letter) → AllByRecursion (λ leg. leg ≡ the_leg) legs
-    → AllByRecursion (IsUseFor letter) (map (λ leg. use_at 0 (key_if query leg) leg) legs)
-legs-use letter query [] e each = tt
-legs-use letter query (leg ∷ legs) e each = (
-  ap (λ (asked : Option RpnQuery). use_at 0 (key_if asked leg) leg) e ∙ ap (λ (own : RouteLeg). use_at 0 (Some (key_of (query_for letter) own)) own) each.0,
-  legs-use letter query legs e each.1,
+legs-use : (letter : ℕ) (login : Option (List ℕ)) (query : Option RpnQuery) (legs : List RouteLeg) → query ≡ Some (query_for letter) → login ≡ None
+    → AllByRecursion (λ leg. leg ≡ the_leg) legs → AllByRecursion (IsUseFor letter) (map (λ leg. use_at 0 login (key_if query leg) leg) legs)
+legs-use letter login query [] e none each = tt
+legs-use letter login query (leg ∷ legs) e none each = (
+  ap (λ (own : Option (List ℕ)). use_at 0 own (key_if query leg) leg) none ∙ ap (λ (asked : Option RpnQuery). use_at 0 None (key_if asked leg) leg) e
+      ∙ ap (λ (own : RouteLeg). use_at 0 None (Some (key_of (query_for letter) own)) own) each.0,
+  legs-use letter login query legs e none each.1,
 )
 
 works-use : (letter : ℕ) (works : List Work) → AllByRecursion (IsOf (query_for letter)) works
@@ -60,7 +62,7 @@ works-use : (letter : ℕ) (works : List Work) → AllByRecursion (IsOf (query_f
 works-use letter [] each = tt
 works-use letter (one ∷ works) each =
     all-both (IsUseFor letter) (uses_by smallest_route (dated 0 one)) (uses_of smallest_route (map (dated 0) works))
-    (legs-use letter (query_of one) (legs_used smallest_route one) each.0.1 (one-leg (unique_keys nat_eq (legs_asked one))))
+    (legs-use letter (login_asked one) (query_of one) (legs_used smallest_route one) each.0.1 each.0.2 (one-leg (unique_keys nat_eq (legs_asked one))))
     (works-use letter works each.1)
 
 pub later-uses : {W : Type 0} (w : world.Ghosts W) (letter : ℕ) → AllByRecursion (IsUseFor letter) (later_uses w letter)
@@ -90,7 +92,7 @@ pub refused-uses : {W : Type 0} (w : world.Ghosts W) (letter : ℕ) → refuses 
 refused-uses w letter e =
     let set = set_named (codes "1") (behind_search w letter).sets in
     let none : set ≡ None = no-set letter (w.search (Test 0) (key_for letter)) _ e in
-    let hits = hits_meant w smallest_route set in
+    let hits = hits_meant (under (behind_search w letter).agreed.login w) smallest_route set in
     let asks : work_of w smallest_route (behind_search w letter) (request.Present first_record) ≡ [] =
     unset-asks (request.Present first_record) (present_checks smallest_route (behind_search w letter) first_record hits) first_record (behind_search w letter).agreed.login hits set none in
     ap (λ (works : List Work). uses_of smallest_route (map (dated 0) (works ++ []))) asks

@@ -11,6 +11,7 @@ use Rattle.z_types.specs.declared.requests.Request.{Request}
 use Rattle.z_types.specs.declared.requests.Request.TheVariants as request
 use Rattle.z_types.specs.declared.work.Work.{Work}
 use Rattle.z_types.specs.declared.work.Work.TheVariants as work
+use Rattle.z_types.specs.Under.{under}
 use Rattle.z_types.specs.declared.world.World as world
 use Rattle.route_config.specs.Smallest.{smallest_route}
 use Rattle.z_sets.specs.Sets.{StoredSet, set_named}
@@ -18,7 +19,7 @@ use Rattle.replay_shares.specs.gateway_rules.Asking.{Asking, at_once, element_of
 use Rattle.replay_shares.specs.gateway_rules.Checks.{checked, present_checks}
 use Rattle.replay_shares.specs.gateway_rules.Given.{present_reply}
 use Rattle.replay_shares.specs.gateway_rules.Marks.{plain}
-use Rattle.replay_shares.specs.gateway_rules.Outcomes.{outcome_of}
+use Rattle.replay_shares.specs.gateway_rules.Outcomes.{login_asked, outcome_of}
 use Rattle.replay_shares.specs.gateway_rules.Session.{answered}
 use Rattle.replay_shares.specs.gateway_rules.Settling.{client_at_once, sets_after, why_failed}
 use Rattle.replay_shares.specs.gateway_rules.State.{ClientState, new_client}
@@ -32,9 +33,9 @@ use Rattle.load_shares.specs.Costs.{query_for}
 use Rattle.load_shares.specs.Runs.{load_runs, run_of, runs_of, works_for}
 use Rattle.load_shares.proofs.ListLemmas.{all-dropped, all-mapped, all-turned}
 
--- a work is of the one leg, and of this query
+-- a work is of the one leg, of this query, and under no login
 abbrev pub IsOf : RpnQuery → Work → Type 0
-IsOf query asked = (legs_in asked ≡ 0 ∷ []) × (query_of asked ≡ Some query)
+IsOf query asked = (legs_in asked ≡ 0 ∷ []) × (query_of asked ≡ Some query) × (login_asked asked ≡ None)
 
 -- ---- a Present
 
@@ -54,23 +55,23 @@ if-fetched query false said fetch h = (h, tt)
 abbrev IsSetOf : RpnQuery → StoredSet → Type 0
 IsSetOf query set = (set.legs ≡ 0 ∷ []) × (set.query ≡ query)
 
-fetch-of : (query : RpnQuery) (login : Option (List ℕ)) (present : Present) (hits : List ℕ) (set : Option StoredSet) → IfSome set (IsSetOf query)
+fetch-of : (query : RpnQuery) (login : Option (List ℕ)) (present : Present) (hits : List ℕ) (set : Option StoredSet) → login ≡ None → IfSome set (IsSetOf query)
     → AllByRecursion (IsOf query) (work_in (fetch_work login present hits set))
-fetch-of query login present hits None h = tt
-fetch-of query login present hits (Some set) h =
+fetch-of query login present hits None e h = tt
+fetch-of query login present hits (Some set) e h =
     if-fetched query (present.number == 0) (present_reply present hits 0 fetched.None)
     (work.Fetch login set.legs set.query hits (nat_abs present.start) present.number present.syntax (element_of present.element))
-    (h.0, ap Some h.1)
+    (h.0, ap Some h.1, e)
 
 -- so a Present asks of the set that it names alone
-present-of : {W : Type 0} (w : world.Ghosts W) (query : RpnQuery) (client : ClientState) (present : Present)
+present-of : {W : Type 0} (w : world.Ghosts W) (query : RpnQuery) (client : ClientState) (present : Present) → client.agreed.login ≡ None
     → IfSome (set_named present.set_name client.sets) (IsSetOf query)
     → AllByRecursion (IsOf query) (work_of w smallest_route client (request.Present present))
-present-of w query client present h =
+present-of w query client present e h =
     let set = set_named present.set_name client.sets in
-    let hits = hits_meant w smallest_route set in
+    let hits = hits_meant (under client.agreed.login w) smallest_route set in
     as-checked query (request.Present present) (present_checks smallest_route client present hits) (fetch_work client.agreed.login present hits set)
-    (fetch-of query client.agreed.login present hits set h)
+    (fetch-of query client.agreed.login present hits set e h)
 
 -- ---- the works of a client
 
@@ -99,11 +100,11 @@ pub fetch-works : {W : Type 0} (w : world.Ghosts W) (letter : ℕ)
     → AllByRecursion (IsOf (query_for letter)) (work_of w smallest_route (behind_search w letter) (request.Present first_record) ++ [])
 fetch-works w letter =
     let set = set-of letter (why_failed (outcome_of w smallest_route (search_for letter) plain)) in
-    let rest = present-of w (query_for letter) (behind_search w letter) first_record set in
+    let rest = present-of w (query_for letter) (behind_search w letter) first_record refl set in
     all-both (IsOf (query_for letter)) (work_of w smallest_route (behind_search w letter) (request.Present first_record)) [] rest tt
 
 all-of : {W : Type 0} (w : world.Ghosts W) (letter : ℕ) → AllByRecursion (IsOf (query_for letter)) (works_for w letter)
-all-of w letter = ((refl, refl), fetch-works w letter)
+all-of w letter = ((refl, refl, refl), fetch-works w letter)
 
 -- ---- the works of a load
 

@@ -5,7 +5,7 @@ ghost use Rattle.pool_locked.specs.Books.{counts_of};
 
 use crate::holders::{Holder, Quiet};
 use crate::ledgers::{Blanks, Three, door_of, take_back};
-use crate::turns::{Desk, Turn, goes};
+use crate::turns::{Desk, Login, Turn, goes};
 use pool_locked::Counted;
 use pool_sets::Door;
 use std::alloc::Global;
@@ -20,8 +20,8 @@ pub(crate) enum Side {
     Right,
 }
 
-/// A turn, at which of two doors and in which class it happens.
-pub(crate) type Row = (Side, u32, Turn);
+/// A turn, at which of two doors, in which class and under which login it happens.
+pub(crate) type Row = (Side, u32, Login, Turn);
 
 /// The place of the first turn that goes otherwise at one door, counted from 0.
 pub(crate) fn first_other<D: Door<Quiet, Holder>>(
@@ -30,8 +30,8 @@ pub(crate) fn first_other<D: Door<Quiet, Holder>>(
     door: &mut D,
     turns: &[Row],
 ) -> Result<Option<usize>, Memory> {
-    for (place, (_, class, turn)) in turns.iter().enumerate() {
-        if !goes(alloc, desk, door, *class, *turn)? {
+    for (place, (_, class, login, turn)) in turns.iter().enumerate() {
+        if !goes(alloc, desk, door, *class, *login, *turn)? {
             return Ok(Some(place));
         }
     }
@@ -46,10 +46,10 @@ fn first_other_of_two<D: Door<Quiet, Holder>>(
     right: &mut D,
     turns: &[Row],
 ) -> Result<Option<usize>, Memory> {
-    for (place, (side, class, turn)) in turns.iter().enumerate() {
+    for (place, (side, class, login, turn)) in turns.iter().enumerate() {
         let went = match side {
-            Side::Left => goes(alloc, desk, left, *class, *turn)?,
-            Side::Right => goes(alloc, desk, right, *class, *turn)?,
+            Side::Left => goes(alloc, desk, left, *class, *login, *turn)?,
+            Side::Right => goes(alloc, desk, right, *class, *login, *turn)?,
         };
         if !went {
             return Ok(Some(place));

@@ -7,7 +7,9 @@ ghost use Rattle.locked_tests.specs.Quiet.{no_hits, none_is_a_count, no_record, 
 
 use pool_sets::{Parts, Pooled, SetTable};
 use std::alloc::Global;
-use z_types::{Address, List, Memory, Oid, Rpn, RpnQuery, SetKey, Sitting, Term, World, copy};
+use z_types::{
+    Address, List, Memory, Oid, Rpn, RpnQuery, SetKey, Sitting, Term, Text, World, copy,
+};
 
 /// A world of which nothing is told.
 #[derive(Drop)]
@@ -58,21 +60,24 @@ pub(crate) fn key_for(alloc: Global, number: i64) -> Result<SetKey, Memory> {
     })
 }
 
-/// A session at the test target 1, with a set of the key, used at a moment.
+/// A session at the test target 1, inside a login or by itself, with a set of the key, used at a
+/// moment.
 pub(crate) fn holder_of(
     alloc: Global,
     key: &SetKey,
+    login: &Option<Text>,
     now: u64,
 ) -> Result<Pooled<Quiet, Holder>, Memory> {
     let mut table = SetTable::new(alloc, 10)?;
     table.record_(0, copy(key)?, 3, now)?;
+    let address = Address::Test(1).inside(login)?;
     let session = Holder {
-        address: Address::Test(1),
+        address: copy(&address)?,
         key: copy(key)?,
     };
     Ok(Pooled::join(Parts {
         session,
         table,
-        address: Address::Test(1),
+        address,
     }))
 }

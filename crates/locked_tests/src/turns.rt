@@ -4,7 +4,7 @@ use crate::holders::{Holder, Quiet, holder_of, key_for};
 use pool_sets::{Door, Seat, Taken};
 use route_config::Members;
 use std::alloc::Global;
-use z_types::{Address, List, Memory, SetKey};
+use z_types::{Address, List, Memory, SetKey, Text};
 
 /// What a door gave, without the session.
 #[derive(Clone, Copy, PartialEq, Eq)]
@@ -16,7 +16,18 @@ pub(crate) enum Given {
     Nothing,
 }
 
-/// What happens at a door in a class, and what comes of it.
+/// Under which login something happens.
+#[derive(Clone, Copy)]
+pub(crate) enum Login {
+    /// None.
+    Absent,
+    /// One of no octets.
+    Empty,
+    /// One of a few octets.
+    Own,
+}
+
+/// What happens at a door in a class, under a login, and what comes of it.
 #[derive(Clone, Copy)]
 pub(crate) enum Turn {
     /// Any session is taken.
@@ -35,13 +46,17 @@ pub(crate) enum Turn {
     Expire(u64),
 }
 
-/// What the turns of two classes need: the addresses of the members of class 0 and of class 1, and two keys.
+/// What the turns of two classes need: the addresses of the members of class 0 and of class 1, two
+/// keys, and what each login is.
 #[derive(Drop)]
 pub(crate) struct Desk {
     first: Members,
     second: Members,
     key: SetKey,
     other: SetKey,
+    absent: Option<Text>,
+    empty: Option<Text>,
+    own: Option<Text>,
 }
 
 impl Desk {
@@ -51,6 +66,15 @@ impl Desk {
             &self.first
         } else {
             &self.second
+        }
+    }
+
+    /// What a login is.
+    fn login(&self, login: Login) -> &Option<Text> {
+        match login {
+            Login::Absent => &self.absent,
+            Login::Empty => &self.empty,
+            Login::Own => &self.own,
         }
     }
 }
@@ -69,6 +93,9 @@ pub(crate) fn desk_of(alloc: Global) -> Result<Desk, Memory> {
         second: Members::new(second),
         key: key_for(alloc, 3)?,
         other: key_for(alloc, 4)?,
+        absent: None,
+        empty: Some(Text::new(alloc)),
+        own: Some(Text::copy_of(alloc, b"own")?),
     })
 }
 
@@ -83,27 +110,30 @@ fn what_was_given(taken: &Taken<Holder>) -> Given {
     }
 }
 
-/// Takes a session of a class.
+/// Takes a session of a class and login.
 fn take<D: Door<Quiet, Holder>>(
     alloc: Global,
     desk: &Desk,
     door: &mut D,
     class: u32,
+    login: Login,
     want: Option<&SetKey>,
     now: u64,
 ) -> Given {
-    what_was_given(&door.take(alloc, class, desk.members(class).as_slice(), want, now))
+    let at = desk.members(class).as_slice();
+    what_was_given(&door.take(alloc, class, at, desk.login(login).as_ref(), want, now))
 }
 
-/// Puts the session of a seat back, at the address that both classes have.
+/// Puts the session of a seat back, at the address that both classes have, inside a login.
 fn put<D: Door<Quiet, Holder>>(
     alloc: Global,
     desk: &Desk,
     door: &mut D,
     seat: Seat,
+    login: Login,
     now: u64,
 ) -> Result<(), Memory> {
-    let parts = holder_of(alloc, &desk.key, now)?.apart();
+    let parts = holder_of(alloc, &desk.key, desk.login(login), now)?.apart();
     door.put(seat, parts, now);
     Ok(())
 }
@@ -113,24 +143,25 @@ fn redial<D: Door<Quiet, Holder>>(desk: &Desk, door: &mut D, class: u32, number:
     door.redial(&mut Seat { class, number }, desk.members(class).as_slice())
 }
 
-/// Whether a turn of a class goes so.
+/// Whether a turn of a class, under a login, goes so.
 pub(crate) fn goes<D: Door<Quiet, Holder>>(
     alloc: Global,
     desk: &Desk,
     door: &mut D,
     class: u32,
+    login: Login,
     turn: Turn,
 ) -> Result<bool, Memory> {
     match turn {
-        Turn::TakeAny(given) => Ok(take(alloc, desk, door, class, None, 0) == given),
+        Turn::TakeAny(given) => Ok(take(alloc, desk, door, class, login, None, 0) == given),
         Turn::TakeFor(now, given) => {
-            Ok(take(alloc, desk, door, class, Some(&desk.key), now) == given)
+            Ok(take(alloc, desk, door, class, login, Some(&desk.key), now) == given)
         }
         Turn::TakeForOther(given) => {
-            Ok(take(alloc, desk, door, class, Some(&desk.other), 0) == given)
+            Ok(take(alloc, desk, door, class, login, Some(&desk.other), 0) == given)
         }
         Turn::Put(number, now) => {
-            put(alloc, desk, door, Seat { class, number }, now)?;
+            put(alloc, desk, door, Seat { class, number }, login, now)?;
             Ok(true)
         }
         Turn::Lose(number) => {

@@ -68,12 +68,13 @@ module _ (route : Route) (legs : List ℕ) (small large medium room : ℕ) (hits
       (sym (has_room small large medium room hits few)))
 
   -- a leg was asked for each span of them
-  pub asked_each : {S : Type 0} (later : List (LegView S)) (query : RpnQuery) (syntax element : Option (List ℕ)) → length hits ≡ length legs
-      → map asked_of later ≡ all_records_asked route legs query syntax element (places_shown small large medium room hits)
+  pub asked_each : {S : Type 0} (later : List (LegView S)) (login : Option (List ℕ)) (query : RpnQuery)
+      (syntax element : Option (List ℕ)) → length hits ≡ length legs
+      → map asked_of later ≡ all_records_asked route login legs query syntax element (places_shown small large medium room hits)
       → count ≤ room → length later ≡ length (spans_of (length hits) (places_from hits 1 count))
-  asked_each later query syntax element same asks few =
+  asked_each later login query syntax element same asks few =
       let room_is : nat_lt room count ≡ false = grind (arith, few) in
       sym (length-map later asked_of) ∙ ap (λ (xs : List Asked). length xs) asks
-      ∙ length-map (spans_of (length legs) (places_shown small large medium room hits)) (records_asked route legs query syntax element)
+      ∙ length-map (spans_of (length legs) (places_shown small large medium room hits)) (records_asked route login legs query syntax element)
       ∙ ap (λ (places : List Place). length (spans_of (length legs) places)) (has_room small large medium room hits room_is)
       ∙ ap (λ (n : ℕ). length (spans_of n (places_from hits 1 count))) (sym same)

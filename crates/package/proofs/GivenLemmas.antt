@@ -43,8 +43,14 @@ module _ {S : Type 0} where
 
   -- a leg that was given up
   pub given_is : (old new : LegView S) → new.phase ≡ given_up old.phase → new.task ≡ old.task → new.leg ≡ old.leg
-      → new.account ≡ old.account → new ≡ gave_up old
-  given_is old new phase task leg account = λ i. record { leg = leg i; task = task i; phase = phase i; account = account i }
+      → new.login ≡ old.login → new.account ≡ old.account → new ≡ gave_up old
+  given_is old new phase task leg login account = λ i. record {
+    leg = leg i;
+    login = login i;
+    task = task i;
+    phase = phase i;
+    account = account i;
+  }
 
   pub given_more : (before items : List (LegView S)) (i : ℕ) (d old new : LegView S) → i < length before → i < length items
       → get_or before i d ≡ old → new ≡ gave_up old → take i items ≡ map gave_up (take i before)

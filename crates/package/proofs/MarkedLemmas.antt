@@ -92,7 +92,7 @@ module _ {S : Type 0} where
   hits_each route (work.Search login named query small large medium small_element medium_element syntax room) legs hits kind done asks found =
       length-all_or_first (map (hits_in route) legs) hits (ap all_or_first (hits_are route legs done) ∙ found)
       ∙ length-map legs (hits_in route) ∙ sym (length-map legs asked_of) ∙ ap (λ (xs : List Asked). length xs) asks
-      ∙ length-map named (hits_asked route query)
+      ∙ length-map named (hits_asked route login query)
   hits_each route (work.Fetch login named query had first count syntax element) legs hits kind done asks found = absurd kind
   hits_each route (work.Scan login leg ask) legs hits kind done asks found = absurd kind
 

@@ -52,8 +52,8 @@ module _ {W S : Type 0} (w : world.Ghosts W) (t : sitting.Ghosts S W) (route : R
   are_answers [] of done = tt
   are_answers (leg ∷ legs) of done =
       let is : IsLegOf w t route most leg = All-head (IsLegOf w t route most) leg legs of in
-      let has : HasRight w t (terms_of route leg.leg) most leg.task leg.account leg.phase =
-      has_right w t (terms_of route leg.leg) most leg.task leg.account leg.phase is.stands
+      let has : HasRight w t (terms_of route leg.login leg.leg) most leg.task leg.account leg.phase =
+      has_right w t (terms_of route leg.login leg.leg) most leg.task leg.account leg.phase is.stands
       (All-head (λ (l : LegView S). HasFitting l.task (answered l.phase)) leg legs done) in
       let others = are_answers legs (All-tail (IsLegOf w t route most) leg legs of)
       (All-tail (λ (l : LegView S). HasFitting l.task (answered l.phase)) leg legs done) in

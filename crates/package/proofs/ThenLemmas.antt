@@ -21,11 +21,11 @@ no_spans_from : (from count : ℕ) → flat_map (λ (leg : ℕ). span_of leg (ra
 no_spans_from from zero = refl
 no_spans_from from (suc count) = no_spans_from (from + 1) count
 
-pub none_asked : (route : Route) (legs : List ℕ) (query : RpnQuery) (syntax element : Option (List ℕ)) (places : List Place)
-    → places ≡ [] → all_records_asked route legs query syntax element places ≡ []
-none_asked route legs query syntax element places none =
-    ap (all_records_asked route legs query syntax element) none
-    ∙ ap (map (records_asked route legs query syntax element)) (no_spans_from 0 (length legs))
+pub none_asked : (route : Route) (login : Option (List ℕ)) (legs : List ℕ) (query : RpnQuery) (syntax element : Option (List ℕ)) (places : List Place)
+    → places ≡ [] → all_records_asked route login legs query syntax element places ≡ []
+none_asked route login legs query syntax element places none =
+    ap (all_records_asked route login legs query syntax element) none
+    ∙ ap (map (records_asked route login legs query syntax element)) (no_spans_from 0 (length legs))
 
 none_if : (b : Bool) (hits : List ℕ) → cond b [] (places_from hits 1 0) ≡ []
 none_if true hits = refl

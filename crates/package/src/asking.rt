@@ -4,6 +4,7 @@ ghost use Rattle.std.specs.Prelude.{◌≡◌, ◌+◌, ◌<◌, ◌≤◌, [], 
 ghost use Rattle.std.specs.Option.{option_copied};
 ghost use Rattle.z_types.specs.Bounds.{most_legs, most_number};
 ghost use Rattle.z_types.specs.MergedOrder as merged_order;
+ghost use Rattle.unit_forms.specs.Logins.{IsLoginIf};
 ghost use Rattle.gw_outside.specs.Asks.{AreFewShort, IsShort, MayScan, MaySearch};
 ghost use Rattle.z_sets.specs.Askable.{IsAskableQuery};
 ghost use Rattle.gateway_rules.specs.Outcomes.{places_from};
@@ -53,16 +54,20 @@ fn key_at(route: &Route, leg: u32, query: &RpnQuery) -> Result<SetKey, Memory>
 /// A leg for the hits of a query.
 fn hits_leg<W: World, S: Sitting<W>>(
     route: &Route,
+    login: &Option<Text>,
     query: &RpnQuery,
     leg: u32,
 ) -> Result<Leg<W, S>, Memory>
     requires there { leg < length route.now.legs }
     requires askable { IsAskableQuery query.now }
-    ensures { IfOk result (λ made. made ≡ begun (hits_asked route.now query.now leg)) }
+    requires login { IsLoginIf login.now }
+    ensures { IfOk result (λ made. made ≡ begun (hits_asked route.now login.now query.now leg)) }
 {
     let key = key_at(route, leg, query)?;
+    let login = copy(login)?;
     Ok(Leg::new(LegAsk {
         leg,
+        login,
         key: Some(key),
         job: Job::Hits,
     }))
@@ -72,17 +77,19 @@ fn hits_leg<W: World, S: Sitting<W>>(
 fn hits_legs<W: World, S: Sitting<W>>(
     alloc: Global,
     route: &Route,
+    login: &Option<Text>,
     query: &RpnQuery,
     legs: &List<u32>,
 ) -> Result<Vec<Leg<W, S>>, Memory>
     requires there { All (λ leg. leg < length route.now.legs) legs.now }
     requires askable { IsAskableQuery query.now }
-    ensures { IfOk result
-        (λ made. made.items ≡ map begun (map (hits_asked route.now query.now) legs.now)) }
+    requires login { IsLoginIf login.now }
+    ensures { IfOk result (λ made. made.items
+        ≡ map begun (map (hits_asked route.now login.now query.now) legs.now)) }
 {
     let mut made = Vec::new(alloc);
     for leg in legs.as_slice() {
-        made.push(hits_leg(route, query, *leg)?)?;
+        made.push(hits_leg(route, login, query, *leg)?)?;
     }
     Ok(made)
 }
@@ -106,17 +113,20 @@ fn records_leg<W: World, S: Sitting<W>>(
     requires there { All (λ leg. leg < length route.now.legs) wanted.legs.now }
     requires askable { IsAskableQuery wanted.query.now }
     requires short { IfSome (option_copied wanted.element) IsShort }
+    requires login { IsLoginIf wanted.login.now }
     requires span { IsSpanOf (length wanted.legs.now) (most_number + 1) span }
     ensures { IfOk result (λ made. made ≡ begun (records_asked route.now
-        wanted.entry.legs.now wanted.entry.query.now
+        wanted.entry.login.now wanted.entry.legs.now wanted.entry.query.now
         (option_copied wanted.entry.syntax) (option_copied wanted.entry.element) span)) }
 {
     let leg = wanted.legs.as_slice()[span.leg as usize];
     let key = key_at(route, leg, wanted.query)?;
     let syntax = copy_if(wanted.syntax)?;
     let element = copy_if(wanted.element)?;
+    let login = copy(wanted.login)?;
     Ok(Leg::new(LegAsk {
         leg,
+        login,
         key: Some(key),
         job: Job::Records {
             first: span.first,
@@ -139,12 +149,13 @@ pub(crate) fn record_legs<W: World, S: Sitting<W>>(
     requires there { All (λ leg. leg < length route.now.legs) wanted.legs.now }
     requires askable { IsAskableQuery wanted.query.now }
     requires short { IfSome (option_copied wanted.element) IsShort }
+    requires login { IsLoginIf wanted.login.now }
     requires few { length wanted.legs.now ≤ most_legs }
     requires each { length hits.now ≡ length wanted.legs.now }
     requires counted { 0 < first }
     requires within { first + count ≤ merged_order.total hits.now + 1 }
     ensures { IfOk result (λ made. made.items ≡ map begun (all_records_asked route.now
-        wanted.entry.legs.now wanted.entry.query.now
+        wanted.entry.login.now wanted.entry.legs.now wanted.entry.query.now
         (option_copied wanted.entry.syntax) (option_copied wanted.entry.element)
         (places_from hits.now first count))) }
 {
@@ -159,16 +170,20 @@ pub(crate) fn record_legs<W: World, S: Sitting<W>>(
 /// A leg for a scan.
 fn scan_legs<W: World, S: Sitting<W>>(
     alloc: Global,
+    login: &Option<Text>,
     leg: u32,
     ask: &ScanAsk,
 ) -> Result<Vec<Leg<W, S>>, Memory>
     requires may { MayScan [] ask.now }
-    ensures { IfOk result
-        (λ made. made.items ≡ begun (record { leg = leg; task = Scan ask.now }) ∷ []) }
+    requires login { IsLoginIf login.now }
+    ensures { IfOk result (λ made. made.items
+        ≡ begun (record { leg = leg; login = login.now; task = Scan ask.now }) ∷ []) }
 {
     let mut made = Vec::new(alloc);
+    let login = copy(login)?;
     made.push(Leg::new(LegAsk {
         leg,
+        login,
         key: None,
         job: Job::Scan(copy(ask)?),
     }))?;
@@ -187,8 +202,14 @@ pub(crate) fn first_legs<W: World, S: Sitting<W>>(
     ensures { IfOk result (λ made. made.items ≡ map begun (first_asked route.now work.now)) }
 {
     match work {
-        Work::Search { legs, query, .. } => hits_legs(alloc, route, query, legs),
+        Work::Search {
+            login,
+            legs,
+            query,
+            ..
+        } => hits_legs(alloc, route, login, query, legs),
         Work::Fetch {
+            login,
             legs,
             query,
             hits,
@@ -196,9 +217,9 @@ pub(crate) fn first_legs<W: World, S: Sitting<W>>(
             count,
             syntax,
             element,
-            ..
         } => {
             let wanted = Wanted {
+                login,
                 legs,
                 query,
                 syntax: syntax.as_ref(),
@@ -206,7 +227,7 @@ pub(crate) fn first_legs<W: World, S: Sitting<W>>(
             };
             record_legs(alloc, route, wanted, hits, *first, *count)
         }
-        Work::Scan { leg, ask, .. } => scan_legs(alloc, *leg, ask),
+        Work::Scan { login, leg, ask } => scan_legs(alloc, login, *leg, ask),
     }
 }
 
@@ -226,6 +247,7 @@ fn shown_legs<W: World, S: Sitting<W>>(
         (λ made. made.items ≡ map begun (then_asked route.now work.now hits.now)) }
 {
     let Work::Search {
+        login,
         legs,
         query,
         small,
@@ -235,7 +257,6 @@ fn shown_legs<W: World, S: Sitting<W>>(
         medium_element,
         syntax,
         room,
-        ..
     } = work
     else {
         unreachable!()
@@ -249,6 +270,7 @@ fn shown_legs<W: World, S: Sitting<W>>(
         return Ok(Vec::new(alloc));
     }
     let wanted = Wanted {
+        login,
         legs,
         query,
         syntax: syntax.as_ref(),

@@ -4,10 +4,11 @@ ghost use Rattle.std.specs.Prelude.{◌≡◌, ◌+◌, ◌<◌, ◌≤◌, leng
 ghost use Rattle.std.specs.Option.{option_copied};
 ghost use Rattle.z_types.specs.Bounds.{most_legs};
 ghost use Rattle.z_types.specs.MergedOrder as merged_order;
+ghost use Rattle.z_types.specs.Under.{under};
 ghost use Rattle.gateway_rules.specs.Given.{returned};
 ghost use Rattle.virt_db.specs.Legs.{leg_at};
 ghost use Rattle.gateway_rules.specs.Targets.{records_at, scan_at};
-ghost use Rattle.gateway_rules.specs.Outcomes.{places_from, plain_outcome, scanned, whole, within_room};
+ghost use Rattle.gateway_rules.specs.Outcomes.{login_asked, places_from, plain_outcome, scanned, whole, within_room};
 ghost use Rattle.gateway_rules.specs.Works.{CanBegin, FitsWork};
 ghost use Rattle.package.specs.steps.Kinds.{IsSearch, IsFetch};
 
@@ -32,13 +33,14 @@ pub fn plain_outcome<T: Targets>(
     targets: &T,
 ) -> Result<Outcome, Memory>
     requires { CanBegin work.now }
-    ensures outcome { IfOk result (λ outcome. outcome ≡ plain_outcome T.World route.now work.now) }
+    ensures outcome { IfOk result (λ outcome. outcome
+        ≡ plain_outcome (under (login_asked work.now) T.World) route.now work.now) }
     ensures fits { IfOk result (λ outcome. FitsWork work.now outcome) }
 {
     match work {
         Work::Search { .. } => search(alloc, route, work, targets),
         Work::Fetch { .. } => present(alloc, route, work, targets),
-        Work::Scan { leg, ask, .. } => scan(alloc, route, targets, *leg, ask),
+        Work::Scan { login, leg, ask } => scan(alloc, route, targets, login, *leg, ask),
     }
 }
 
@@ -51,10 +53,12 @@ fn search<T: Targets>(
 ) -> Result<Outcome, Memory>
     requires kind { IsSearch work.now }
     requires begun { CanBegin work.now }
-    ensures outcome { IfOk result (λ outcome. outcome ≡ plain_outcome T.World route.now work.now) }
+    ensures outcome { IfOk result (λ outcome. outcome
+        ≡ plain_outcome (under (login_asked work.now) T.World) route.now work.now) }
     ensures fits { IfOk result (λ outcome. FitsWork work.now outcome) }
 {
     let Work::Search {
+        login,
         legs,
         query,
         small,
@@ -64,18 +68,18 @@ fn search<T: Targets>(
         medium_element,
         syntax,
         room,
-        ..
     } = work
     else {
         unreachable!()
     };
-    let hits = match hits_of(alloc, route, targets, legs, query) {
+    let hits = match hits_of(alloc, route, targets, login, legs, query) {
         TargetAnswer::Good(hits) => hits,
         TargetAnswer::Refused(diag) => return Ok(Outcome::Refused(diag)),
         TargetAnswer::Memory => return Err(Memory),
     };
     let all = total(hits.as_slice());
     let wanted = Wanted {
+        login,
         legs,
         query,
         syntax: syntax.as_ref(),
@@ -95,10 +99,12 @@ fn present<T: Targets>(
 ) -> Result<Outcome, Memory>
     requires kind { IsFetch work.now }
     requires begun { CanBegin work.now }
-    ensures outcome { IfOk result (λ outcome. outcome ≡ plain_outcome T.World route.now work.now) }
+    ensures outcome { IfOk result (λ outcome. outcome
+        ≡ plain_outcome (under (login_asked work.now) T.World) route.now work.now) }
     ensures fits { IfOk result (λ outcome. FitsWork work.now outcome) }
 {
     let Work::Fetch {
+        login,
         legs,
         query,
         hits,
@@ -106,12 +112,12 @@ fn present<T: Targets>(
         count,
         syntax,
         element,
-        ..
     } = work
     else {
         unreachable!()
     };
     let wanted = Wanted {
+        login,
         legs,
         query,
         syntax: syntax.as_ref(),
@@ -136,7 +142,8 @@ fn fetch_shown<T: Targets>(
     requires within { count ≤ merged_order.total hits.now }
     ensures records { IfOk result (λ fetched. fetched
         ≡ within_room room count (whole
-        (records_at T.World route.now wanted.entry.legs.now wanted.entry.query.now
+        (records_at (under wanted.entry.login.now T.World) route.now
+        wanted.entry.legs.now wanted.entry.query.now
         (option_copied wanted.entry.syntax) (option_copied wanted.entry.element)
         (places_from hits.now 1 count)))) }
     ensures room { IfOk result (λ fetched. returned fetched ≤ room) }
@@ -165,7 +172,8 @@ fn fetch<T: Targets>(
     requires counted { 0 < first }
     requires within { first + count ≤ merged_order.total hits.now + 1 }
     ensures records { IfOk result (λ fetched. fetched
-        ≡ whole (records_at T.World route.now wanted.entry.legs.now wanted.entry.query.now
+        ≡ whole (records_at (under wanted.entry.login.now T.World) route.now
+        wanted.entry.legs.now wanted.entry.query.now
         (option_copied wanted.entry.syntax) (option_copied wanted.entry.element)
         (places_from hits.now first count))) }
     ensures count { IfOk result (λ fetched. returned fetched ≤ count) }
@@ -182,11 +190,12 @@ fn scan<T: Targets>(
     alloc: Global,
     route: &Route,
     targets: &T,
+    login: &Option<Text>,
     place: u32,
     ask: &ScanAsk,
 ) -> Result<Outcome, Memory>
-    ensures { IfOk result
-        (λ outcome. outcome ≡ scanned (scan_at T.World ask.now (leg_at route.now place))) }
+    ensures { IfOk result (λ outcome. outcome
+        ≡ scanned (scan_at (under login.now T.World) ask.now (leg_at route.now place))) }
 {
     let Some(leg) = leg_at(route, place) else {
         return Ok(Outcome::Scanned(ScanAnswer {
@@ -194,7 +203,8 @@ fn scan<T: Targets>(
             entries: List::new(alloc),
         }));
     };
-    match targets.scan(alloc, leg.address, leg.dbs, ask) {
+    let address = leg.address.inside(login)?;
+    match targets.scan(alloc, &address, leg.dbs, ask) {
         TargetAnswer::Good(answer) => Ok(Outcome::Scanned(answer)),
         TargetAnswer::Refused(diag) => Ok(Outcome::Refused(diag)),
         TargetAnswer::Memory => Err(Memory),

@@ -3,6 +3,7 @@
 ghost use Rattle.std.specs.Prelude.{◌≡◌, ◌+◌, ◌<◌, ◌≤◌, ◌++◌, length, OnOk, option_to_list};
 ghost use Rattle.std.specs.Option.{option_copied};
 ghost use Rattle.z_types.specs.Bounds.{most_legs};
+ghost use Rattle.z_types.specs.Under.{under};
 ghost use Rattle.z_types.specs.MergedOrder as merged_order;
 ghost use Rattle.z_types.specs.MergedOrder.{place_at};
 ghost use Rattle.gw_outside.specs.Targets.{AnswersAs};
@@ -20,6 +21,8 @@ use z_types::{Item, List, Memory, NamedRecord, Oid, RpnQuery, Text, copy};
 /// Records of a result set, as a request asks for them.
 #[derive(Clone, Copy)]
 pub(crate) struct Wanted<'a> {
+    /// The login of who asks, or none.
+    pub(crate) login: &'a Option<Text>,
     /// The legs of the set, by their places in the route.
     pub(crate) legs: &'a List<u32>,
     /// The query of the set.
@@ -45,7 +48,8 @@ pub(crate) fn records_from<T: Targets>(
     requires counted { 0 < first }
     requires within { first + count ≤ merged_order.total hits.now + 1 }
     ensures { AnswersAs result
-        (records_at T.World route.now wanted.entry.legs.now wanted.entry.query.now
+        (records_at (under wanted.entry.login.now T.World) route.now
+        wanted.entry.legs.now wanted.entry.query.now
         (option_copied wanted.entry.syntax) (option_copied wanted.entry.element)
         (places_from hits.now first count)) }
 {
@@ -88,7 +92,8 @@ fn record_at<T: Targets>(
     rank: u32,
 ) -> TargetAnswer<Option<NamedRecord>>
     ensures { AnswersAsAny result
-        (record_at T.World route.now wanted.entry.legs.now wanted.entry.query.now
+        (record_at (under wanted.entry.login.now T.World) route.now
+        wanted.entry.legs.now wanted.entry.query.now
         (option_copied wanted.entry.syntax) (option_copied wanted.entry.element)
         (place_at leg rank)) }
 {
@@ -99,12 +104,16 @@ fn record_at<T: Targets>(
         return TargetAnswer::Good(None);
     };
     let Wanted {
+        login,
         query,
         syntax,
         element,
         ..
     } = wanted;
-    match targets.record_(alloc, leg.address, leg.dbs, query, rank, syntax, element) {
+    let Ok(address) = leg.address.inside(login) else {
+        return TargetAnswer::Memory;
+    };
+    match targets.record_(alloc, &address, leg.dbs, query, rank, syntax, element) {
         TargetAnswer::Good(item) => with_name(&leg.database.name, item),
         TargetAnswer::Refused(diag) => TargetAnswer::Refused(diag),
         TargetAnswer::Memory => TargetAnswer::Memory,

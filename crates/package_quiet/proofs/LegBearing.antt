@@ -13,6 +13,7 @@ use Rattle.z_types.specs.declared.marks.Mark.TheVariants as mark
 use Rattle.z_types.specs.declared.records.Item.{Item}
 use Rattle.z_types.specs.declared.sitting.Sitting as sitting
 use Rattle.z_types.specs.declared.world.World as world
+use Rattle.z_types.proofs.LoginLemmas.{inside_contains}
 use Rattle.gw_outside.specs.Happened.{Happened, at_address, is_cut}
 use Rattle.gw_outside.specs.Sessions.{Fits, IsWorlds, OpenCounts}
 use Rattle.gw_outside.specs.Steady.{AskHappens, IsPresent, IsSpared, IsTakenOrSpared, LooksSteadily, TakesAsk, finds, is_good}
@@ -25,7 +26,7 @@ use Rattle.gw_outside.specs.declared.backends.Opening.TheVariants as gave
 use Rattle.gw_outside.specs.declared.happenings.Happening.{Happening}
 use Rattle.pool_sets.specs.Doors.{TakenFits, Takes}
 use Rattle.pool_sets.specs.Kept.{slot_name}
-use Rattle.pool_sets.specs.Plain.{Pool, take_of}
+use Rattle.pool_sets.specs.Plain.{Pool, address_at, take_of}
 use Rattle.pool_sets.specs.Table.{room}
 use Rattle.pool_sets.specs.declared.doors.Seat.{Seat}
 use Rattle.pool_sets.specs.declared.doors.Taken.{Taken}
@@ -37,7 +38,7 @@ use Rattle.package.specs.leg.Links.{LinksMove}
 use Rattle.package.specs.leg.Phases.{hold, is_given, looks_of, replied, with_session}
 use Rattle.package.specs.leg.Rules.{after_fault, after_first, after_opened, after_present, after_scan, after_search, after_take, first_ask, gone_again, left_by, next, next_ask, out_of_range, recorded, unless_silent, with_items, with_set}
 use Rattle.package.specs.leg.Tasks.{want_of}
-use Rattle.package.specs.leg.Terms.{Terms, opened_at}
+use Rattle.package.specs.leg.Terms.{Terms, opened_at, sites}
 use Rattle.package.specs.leg.Turns.{IsAsked, IsAskedIf, IsDue, IsLook, PoolMoves}
 use Rattle.package.specs.leg.declared.answers.LegAnswer.TheVariants as answer
 use Rattle.package.specs.leg.declared.phases.Held.{Held}
@@ -296,7 +297,7 @@ module _ {W S : Type 0} (w : world.Ghosts W) (t : sitting.Ghosts S W) (terms : T
 -- ---- one deed
 
 module _ {W S : Type 0} (w : world.Ghosts W) (t : sitting.Ghosts S W) (terms : Terms) (most : ℕ) (task : Task) (now gones : ℕ)
-    (backend moved : BackendView) (p : Pool S) (behind : Option (Pool S)) (told : AreTold w terms.at)
+    (backend moved : BackendView) (p : Pool S) (behind : Option (Pool S)) (told : AreTold w (sites terms))
     (bearable : AreBearable terms.pool backend.happened) (cuts : AreCutOnceMade backend) (go : DialsGoOn moved.counts)
     (worse : AreNoWorse backend.happened moved.happened)
     (few : gones ≤ terms.pool.repeats) (are : AreIdle (FaresAt w t terms.pool resting 0) (Some p))
@@ -333,7 +334,8 @@ module _ {W S : Type 0} (w : world.Ghosts W) (t : sitting.Ghosts S W) (terms : T
   moved-pool e k = subst (λ (x : Option (Pool S)). Are x) (sym e) k
 
   member-told : (member : ℕ) → member < length terms.at → w.told (opened_at terms member)
-  member-told member within = told (opened_at terms member) (Contains-get_or terms.at member (Test 0) within)
+  member-told member within = told (opened_at terms member)
+      (inside_contains terms.login terms.at (address_at terms.at member) (Contains-get_or terms.at member (Test 0) within))
 
   abbrev Was : Pending → ℕ → Held S → ℕ → Type 0
   Was waits looks held gone = IsBorneAt w t terms before_ waits looks held gone
@@ -382,13 +384,13 @@ module _ {W S : Type 0} (w : world.Ghosts W) (t : sitting.Ghosts S W) (terms : T
 
   -- ---- a take
 
-  taken-whole : (gives : Taken S) (q : Pool S) → (gives, q) ≡ take_of terms.class terms.at (want_of task) now p
+  taken-whole : (gives : Taken S) (q : Pool S) → (gives, q) ≡ take_of terms.class terms.at terms.login (want_of task) now p
       → GivesWhole (FaresAt w t terms.pool resting 0) (gives, q)
   taken-whole gives q e =
       subst (λ (r : Taken S × Pool S). GivesWhole (FaresAt w t terms.pool resting 0) r) (sym e)
-      (take-whole (FaresAt w t terms.pool resting 0) terms.class terms.at (want_of task) now p are)
+      (take-whole (FaresAt w t terms.pool resting 0) terms.class terms.at terms.login (want_of task) now p are)
 
-  took-whole : (gives : Taken S) (q : Option (Pool S)) → Takes (Some p) q terms.class terms.at (want_of task) now gives
+  took-whole : (gives : Taken S) (q : Option (Pool S)) → Takes (Some p) q terms.class terms.at terms.login (want_of task) now gives
       → IsGivenWhole (FaresAt w t terms.pool resting 0) gives × Are q
   took-whole gives None k = absurd k
   took-whole taken.Memory (Some q) k =
@@ -417,13 +419,13 @@ module _ {W S : Type 0} (w : world.Ghosts W) (t : sitting.Ghosts S W) (terms : T
         | inr never_ ↦ neither-is (sym (fares.fares.holds (omega (arith, never_)) (slot_name slot) made) ∙ missing)
       ]
 
-  take-stands : (gives : Taken S) → gones ≡ 0 → TakenFits w t terms.at (want_of task) most gives
+  take-stands : (gives : Taken S) → gones ≡ 0 → TakenFits w t terms.class terms.at terms.login (want_of task) most gives
       → IsGivenWhole (FaresAt w t terms.pool resting 0) gives → IsBorneIn w t terms behind_ (after_take task gives) gones
   take-stands (taken.Reuse seat parts slot hits) none fits fares =
       set-borne w t terms behind_ task (hold seat parts true) [] slot hits gones (given-borne seat parts none fares)
       (given-may parts slot none fares (wanted-made w t (want_of task) parts slot hits fits.0.kept fits.1))
   take-stands (taken.Fresh seat parts) none fits fares = given-borne seat parts none fares
-  take-stands (taken.Dial seat member) none fits fares = (member-told member fits, none)
+  take-stands (taken.Dial seat member) none fits fares = (member-told member fits.1, none)
   take-stands (taken.Full open_) none fits fares = tt
   take-stands taken.Memory none fits fares = none
 
@@ -434,8 +436,8 @@ module _ {W S : Type 0} (w : world.Ghosts W) (t : sitting.Ghosts S W) (terms : T
   take-left (taken.Full open_) none = none
   take-left taken.Memory none = none
 
-  take-goes : (gives : Taken S) → gones ≡ 0 → TakenFits w t terms.at (want_of task) most gives
-      → Takes (Some p) behind terms.class terms.at (want_of task) now gives → FaresOn Begin (took gives)
+  take-goes : (gives : Taken S) → gones ≡ 0 → TakenFits w t terms.class terms.at terms.login (want_of task) most gives
+      → Takes (Some p) behind terms.class terms.at terms.login (want_of task) now gives → FaresOn Begin (took gives)
   take-goes gives none fits k =
       let both = took-whole gives behind k in record {
         spends = refl;

@@ -11,6 +11,7 @@ use Rattle.z_types.specs.declared.key.SetKey.{SetKey}
 use Rattle.z_types.specs.declared.records.Item.{Item}
 use Rattle.z_types.specs.declared.sitting.Sitting as sitting
 use Rattle.z_types.specs.declared.world.World as world
+use Rattle.z_types.proofs.LoginLemmas.{inside_contains}
 use Rattle.gw_outside.specs.Happened.{AreQuiet}
 use Rattle.gw_outside.specs.Sessions.{Made, made_after}
 use Rattle.gw_outside.specs.Steady.{IsPresent, LooksSteadily}
@@ -21,7 +22,7 @@ use Rattle.gw_outside.specs.declared.backends.Heard.TheVariants as look
 use Rattle.gw_outside.specs.declared.backends.Opening.TheVariants as opening
 use Rattle.pool_sets.specs.Doors.{HasWanted, TakenFits, Takes}
 use Rattle.pool_sets.specs.Kept.{IsKept, TableKept, slot_name}
-use Rattle.pool_sets.specs.Plain.{Pool, take_of}
+use Rattle.pool_sets.specs.Plain.{Pool, address_at, take_of}
 use Rattle.pool_sets.specs.Table.{room}
 use Rattle.pool_sets.specs.declared.doors.Seat.{Seat}
 use Rattle.pool_sets.specs.declared.doors.Taken.{Taken}
@@ -32,7 +33,7 @@ use Rattle.package.specs.leg.Links.{LinksMove}
 use Rattle.package.specs.leg.Phases.{hold, replied}
 use Rattle.package.specs.leg.Rules.{after_first, after_next, after_opened, after_present, after_scan, after_search, after_take, first_ask, left_by, next, next_ask, out_of_range, recorded, spoiled, with_items, with_set}
 use Rattle.package.specs.leg.Tasks.{want_of}
-use Rattle.package.specs.leg.Terms.{Terms, opened_at}
+use Rattle.package.specs.leg.Terms.{Terms, opened_at, sites}
 use Rattle.package.specs.leg.Turns.{IsAsked, IsAskedIf, IsDue, IsLook, PoolMoves}
 use Rattle.package.specs.leg.declared.answers.LegAnswer.TheVariants as answer
 use Rattle.package.specs.leg.declared.phases.Held.{Held}
@@ -271,7 +272,7 @@ module _ {W S : Type 0} (w : world.Ghosts W) (t : sitting.Ghosts S W) (terms : T
 -- ---- one deed
 
 module _ {W S : Type 0} (w : world.Ghosts W) (t : sitting.Ghosts S W) (terms : Terms) (most : ℕ) (task : Task) (now gones : ℕ)
-    (backend moved : BackendView) (p : Pool S) (behind : Option (Pool S)) (told : AreTold w terms.at) (quiet : AreQuiet backend.happened)
+    (backend moved : BackendView) (p : Pool S) (behind : Option (Pool S)) (told : AreTold w (sites terms)) (quiet : AreQuiet backend.happened)
     (are : IsWholePool w t (Some p)) where
   -- it goes well, and leaves the leg and the pool whole
   pub record GoesWell (old : Phase S) (deed : Deed S) : Type 0 where
@@ -283,16 +284,17 @@ module _ {W S : Type 0} (w : world.Ghosts W) (t : sitting.Ghosts S W) (terms : T
   same-pool e = subst (λ (q : Option (Pool S)). IsWholePool w t q) (sym e) are
 
   member-told : (member : ℕ) → member < length terms.at → w.told (opened_at terms member)
-  member-told member within = told (opened_at terms member) (Contains-get_or terms.at member (Test 0) within)
+  member-told member within = told (opened_at terms member)
+      (inside_contains terms.login terms.at (address_at terms.at member) (Contains-get_or terms.at member (Test 0) within))
 
   -- ---- a take
 
-  taken-whole : (gives : Taken S) (q : Pool S) → (gives, q) ≡ take_of terms.class terms.at (want_of task) now p
+  taken-whole : (gives : Taken S) (q : Pool S) → (gives, q) ≡ take_of terms.class terms.at terms.login (want_of task) now p
       → GivesWhole (IsWholeAt w t resting) (gives, q)
   taken-whole gives q e =
-      subst (λ (r : Taken S × Pool S). GivesWhole (IsWholeAt w t resting) r) (sym e) (take-whole (IsWholeAt w t resting) terms.class terms.at (want_of task) now p are)
+      subst (λ (r : Taken S × Pool S). GivesWhole (IsWholeAt w t resting) r) (sym e) (take-whole (IsWholeAt w t resting) terms.class terms.at terms.login (want_of task) now p are)
 
-  took-whole : (gives : Taken S) (q : Option (Pool S)) → Takes (Some p) q terms.class terms.at (want_of task) now gives
+  took-whole : (gives : Taken S) (q : Option (Pool S)) → Takes (Some p) q terms.class terms.at terms.login (want_of task) now gives
       → IsGivenWhole (IsWholeAt w t resting) gives × IsWholePool w t q
   took-whole gives None k = absurd k
   took-whole taken.Memory (Some q) k = (tt, subst (λ (r : Pool S). IsWholePool w t (Some r)) (sym k) (expire-whole (IsWholeAt w t resting) now p are))
@@ -301,17 +303,17 @@ module _ {W S : Type 0} (w : world.Ghosts W) (t : sitting.Ghosts S W) (terms : T
   took-whole (taken.Dial seat member) (Some q) k = taken-whole (taken.Dial seat member) q k
   took-whole (taken.Full open_) (Some q) k = taken-whole (taken.Full open_) q k
 
-  after-take : (gives : Taken S) → TakenFits w t terms.at (want_of task) most gives → IsGivenWhole (IsWholeAt w t resting) gives
+  after-take : (gives : Taken S) → TakenFits w t terms.class terms.at terms.login (want_of task) most gives → IsGivenWhole (IsWholeAt w t resting) gives
       → IsWholeIn w t terms (after_take task gives)
   after-take (taken.Reuse seat parts slot hits) fits rests =
       set-whole w t terms task (hold seat parts true) [] slot hits rests (wanted-made w t (want_of task) parts slot hits fits.0.kept fits.1)
   after-take (taken.Fresh seat parts) fits rests = rests
-  after-take (taken.Dial seat member) fits rests = member-told member fits
+  after-take (taken.Dial seat member) fits rests = member-told member fits.1
   after-take (taken.Full open_) fits rests = tt
   after-take taken.Memory fits rests = tt
 
-  take-goes : (gives : Taken S) → TakenFits w t terms.at (want_of task) most gives
-      → Takes (Some p) behind terms.class terms.at (want_of task) now gives → GoesWell Begin (took gives)
+  take-goes : (gives : Taken S) → TakenFits w t terms.class terms.at terms.login (want_of task) most gives
+      → Takes (Some p) behind terms.class terms.at terms.login (want_of task) now gives → GoesWell Begin (took gives)
   take-goes gives fits k =
       let both = took-whole gives behind k in record { well = tt; whole = after-take gives fits both.0; pool = both.1 }
 

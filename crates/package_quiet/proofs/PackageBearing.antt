@@ -1,5 +1,5 @@
 -- The legs of a request, while no more befalls links than they bear
-use Rattle.std.proofs.Common.{◌≡◌, ◌∙◌, ◌≤◌, ℕ, Bool, true, false, List, [], ◌∷◌, ◌++◌, map, refl, sym, ap, subst, arith}
+use Rattle.std.proofs.Common.{Option, ◌≡◌, ◌∙◌, ◌≤◌, ℕ, Bool, true, false, List, [], ◌∷◌, ◌++◌, map, refl, sym, ap, subst, arith}
 use Rattle.z_types.specs.declared.sitting.Sitting as sitting
 use Rattle.z_types.specs.declared.work.Work.{Work}
 use Rattle.z_types.specs.declared.world.World as world
@@ -45,7 +45,7 @@ module _ {W S : Type 0} (w : world.Ghosts W) (t : sitting.Ghosts S W) (route : R
   -- legs that wait their turn, as no worse becomes of links
   one-stays : (old new : Happened) (leg : LegView S) → AreNoWorse old new → LegBears w t route old leg → LegBears w t route new leg
   one-stays old new leg worse k =
-      record { stands = leg-stays w t (terms_of route leg.leg) old new worse leg.phase leg.account.gones k.stands; borne = k.borne }
+      record { stands = leg-stays w t (terms_of route leg.login leg.leg) old new worse leg.phase leg.account.gones k.stands; borne = k.borne }
 
   pub all-stay : (old new : Happened) (legs : List (LegView S)) → AreNoWorse old new → Bear old legs → Bear new legs
   all-stay old new [] worse k = tt
@@ -134,10 +134,13 @@ module _ {W S : Type 0} (w : world.Ghosts W) (t : sitting.Ghosts S W) (route : R
   )
   first-bears false old new round next door after backend moved h go borne bears =
       let law = h.2.law in
-      let terms = terms_of route old.leg in
+      let terms = terms_of route old.login old.leg in
       let both = turn-bears w t true terms old.task now old.phase new.phase old.account new.account h.0 door after backend moved refl
-      (leg-told w route old.leg told) law go borne bears in
-      (subst (λ (l : ℕ). BearsAt w t (terms_of route l) moved.happened new.phase new.account) (sym h.2.leg) both.0, both.1)
+      (leg-told w route old.login old.leg told) law go borne bears in (
+        subst (λ (o : Option (List ℕ)). BearsAt w t (terms_of route o new.leg) moved.happened new.phase new.account) (sym h.2.login)
+            (subst (λ (l : ℕ). BearsAt w t (terms_of route old.login l) moved.happened new.phase new.account) (sym h.2.leg) both.0),
+        both.1,
+      )
 
   -- legs, one after another
   legs-bear : (olds news : List (LegView S)) (round last : Round) (door after : DoorView S) (backend moved : BackendView)

@@ -8,13 +8,15 @@ use Rattle.z_types.specs.declared.address.Address.{Address}
 use Rattle.z_types.specs.declared.sitting.Sitting as sitting
 use Rattle.z_types.specs.declared.work.Work.{Work}
 use Rattle.z_types.specs.declared.world.World as world
+use Rattle.z_types.specs.Under.{under}
 use Rattle.route_config.specs.declared.route.Class.{Class}
 use Rattle.route_config.specs.declared.route.Route.{Route}
 use Rattle.gw_outside.specs.Counts.{Counts}
 use Rattle.package.specs.leg.Deeds.{BackendView}
 use Rattle.package.specs.leg.LegView.{LegView}
 use Rattle.package.specs.leg.Phases.{is_done}
-use Rattle.package.specs.leg.Terms.{class_of, terms_of}
+use Rattle.package.specs.leg.Terms.{class_of, sites, terms_of}
+use Rattle.package.proofs.leg.Sites.{IsInside, inside_of}
 use Rattle.package.specs.leg.Turns.{DoorView}
 use Rattle.package.specs.leg.declared.answers.Turned.{Turned}
 use Rattle.package.specs.leg.declared.answers.Turned.TheVariants as turned
@@ -40,8 +42,13 @@ module _ {W : Type 0} (w : world.Ghosts W) where
       subst (λ (c : Option Class). AreTold w (option_map_or (λ (x : Class). x.addresses) c [])) (sym h.1)
       (λ address is. absurd (All-contains (λ (a : Address). ⊥) [] address (All-nil (λ (a : Address). ⊥)) is))
 
-  pub leg-told : (route : Route) (leg : ℕ) → IsToldRoute w route → AreTold w (terms_of route leg).at
-  leg-told route leg told = members-told route.classes (class_of route leg) told (slice_get_cases route.classes (class_of route leg)).1
+-- they are told, inside the login of who asks
+pub leg-told : {W : Type 0} (w : world.Ghosts W) (route : Route) (login : Option (List ℕ)) (leg : ℕ) → IsToldRoute w route
+    → AreTold w (sites (terms_of route login leg))
+leg-told w route login leg told address is =
+    let members = members-told (under login w) route.classes (class_of route leg) (told login) (slice_get_cases route.classes (class_of route leg)).1 in
+    let of : IsInside login (terms_of route login leg).at address = inside_of login (terms_of route login leg).at address is in
+    subst w.told (sym of.is) (members of.own of.member)
 
 -- ---- memory
 
@@ -135,9 +142,10 @@ module _ {W S : Type 0} (w : world.Ghosts W) (t : sitting.Ghosts S W) (exact : B
           (record { calm = calm; counts = stay-still (HadMemories last (new ∷ news)) backend.counts })),
     )
     first-well false old new news round next last door after backend moved is kept h calm well =
-        let both = turn-well w t exact (terms_of route old.leg) old.task now old.phase new.phase old.account new.account h.0 door after backend
-        moved e (leg-told w route old.leg told) h.2.law calm well in (
-          subst (λ (l : ℕ). IsWellAt w t (terms_of route l) new.phase new.account) (sym h.2.leg) both.0,
+        let both = turn-well w t exact (terms_of route old.login old.leg) old.task now old.phase new.phase old.account new.account h.0 door after backend
+        moved e (leg-told w route old.login old.leg told) h.2.law calm well in (
+          subst (λ (o : Option (List ℕ)). IsWellAt w t (terms_of route o new.leg) new.phase new.account) (sym h.2.login)
+              (subst (λ (l : ℕ). IsWellAt w t (terms_of route old.login l) new.phase new.account) (sym h.2.leg) both.0),
           record {
             calm = both.1.calm;
             counts = stay-where (HadMemory h.0 old.phase new.phase) (HadMemories last (new ∷ news)) backend.counts moved.counts

@@ -3,6 +3,7 @@ use Rattle.std.proofs.Common.{◌==◌, ℕ, ◌+◌, Bool, true, false, cond, L
 use Rattle.std.specs.Prelude.{IfSome}
 use Rattle.std.specs.List.{AllByRecursion}
 use Rattle.std.specs.Option.{option_or}
+use Rattle.z_types.specs.Logins.{inner}
 use Rattle.z_types.specs.declared.address.Address.{Address}
 use Rattle.z_types.specs.declared.key.SetKey.{SetKey}
 use Rattle.pool_sets.specs.declared.pooled.Parts.{Parts}
@@ -10,10 +11,10 @@ use Rattle.pool_sets.specs.declared.sessions.Stand.{Stand}
 use Rattle.pool_sets.specs.declared.sessions.Stand.TheVariants.{Idle, Out}
 use Rattle.pool_sets.specs.declared.doors.Seat.{Seat}
 use Rattle.pool_sets.specs.declared.doors.Taken.{Taken}
-use Rattle.pool_sets.specs.declared.doors.Taken.TheVariants.{Reuse, Fresh, Full, Memory}
+use Rattle.pool_sets.specs.declared.doors.Taken.TheVariants.{Reuse, Fresh, Memory}
 use Rattle.pool_sets.specs.Table.{Entry, set_of}
-use Rattle.pool_sets.specs.Sessions.{Session, Idler, first_some, idle_in, idle_with, idler, in_class, member_for, open_of, with_set, with_stand}
-use Rattle.pool_sets.specs.Plain.{Pool, any_idle, choice, dial_for, expire, has_number, idle_again, is_seat, lost, one_idle, open_one, out_for, put, redial, redial_at_seat, redial_member, stays_open, take_of, with_fresh_sets, without_old_sets}
+use Rattle.pool_sets.specs.Sessions.{Session, Idler, first_some, idle_for, idle_in, idle_with, idler, in_class, is_for, member_for, open_of, with_set, with_stand}
+use Rattle.pool_sets.specs.Plain.{Pool, any_idle, choice, dial_for, dial_in, expire, has_number, idle_again, is_seat, lost, made_room, one_idle, out_for, put, redial, redial_at_seat, redial_member, stays_open, take_any, take_of, with_fresh_sets, without_idle, without_old_sets}
 use Rattle.package_quiet.specs.steps.Whole.{AreIdle, IsIdleSession, IsIdleStand}
 
 module _ {S : Type 0} (IsSo : S → Type 0) where
@@ -71,7 +72,7 @@ module _ {S : Type 0} (IsSo : S → Type 0) where
   ])
 
   again-whole : (b : Bool) (at : List Address) (m : ℕ) (o : Session S) → IsIdleSession IsSo o
-      → IsIdleSession IsSo (cond b (out_for o.number o.class at m) o)
+      → IsIdleSession IsSo (cond b (out_for o.number o.class at o.login m) o)
   again-whole true at m o k = tt
   again-whole false at m o k = k
 
@@ -117,37 +118,53 @@ module _ {S : Type 0} (IsSo : S → Type 0) where
       | Some y ↦ λ h. h
     ]) (one o k.0)
 
-  module _ (class : ℕ) (at : List Address) (p : Pool S) (h : Whole p) where
-    open-whole : GivesWhole (open_one class at p)
-    open-whole = (elim (nat_lt (open_of class at p.sessions) p.max_sessions) as (λ (b : Bool). GivesWhole (cond b (cond (has_number p) (dial_for class at (member_for class at p.sessions) p) (Memory, p)) (Full p.max_sessions, p))) [
-      | true ↦ (elim (has_number p) as (λ (b : Bool). GivesWhole (cond b (dial_for class at (member_for class at p.sessions) p) (Memory, p))) [
-        | true ↦ (tt, push-whole p.sessions (out_for (p.given + 1) class at (member_for class at p.sessions)) h tt)
-        | false ↦ (tt, h)
-      ])
+  for-whole : (for_it : Bool) (i : Option (Idler S)) → IfSome i (λ (x : Idler S). Rests x.parts)
+      → IfSome (cond for_it i None) (λ (x : Idler S). Rests x.parts)
+  for-whole true i h = h
+  for-whole false i h = tt
+
+  module _ (class : ℕ) (at : List Address) (login : Option (List ℕ)) (p : Pool S) (h : Whole p) where
+    room-by : (i : Option (Idler S)) → IfSome (option_map (without_idle p) i) Whole
+    room-by None = tt
+    room-by (Some i) = filter-whole _ p.sessions h
+
+    room-whole : IfSome (made_room class at p) Whole
+    room-whole = (elim (nat_lt (open_of class at p.sessions) p.max_sessions) as (λ (b : Bool). IfSome (cond b (Some p) (option_map (without_idle p) (first_some (idle_in class at) p.sessions))) Whole) [
+      | true ↦ h
+      | false ↦ room-by (first_some (idle_in class at) p.sessions)
+    ])
+
+    dial-whole : (q : Option (Pool S)) → IfSome q Whole → GivesWhole (dial_in class at login p q)
+    dial-whole None k = (tt, h)
+    dial-whole (Some q) k = (elim (has_number q) as (λ (b : Bool). GivesWhole (cond b (dial_for class at login (member_for class at q.sessions) q) (Memory, p))) [
+      | true ↦ (tt, push-whole q.sessions (out_for (q.given + 1) class at login (member_for class at q.sessions)) k tt)
       | false ↦ (tt, h)
     ])
 
-    any-whole : (i : Option (Idler S)) → IfSome i (λ (x : Idler S). Rests x.parts) → GivesWhole (any_idle class at p i)
-    any-whole None k = open-whole
-    any-whole (Some i) k = (k, lend-whole i.number i.parts.address p h)
+    any-whole : (i : Option (Idler S)) → IfSome i (λ (x : Idler S). Rests x.parts) → GivesWhole (any_idle class at login p i)
+    any-whole None k = dial-whole (made_room class at p) room-whole
+    any-whole (Some i) k = (k, lend-whole i.number (inner i.parts.address) p h)
 
-    any-given : GivesWhole (any_idle class at p (first_some (idle_in class at) p.sessions))
+    own-whole : (o : Session S) → IsIdleSession IsSo o → IfSome (idle_for class at login o) (λ (x : Idler S). Rests x.parts)
+    own-whole o k = for-whole (is_for login o) (idle_in class at o) (idle-whole (in_class class at o) o.number o.stand k)
+
+    any-given : GivesWhole (take_any class at login p)
     any-given =
-        any-whole (first_some (idle_in class at) p.sessions)
-        (first-whole (idle_in class at) (λ (x : Idler S). Rests x.parts) (λ o k. idle-whole (in_class class at o) o.number o.stand k) p.sessions h)
+        any-whole (first_some (idle_for class at login) p.sessions)
+        (first-whole (idle_for class at login) (λ (x : Idler S). Rests x.parts) own-whole p.sessions h)
 
     one-whole : (key : SetKey) (now : ℕ) (i : Option (Idler S × Entry)) → IfSome i (λ (x : Idler S × Entry). Rests x.0.parts)
-        → GivesWhole (one_idle class at key now p i)
+        → GivesWhole (one_idle class at login key now p i)
     one-whole key now None k = any-given
-    one-whole key now (Some i) k = (k, lend-whole i.0.number i.0.parts.address p h)
+    one-whole key now (Some i) k = (k, lend-whole i.0.number (inner i.0.parts.address) p h)
 
-    choice-whole : (want : Option SetKey) (now : ℕ) → GivesWhole (choice class at want now p)
+    choice-whole : (want : Option SetKey) (now : ℕ) → GivesWhole (choice class at login want now p)
     choice-whole None now = any-given
     choice-whole (Some key) now =
-        one-whole key now (first_some (idle_with class at key) p.sessions)
-        (first-whole (idle_with class at key) (λ (x : Idler S × Entry). Rests x.0.parts)
-        (λ o k. set-whole key (idle_in class at o) (idle-whole (in_class class at o) o.number o.stand k)) p.sessions h)
+        one-whole key now (first_some (idle_with class at login key) p.sessions)
+        (first-whole (idle_with class at login key) (λ (x : Idler S × Entry). Rests x.0.parts)
+        (λ o k. set-whole key (idle_for class at login o) (own-whole o k)) p.sessions h)
 
-  pub take-whole : (class : ℕ) (at : List Address) (want : Option SetKey) (now : ℕ) (p : Pool S) → Whole p
-      → GivesWhole (take_of class at want now p)
-  take-whole class at want now p h = choice-whole class at (expire now p) (expire-whole now p h) want now
+  pub take-whole : (class : ℕ) (at : List Address) (login : Option (List ℕ)) (want : Option SetKey) (now : ℕ) (p : Pool S) → Whole p
+      → GivesWhole (take_of class at login want now p)
+  take-whole class at login want now p h = choice-whole class at login (expire now p) (expire-whole now p h) want now

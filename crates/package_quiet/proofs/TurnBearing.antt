@@ -10,7 +10,7 @@ use Rattle.package.specs.leg.Deeds.{BackendView, Deed, HappensThen, took, opened
 use Rattle.package.specs.leg.Phases.{is_given, looks_of}
 use Rattle.package.specs.leg.Rules.{Ends, answer_of, lack_of, left_by, next}
 use Rattle.package.specs.leg.Tasks.{want_of}
-use Rattle.package.specs.leg.Terms.{Terms}
+use Rattle.package.specs.leg.Terms.{Terms, sites}
 use Rattle.package.specs.leg.Turns.{DoorView, IsTurn, PoolMoves}
 use Rattle.package.specs.leg.declared.accounts.Account.{Account}
 use Rattle.package.specs.leg.declared.answers.Turned.{Turned}
@@ -70,7 +70,7 @@ none-spent false spent e z = z
 
 module _ {W S : Type 0} (w : world.Ghosts W) (t : sitting.Ghosts S W) where
   turn-told : (terms : Terms) (task : Task) (now : ℕ) (old new : Phase S) (a b : Account) (answer : Turned) (door after : DoorView S)
-      (backend moved : BackendView) (pool : Option (Pool S)) → door.pool ≡ pool → AreTold w terms.at
+      (backend moved : BackendView) (pool : Option (Pool S)) → door.pool ≡ pool → AreTold w (sites terms)
       → (h : IsTurn w t true terms task now old new a b answer door after backend moved) → DialsGoOn moved.counts
       → IsBorneBy w t terms.pool pool backend → BearsAt w t terms backend.happened old a
       → BearsAt w t terms moved.happened new b × BearsOn w t terms.pool after.pool backend moved
@@ -107,7 +107,7 @@ module _ {W S : Type 0} (w : world.Ghosts W) (t : sitting.Ghosts S W) where
       )
 
   pub turn-bears : (exact : Bool) (terms : Terms) (task : Task) (now : ℕ) (old new : Phase S) (a b : Account) (answer : Turned)
-      (door after : DoorView S) (backend moved : BackendView) → exact ≡ true → AreTold w terms.at
+      (door after : DoorView S) (backend moved : BackendView) → exact ≡ true → AreTold w (sites terms)
       → (h : IsTurn w t exact terms task now old new a b answer door after backend moved) → DialsGoOn moved.counts
       → IsBorneBy w t terms.pool door.pool backend → BearsAt w t terms backend.happened old a
       → BearsAt w t terms moved.happened new b × BearsOn w t terms.pool after.pool backend moved

@@ -7,7 +7,7 @@ use Rattle.pool_sets.specs.declared.doors.Taken.TheVariants as taken
 use Rattle.package.specs.leg.Deeds.{BackendView, Deed, took, opened, began, heard, put_back, gave_up, redialled, no_memory, nothing, looks_after}
 use Rattle.package.specs.leg.Phases.{is_done, is_given, looks_of}
 use Rattle.package.specs.leg.Rules.{Ends, Lack, always, answer_of, lack_of, left_by, never, perhaps}
-use Rattle.package.specs.leg.Terms.{Terms}
+use Rattle.package.specs.leg.Terms.{Terms, sites}
 use Rattle.package.specs.leg.Turns.{DoorView, IsTurn, PoolMoves}
 use Rattle.package.specs.leg.declared.accounts.Account.{Account}
 use Rattle.package.specs.leg.declared.answers.Turned.{Turned}
@@ -91,7 +91,7 @@ stay-where other had old new has h = record { faults = h.faults; waits = h.waits
 
 module _ {W S : Type 0} (w : world.Ghosts W) (t : sitting.Ghosts S W) where
   turn-told : (terms : Terms) (task : Task) (now : ℕ) (old new : Phase S) (a b : Account) (answer : Turned) (door after : DoorView S)
-      (backend moved : BackendView) (pool : Option (Pool S)) → door.pool ≡ pool → AreTold w terms.at
+      (backend moved : BackendView) (pool : Option (Pool S)) → door.pool ≡ pool → AreTold w (sites terms)
       → IsTurn w t true terms task now old new a b answer door after backend moved
       → IsCalm w t pool backend → IsWellAt w t terms old a
       → IsWellAt w t terms new b × WentWell w t (HadMemory answer old new) after.pool backend moved
@@ -117,7 +117,7 @@ module _ {W S : Type 0} (w : world.Ghosts W) (t : sitting.Ghosts S W) where
       )
 
   pub turn-well : (exact : Bool) (terms : Terms) (task : Task) (now : ℕ) (old new : Phase S) (a b : Account) (answer : Turned)
-      (door after : DoorView S) (backend moved : BackendView) → exact ≡ true → AreTold w terms.at
+      (door after : DoorView S) (backend moved : BackendView) → exact ≡ true → AreTold w (sites terms)
       → IsTurn w t exact terms task now old new a b answer door after backend moved
       → IsCalm w t door.pool backend → IsWellAt w t terms old a
       → IsWellAt w t terms new b × WentWell w t (HadMemory answer old new) after.pool backend moved
@@ -126,7 +126,7 @@ module _ {W S : Type 0} (w : world.Ghosts W) (t : sitting.Ghosts S W) where
       (subst (λ (x : Bool). IsTurn w t x terms task now old new a b answer door after backend moved) e h) calm is
 
   pub turn-law : (exact : Bool) (terms : Terms) (task : Task) (now : ℕ) (old new : Phase S) (a b : Account) (answer : Turned)
-      (door after : DoorView S) (backend moved : BackendView) → exact ≡ true → AreTold w terms.at
+      (door after : DoorView S) (backend moved : BackendView) → exact ≡ true → AreTold w (sites terms)
       → IsTurn w t exact terms task now old new a b answer door after backend moved
       → IsCalm w t door.pool backend → IsWellAt w t terms old a
       → IsWellAt w t terms new b × WentWell w t (answer ≢ turned.Memory) after.pool backend moved

@@ -86,22 +86,22 @@ module _ {W : Type 0} (w : world.Ghosts W) (route : Route) where
   as_many (ask ∷ asked) [] all = absurd all
   as_many (ask ∷ asked) (a ∷ answers) all = omega (arith, as_many asked answers all.1)
 
-  hits_many : (legs : List ℕ) (query : RpnQuery) (first : List Answered) (hits : List ℕ)
-      → AreAnswersTo w route (map (hits_asked route query) legs) first → all_hits route first ≡ Ok hits → length hits ≡ length legs
-  hits_many legs query first hits all is =
+  hits_many : (login : Option (List ℕ)) (legs : List ℕ) (query : RpnQuery) (first : List Answered) (hits : List ℕ)
+      → AreAnswersTo w route (map (hits_asked route login query) legs) first → all_hits route first ≡ Ok hits → length hits ≡ length legs
+  hits_many login legs query first hits all is =
       length-all_or_first (map (λ (a : Answered). hidden (hides route a.leg) (hits_said a.answer)) first) hits is
       ∙ length-map first (λ (a : Answered). hidden (hides route a.leg) (hits_said a.answer))
-      ∙ as_many (map (hits_asked route query) legs) first all ∙ length-map legs (hits_asked route query)
+      ∙ as_many (map (hits_asked route login query) legs) first all ∙ length-map legs (hits_asked route login query)
 
   search_fits : (login : Option (List ℕ)) (legs : List ℕ) (query : RpnQuery) (small large medium : ℕ)
       (small_element medium_element syntax : Option (List ℕ)) (room : ℕ) (first later : List Answered) (hits : Result (List ℕ) Diag)
-      → AreAnswersTo w route (map (hits_asked route query) legs) first → all_hits route first ≡ hits
+      → AreAnswersTo w route (map (hits_asked route login query) legs) first → all_hits route first ≡ hits
       → FitsWork (work.Search login legs query small large medium small_element medium_element syntax room)
       (found hits (search_said route legs small large medium room later))
   search_fits login legs query small large medium small_element medium_element syntax room first later (Err diag) all is = tt
   search_fits login legs query small large medium small_element medium_element syntax room first later (Ok hits) all is =
       let count : ℕ = shown (total hits) small large medium in (
-        hits_many legs query first hits all is,
+        hits_many login legs query first hits all is,
         shown_few route (length legs) room count hits later (count == 0) (nat_lt room count) refl,
       )
 

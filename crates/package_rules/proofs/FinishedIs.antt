@@ -21,12 +21,14 @@ use Rattle.z_types.specs.declared.scan.ScanAsk.{ScanAsk}
 use Rattle.z_types.specs.declared.work.Work.{Work}
 use Rattle.z_types.specs.declared.work.Work.TheVariants as work
 use Rattle.z_types.specs.declared.world.World as world
+use Rattle.z_types.specs.Logins.{inside}
+use Rattle.z_types.specs.Under.{under}
 use Rattle.route_config.specs.Sound.{IsSound}
 use Rattle.route_config.specs.declared.route.Route.{Route}
 use Rattle.virt_db.specs.Legs.{leg_at}
 use Rattle.gateway_rules.specs.Fair.{IsFair}
 use Rattle.gateway_rules.specs.Marks.{Cause}
-use Rattle.gateway_rules.specs.Outcomes.{found, places_from, plain_outcome, scanned, under_mark, whole}
+use Rattle.gateway_rules.specs.Outcomes.{found, login_asked, places_from, plain_outcome, scanned, under_mark, whole}
 use Rattle.gateway_rules.specs.Targets.{hits_of, records_at, scan_at}
 use Rattle.leg.specs.Right.{AnswerFits, IsWorldsAt}
 use Rattle.leg.specs.Terms.{databases_of}
@@ -66,17 +68,17 @@ search_said route legs small large medium room later hits =
 
 module _ {W : Type 0} (w : world.Ghosts W) (route : Route) (fair : IsFair w route) (sound : IsSound route) where
   -- the records that a Search shows
-  shown_is : (legs : List ℕ) (query : RpnQuery) (syntax element : Option (List ℕ)) (hits : List ℕ) (count : ℕ) (later : List Answered)
-      (over : Bool) → All (λ leg. leg < length route.legs) legs → hits_of w route legs query ≡ Ok hits
-      → AreAnswersTo w route (all_records_asked route legs query syntax element (cond over [] (places_from hits 1 count))) later
+  shown_is : (login : Option (List ℕ)) (legs : List ℕ) (query : RpnQuery) (syntax element : Option (List ℕ)) (hits : List ℕ) (count : ℕ) (later : List Answered)
+      (over : Bool) → All (λ leg. leg < length route.legs) legs → hits_of (under login w) route legs query ≡ Ok hits
+      → AreAnswersTo w route (all_records_asked route login legs query syntax element (cond over [] (places_from hits 1 count))) later
       → AreUnmarked later
       → shown_if over count (whole (records_said route (fetches_of (length legs) (cond over [] (places_from hits 1 count)) later)
       (cond over [] (places_from hits 1 count))))
-      ≡ shown_if over count (whole (records_at w route legs query syntax element (places_from hits 1 count)))
-  shown_is legs query syntax element hits count later true there are all unmarked = refl
-  shown_is legs query syntax element hits count later false there are all unmarked =
+      ≡ shown_if over count (whole (records_at (under login w) route legs query syntax element (places_from hits 1 count)))
+  shown_is login legs query syntax element hits count later true there are all unmarked = refl
+  shown_is login legs query syntax element hits count later false there are all unmarked =
       ap (λ (records : Result (List NamedRecord) Diag). shown_if false count (whole records))
-      (records_are w route legs query syntax element hits 1 count later (record {
+      (records_are w login route legs query syntax element hits 1 count later (record {
         fair = fair;
         sound = sound;
         there = there;
@@ -86,27 +88,27 @@ module _ {W : Type 0} (w : world.Ghosts W) (route : Route) (fair : IsFair w rout
       }))
 
   -- what it shows as it is meant
-  abbrev search_meant : (legs : List ℕ) → RpnQuery → (small large medium room : ℕ)
+  abbrev search_meant : (login : Option (List ℕ)) → (legs : List ℕ) → RpnQuery → (small large medium room : ℕ)
       → (small_element medium_element syntax : Option (List ℕ)) → List ℕ → Fetched
-  search_meant legs query small large medium room small_element medium_element syntax hits =
+  search_meant login legs query small large medium room small_element medium_element syntax hits =
       let count = shown (total hits) small large medium in
       shown_if (nat_lt room count) count
-      (whole (records_at w route legs query syntax (element_shown small small_element medium_element hits) (places_from hits 1 count)))
+      (whole (records_at (under login w) route legs query syntax (element_shown small small_element medium_element hits) (places_from hits 1 count)))
 
   -- by the hits
   search_by : (login : Option (List ℕ)) (legs : List ℕ) (query : RpnQuery) (small large medium : ℕ)
       (small_element medium_element syntax : Option (List ℕ)) (room : ℕ) (later : List Answered) (hits : Result (List ℕ) Diag)
-      → All (λ leg. leg < length route.legs) legs → hits_of w route legs query ≡ hits
+      → All (λ leg. leg < length route.legs) legs → hits_of (under login w) route legs query ≡ hits
       → AreAnswersTo w route
       (by_hits route (work.Search login legs query small large medium small_element medium_element syntax room) hits) later
       → AreUnmarked later
       → found hits (search_said route legs small large medium room later)
-      ≡ found hits (search_meant legs query small large medium room small_element medium_element syntax)
+      ≡ found hits (search_meant login legs query small large medium room small_element medium_element syntax)
   search_by login legs query small large medium small_element medium_element syntax room later (Err diag) there are all unmarked = refl
   search_by login legs query small large medium small_element medium_element syntax room later (Ok hits) there are all unmarked =
       let count : ℕ = shown (total hits) small large medium in
       ap (λ (records : Fetched). outcome.Found hits records)
-      (shown_is legs query syntax (element_shown small small_element medium_element hits) hits count later (nat_lt room count)
+      (shown_is login legs query syntax (element_shown small small_element medium_element hits) hits count later (nat_lt room count)
       there are all unmarked)
 
   scan_by : (dbs : List (List ℕ)) (ask : ScanAsk) (address : Address) (said : LegAnswer) → AnswerFits (Scan ask) said → IsUnmarked said
@@ -119,32 +121,35 @@ module _ {W : Type 0} (w : world.Ghosts W) (route : Route) (fair : IsFair w rout
   scan_by dbs ask address (answer.Marked m) fits unmarked right = absurd unmarked
 
   -- the entries of a scan
-  scan_is : (leg : ℕ) (ask : ScanAsk) (a : Answered) → leg < length route.legs
-      → IsAnswerTo w route (record { leg = leg; task = Scan ask }) a → IsUnmarked a.answer
-      → entries_said a.answer ≡ scanned (scan_at w ask (leg_at route leg))
-  scan_is leg ask a inside is unmarked =
-      let told : IsTold w route leg (Scan ask) a.answer = told_at w route leg (Scan ask) a.answer fair sound inside unmarked is.right in
-      scan_by (databases_of route leg) ask told.address a.answer is.fits unmarked told.right
+  scan_is : (login : Option (List ℕ)) (leg : ℕ) (ask : ScanAsk) (a : Answered) → leg < length route.legs
+      → IsAnswerTo w route (record { leg = leg; login = login; task = Scan ask }) a → IsUnmarked a.answer
+      → entries_said a.answer ≡ scanned (scan_at (under login w) ask (leg_at route leg))
+  scan_is login leg ask a there is unmarked =
+      let told : IsTold w login route leg (Scan ask) a.answer =
+      told_at w login route leg (Scan ask) a.answer fair sound there unmarked is.right in
+      scan_by (databases_of route leg) ask (inside login told.address) a.answer is.fits unmarked told.right
       ∙ ap scanned (told.means.scan (databases_of route leg) ask
-      ∙ ap (λ (dbs : List (List ℕ)). w.scan told.at.address dbs ask) told.dbs ∙ sym (ap (scan_at w ask) told.there))
+      ∙ ap (λ (dbs : List (List ℕ)). (under login w).scan told.at.address dbs ask) told.dbs
+      ∙ sym (ap (scan_at (under login w) ask) told.there))
 
   -- what comes of each work where no leg is marked
   plainly : (asked : Work) (first later : List Answered) → AreThere route asked → HasWorldsHits w route asked
       → AreAnswered w route asked first later → AreUnmarked first → AreUnmarked later
-      → outcome_said route asked first later ≡ plain_outcome w route asked
+      → outcome_said route asked first later ≡ plain_outcome (under (login_asked asked) w) route asked
   plainly (work.Search login legs query small large medium small_element medium_element syntax room) first later there hits are one two =
       let search : Work = work.Search login legs query small large medium small_element medium_element syntax room in
-      let same : all_hits route first ≡ hits_of w route legs query = hits_are w route query legs first fair sound there are.at_first one in
+      let same : all_hits route first ≡ hits_of (under login w) route legs query =
+      hits_are w login route query legs first fair sound there are.at_first one in
       let then : AreAnswersTo w route (by_hits route search (all_hits route first)) later =
       subst (λ (m : Mark). AreAnswersTo w route (unless_marked m (by_hits route search (all_hits route first))) later)
       (plain_all route first one) are.then in
       search_by login legs query small large medium small_element medium_element syntax room later (all_hits route first) there
       (sym same) then two
       ∙ ap (λ (r : Result (List ℕ) Diag).
-      found r (search_meant legs query small large medium room small_element medium_element syntax)) same
+      found r (search_meant login legs query small large medium room small_element medium_element syntax)) same
   plainly (work.Fetch login legs query hits from count syntax element) first later there found are one two =
       ap (λ (records : Result (List NamedRecord) Diag). outcome.Fetched (whole records))
-      (records_are w route legs query syntax element hits from count first (record {
+      (records_are w login route legs query syntax element hits from count first (record {
         fair = fair;
         sound = sound;
         there = there;
@@ -154,7 +159,7 @@ module _ {W : Type 0} (w : world.Ghosts W) (route : Route) (fair : IsFair w rout
       }))
   plainly (work.Scan login leg ask) [] later there hits are one two = absurd are.at_first
   plainly (work.Scan login leg ask) (a ∷ others) later there hits are one two =
-      scan_is leg ask a (All-head (λ (l : ℕ). l < length route.legs) leg [] there) are.at_first.0 one.0
+      scan_is login leg ask a (All-head (λ (l : ℕ). l < length route.legs) leg [] there) are.at_first.0 one.0
 
 -- the answers to what was asked first and then, where their cause is Plain
 pub both_unmarked : {W : Type 0} (w : world.Ghosts W) (route : Route) (asked : Work) (first later : List Answered)
@@ -169,6 +174,6 @@ both_unmarked w route asked first later are is =
 pub finished-is : {W : Type 0} (w : world.Ghosts W) → FinishedIsOutcome w
 finished-is w route asked first later fair sound there hits are =
     let cause : Cause = cause_of route (first ++ later) in
-    under_same cause.mark cause.class (outcome_said route asked first later) (plain_outcome w route asked)
+    under_same cause.mark cause.class (outcome_said route asked first later) (plain_outcome (under (login_asked asked) w) route asked)
     (λ is. let both = both_unmarked w route asked first later are is in
     plainly w route fair sound asked first later there hits are both.0 both.1)

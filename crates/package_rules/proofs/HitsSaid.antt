@@ -7,6 +7,8 @@ use Rattle.z_types.specs.declared.diagnostic.Diag.{Diag}
 use Rattle.z_types.specs.declared.key.SetKey.{SetKey}
 use Rattle.z_types.specs.declared.query.RpnQuery.{RpnQuery}
 use Rattle.z_types.specs.declared.world.World as world
+use Rattle.z_types.specs.Logins.{inside}
+use Rattle.z_types.specs.Under.{under}
 use Rattle.route_config.specs.Sound.{IsSound}
 use Rattle.route_config.specs.declared.route.Route.{Route}
 use Rattle.virt_db.specs.Legs.{LegAt, leg_at}
@@ -41,25 +43,27 @@ module _ {W : Type 0} (w : world.Ghosts W) where
       → w.search at.address (key_at route leg query) ≡ w.search at.address (record { dbs = at.dbs; query = query })
   search_at route query leg at dbs = ap (λ (names : List (List ℕ)). w.search at.address (record { dbs = names; query = query })) dbs
 
+module _ {W : Type 0} (w : world.Ghosts W) (login : Option (List ℕ)) where
   hits_one : (route : Route) (query : RpnQuery) (leg : ℕ) (a : Answered) → IsFair w route → IsSound route → leg < length route.legs
-      → IsAnswerTo w route (hits_asked route query leg) a → IsUnmarked a.answer
-      → hidden (hides route a.leg) (hits_said a.answer) ≡ hits_at w query (leg_at route leg)
-  hits_one route query leg a fair sound inside is unmarked =
+      → IsAnswerTo w route (hits_asked route login query leg) a → IsUnmarked a.answer
+      → hidden (hides route a.leg) (hits_said a.answer) ≡ hits_at (under login w) query (leg_at route leg)
+  hits_one route query leg a fair sound there is unmarked =
       let key : SetKey = key_at route leg query in
-      let told : IsTold w route leg (Hits key) a.answer = told_at w route leg (Hits key) a.answer fair sound inside unmarked is.right in
-      let same : hits_said a.answer ≡ w.search told.at.address (record { dbs = told.at.dbs; query = query }) =
-      searched (databases_of route leg) key told.address a.answer is.fits unmarked told.right ∙ told.means.search key
-      ∙ search_at route query leg told.at told.dbs in
+      let told : IsTold w login route leg (Hits key) a.answer =
+      told_at w login route leg (Hits key) a.answer fair sound there unmarked is.right in
+      let same : hits_said a.answer ≡ (under login w).search told.at.address (record { dbs = told.at.dbs; query = query }) =
+      searched w (databases_of route leg) key (inside login told.address) a.answer is.fits unmarked told.right ∙ told.means.search key
+      ∙ search_at (under login w) route query leg told.at told.dbs in
       let hide : hides route a.leg ≡ told.at.database.hide_errors =
       ap (hides route) is.leg ∙ ap (λ (at : Option LegAt). option_map_or (λ (x : LegAt). x.database.hide_errors) at true) told.there in
       ap (λ (b : Bool). hidden b (hits_said a.answer)) hide ∙ ap (hidden told.at.database.hide_errors) same
-      ∙ sym (ap (hits_at w query) told.there)
+      ∙ sym (ap (hits_at (under login w) query) told.there)
 
   hits_each : (route : Route) (query : RpnQuery) (legs : List ℕ) (answers : List Answered) → IsFair w route → IsSound route
-      → All (λ leg. leg < length route.legs) legs → AreAnswersTo w route (map (hits_asked route query) legs) answers
+      → All (λ leg. leg < length route.legs) legs → AreAnswersTo w route (map (hits_asked route login query) legs) answers
       → AreUnmarked answers
       → map (λ (a : Answered). hidden (hides route a.leg) (hits_said a.answer)) answers
-      ≡ map (λ (leg : ℕ). hits_at w query (leg_at route leg)) legs
+      ≡ map (λ (leg : ℕ). hits_at (under login w) query (leg_at route leg)) legs
   hits_each route query [] [] fair sound there all unmarked = refl
   hits_each route query [] (a ∷ answers) fair sound there all unmarked = absurd all
   hits_each route query (leg ∷ legs) [] fair sound there all unmarked = absurd all
@@ -68,13 +72,13 @@ module _ {W : Type 0} (w : world.Ghosts W) where
       let said : List (Result ℕ Diag) = map (λ (b : Answered). hidden (hides route b.leg) (hits_said b.answer)) answers in
       ap (λ (hits : Result ℕ Diag). hits ∷ said)
       (hits_one route query leg a fair sound (All-head P leg legs there) all.0 unmarked.0)
-      ∙ ap (λ (others : List (Result ℕ Diag)). hits_at w query (leg_at route leg) ∷ others)
+      ∙ ap (λ (others : List (Result ℕ Diag)). hits_at (under login w) query (leg_at route leg) ∷ others)
       (hits_each route query legs answers fair sound (All-tail P leg legs there) all.1 unmarked.1)
 
   -- the hits of all legs
   pub hits_are : (route : Route) (query : RpnQuery) (legs : List ℕ) (answers : List Answered) → IsFair w route → IsSound route
-      → All (λ leg. leg < length route.legs) legs → AreAnswersTo w route (map (hits_asked route query) legs) answers
-      → AreUnmarked answers → all_hits route answers ≡ hits_of w route legs query
+      → All (λ leg. leg < length route.legs) legs → AreAnswersTo w route (map (hits_asked route login query) legs) answers
+      → AreUnmarked answers → all_hits route answers ≡ hits_of (under login w) route legs query
   hits_are route query legs answers fair sound there all unmarked =
       ap all_or_first (hits_each route query legs answers fair sound there all unmarked)
 

@@ -91,11 +91,11 @@ module _ (P : ℕ → Type 0) (places : List Place) where
 abbrev pub AreOf : (ℕ → Type 0) → List Asked → Type 0
 AreOf P asked = All (λ ask. P ask.leg) asked
 
-records_of : (P : ℕ → Type 0) (route : Route) (legs : List ℕ) (query : RpnQuery) (syntax element : Option (List ℕ)) (places : List Place)
+records_of : (P : ℕ → Type 0) (route : Route) (login : Option (List ℕ)) (legs : List ℕ) (query : RpnQuery) (syntax element : Option (List ℕ)) (places : List Place)
     → ((leg : ℕ) → leg < length legs → 1 ≤ length (ranks_of leg places) → P (leg_of legs leg))
-    → AreOf P (all_records_asked route legs query syntax element places)
-records_of P route legs query syntax element places each =
-    All-map (λ (ask : Asked). P ask.leg) (records_asked route legs query syntax element) (spans_of (length legs) places)
+    → AreOf P (all_records_asked route login legs query syntax element places)
+records_of P route login legs query syntax element places each =
+    All-map (λ (ask : Asked). P ask.leg) (records_asked route login legs query syntax element) (spans_of (length legs) places)
     (spans_each (λ (leg : ℕ). P (leg_of legs leg)) places (length legs) each)
 
 -- a leg of the route that the work asks
@@ -114,12 +114,12 @@ module _ (route : Route) where
   pub first_of : (asked : Work) → AreThere route asked → AreOf (IsLegOf route asked) (first_asked route asked)
   first_of (work.Search login legs query small large medium small_element medium_element syntax room) there =
       let asked : Work = work.Search login legs query small large medium small_element medium_element syntax room in
-      All-map (λ (ask : Asked). IsLegOf route asked ask.leg) (hits_asked route query) legs
+      All-map (λ (ask : Asked). IsLegOf route asked ask.leg) (hits_asked route login query) legs
       (λ k d inside. record { named = Contains-get_or legs k d inside; there = there k d inside })
   first_of (work.Fetch login legs query hits first count syntax element) there =
       let asked : Work = work.Fetch login legs query hits first count syntax element in
       let places : List Place = places_from hits first count in
-      records_of (IsLegOf route asked) route legs query syntax element places
+      records_of (IsLegOf route asked) route login legs query syntax element places
       (λ leg inside some. each_is asked legs leg there inside (leg_stands legs leg places inside (has_place leg places some)))
   first_of (work.Scan login leg ask) there =
       let asked : Work = work.Scan login leg ask in
@@ -132,7 +132,7 @@ module _ (route : Route) where
   then_of : (asked : Work) (hits : List ℕ) → AreThere route asked → AreOf (IsLegOf route asked) (then_asked route asked hits)
   then_of (work.Search login legs query small large medium small_element medium_element syntax room) hits there =
       let asked : Work = work.Search login legs query small large medium small_element medium_element syntax room in
-      records_of (IsLegOf route asked) route legs query syntax (element_shown small small_element medium_element hits)
+      records_of (IsLegOf route asked) route login legs query syntax (element_shown small small_element medium_element hits)
       (places_shown small large medium room hits)
       (λ leg inside some. each_is asked legs leg there inside (Contains-get_or legs leg 0 inside))
   then_of (work.Fetch login legs query hits first count syntax element) all there =

@@ -5,6 +5,8 @@ use Rattle.std.proofs.lemmas.List.Elements.{All-get_or, Contains-get_or}
 use Rattle.std.proofs.lemmas.Option.{get_or_from_slice_get, slice_get_cases, slice_get_within}
 use Rattle.z_types.specs.declared.address.Address.{Address}
 use Rattle.z_types.specs.declared.world.World as world
+use Rattle.z_types.specs.Logins.{inside}
+use Rattle.z_types.specs.Under.{under}
 use Rattle.route_config.specs.Sound.{IsSound}
 use Rattle.route_config.specs.declared.route.Class.{Class}
 use Rattle.route_config.specs.declared.route.Database.{Database}
@@ -13,10 +15,11 @@ use Rattle.route_config.specs.declared.route.RouteLeg.{RouteLeg}
 use Rattle.virt_db.specs.Legs.{LegAt, leg_at, leg_with}
 use Rattle.gateway_rules.specs.Fair.{IsFair, MeansAs}
 use Rattle.leg.specs.Right.{IsRight, IsWorldsAt}
-use Rattle.leg.specs.Terms.{Terms, class_of, databases_of, members_of, terms_of}
+use Rattle.leg.specs.Terms.{Terms, class_of, databases_of, members_of, sites, terms_of}
 use Rattle.leg.specs.declared.answers.LegAnswer.{LegAnswer}
 use Rattle.leg.specs.declared.answers.LegAnswer.TheVariants as answer
 use Rattle.leg.specs.declared.tasks.Task.{Task}
+use Rattle.leg.proofs.Sites.{IsInside, inside_of}
 use Rattle.package_rules.proofs.Unmarked.{IsUnmarked}
 
 -- ---- items that are there
@@ -100,21 +103,22 @@ has_leg route place address sound inside member =
 
 -- ---- the answer of a leg
 
-module _ {W : Type 0} (w : world.Ghosts W) where
-  -- where the leg of an answer is, and what is said of the answer there
+module _ {W : Type 0} (w : world.Ghosts W) (login : Option (List ℕ)) where
+  -- where the leg of an answer is, and what is said of the answer there, inside the login
   pub record IsTold (route : Route) (place : ℕ) (task : Task) (said : LegAnswer) : Type 0 where
     pub at : LegAt
     pub there : leg_at route place ≡ Some at
     pub dbs : databases_of route place ≡ at.dbs
     pub address : Address
-    pub means : MeansAs w address at.address
-    pub right : IsWorldsAt w (databases_of route place) task address said
+    pub means : MeansAs (under login w) address at.address
+    pub right : IsWorldsAt w (databases_of route place) task (inside login address) said
 
   told_by : (route : Route) (place : ℕ) (task : Task) (said : LegAnswer) (address : Address) → IsFair w route
-      → HasLeg route place address → (w.told address → IsWorldsAt w (databases_of route place) task address said)
+      → HasLeg route place address
+      → (w.told (inside login address) → IsWorldsAt w (databases_of route place) task (inside login address) said)
       → IsTold route place task said
   told_by route place task said address fair leg right =
-      let class = fair leg.at.class leg.class in
+      let class = fair login leg.at.class leg.class in
       record {
         at = leg.at;
         there = leg.there;
@@ -126,7 +130,7 @@ module _ {W : Type 0} (w : world.Ghosts W) where
 
   -- an answer without a mark is some target's
   by_target : (terms : Terms) (task : Task) (said : LegAnswer) → IsUnmarked said → IsRight w terms task said
-      → (address : Address) × Contains terms.at address × (w.told address → IsWorldsAt w terms.dbs task address said)
+      → (address : Address) × Contains (sites terms) address × (w.told address → IsWorldsAt w terms.dbs task address said)
   by_target terms task (answer.Marked m) unmarked right = absurd unmarked
   by_target terms task (answer.Hits hits) unmarked right = right
   by_target terms task (answer.Refused diag) unmarked right = right
@@ -136,7 +140,10 @@ module _ {W : Type 0} (w : world.Ghosts W) where
 
   -- so on a fair route it is what the leg means
   pub told_at : (route : Route) (place : ℕ) (task : Task) (said : LegAnswer) → IsFair w route → IsSound route
-      → place < length route.legs → IsUnmarked said → IsRight w (terms_of route place) task said → IsTold route place task said
-  told_at route place task said fair sound inside unmarked right =
-      let one = by_target (terms_of route place) task said unmarked right in
-      told_by route place task said one.0 fair (has_leg route place one.0 sound inside one.1) one.2
+      → place < length route.legs → IsUnmarked said → IsRight w (terms_of route login place) task said → IsTold route place task said
+  told_at route place task said fair sound there unmarked right =
+      let one = by_target (terms_of route login place) task said unmarked right in
+      let of : IsInside login (members_of route (class_of route place)) one.0 =
+      inside_of login (members_of route (class_of route place)) one.0 one.1 in
+      told_by route place task said of.own fair (has_leg route place of.own sound there of.member)
+      (subst (λ (a : Address). w.told a → IsWorldsAt w (databases_of route place) task a said) of.is one.2)

@@ -17,17 +17,19 @@ use Rattle.leg.specs.declared.tasks.Task.{Task}
 use Rattle.leg.specs.declared.tasks.Task.TheVariants.{Hits, Records, Scan}
 use Rattle.package_rules.specs.declared.spans.Span.{Span}
 
--- what one leg is asked for: its place in the route, and its task
+-- what one leg is asked for: its place in the route, the login of who asks, and its task
 pub record Asked : Type 0 where
   pub leg : ℕ
+  pub login : Option (List ℕ)
   pub task : Task
 
 -- a query at a leg: the databases that the leg is at its target, and the query
 abbrev pub key_at : Route → ℕ → RpnQuery → SetKey
 key_at route leg query = record { dbs = databases_of route leg; query = query }
 
-abbrev pub hits_asked : Route → RpnQuery → ℕ → Asked
-hits_asked route query leg = record { leg = leg; task = Hits (key_at route leg query) }
+abbrev pub hits_asked : Route → (login : Option (List ℕ)) → RpnQuery → ℕ → Asked
+hits_asked route login query leg =
+    record { leg = leg; login = login; task = Hits (key_at route leg query) }
 
 -- the ranks of a leg among places
 abbrev pub ranks_of : ℕ → List Place → List ℕ
@@ -47,18 +49,19 @@ abbrev pub leg_of : List ℕ → ℕ → ℕ
 leg_of legs place = slice_index_or legs place 0
 
 -- the records of a span
-abbrev pub records_asked : Route → List ℕ → RpnQuery → (syntax element : Option (List ℕ))
-    → Span → Asked
-records_asked route legs query syntax element span = record {
+abbrev pub records_asked : Route → (login : Option (List ℕ)) → List ℕ → RpnQuery
+    → (syntax element : Option (List ℕ)) → Span → Asked
+records_asked route login legs query syntax element span = record {
   leg = leg_of legs span.leg;
+  login = login;
   task = Records (key_at route (leg_of legs span.leg) query) span.first span.count syntax element;
 }
 
 -- the records at places, leg by leg
-abbrev pub all_records_asked : Route → List ℕ → RpnQuery → (syntax element : Option (List ℕ))
-    → List Place → List Asked
-all_records_asked route legs query syntax element places =
-    map (records_asked route legs query syntax element) (spans_of (length legs) places)
+abbrev pub all_records_asked : Route → (login : Option (List ℕ)) → List ℕ → RpnQuery
+    → (syntax element : Option (List ℕ)) → List Place → List Asked
+all_records_asked route login legs query syntax element places =
+    map (records_asked route login legs query syntax element) (spans_of (length legs) places)
 
 -- ---- what a work asks
 
@@ -78,16 +81,17 @@ element_shown small small_element medium_element hits =
 abbrev pub first_asked : Route → Work → List Asked
 first_asked route
     (work.Search login legs query small large medium small_element medium_element syntax room) =
-    map (hits_asked route query) legs
+    map (hits_asked route login query) legs
 first_asked route (work.Fetch login legs query hits first count syntax element) =
-    all_records_asked route legs query syntax element (places_from hits first count)
-first_asked route (work.Scan login leg ask) = record { leg = leg; task = Scan ask } ∷ []
+    all_records_asked route login legs query syntax element (places_from hits first count)
+first_asked route (work.Scan login leg ask) =
+    record { leg = leg; login = login; task = Scan ask } ∷ []
 
 -- what is asked then, by the hits of a Search: the records that are shown with it
 abbrev pub then_asked : Route → Work → List ℕ → List Asked
 then_asked route (work.Search login legs query small large medium small_element medium_element
     syntax room) hits =
-    all_records_asked route legs query syntax
+    all_records_asked route login legs query syntax
     (element_shown small small_element medium_element hits)
     (places_shown small large medium room hits)
 then_asked route other hits = []

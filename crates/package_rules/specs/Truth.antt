@@ -5,6 +5,7 @@ use Rattle.z_types.specs.declared.marks.Mark.{Mark}
 use Rattle.z_types.specs.declared.work.Work.{Work}
 use Rattle.z_types.specs.declared.work.Work.TheVariants as work
 use Rattle.z_types.specs.declared.world.World as world
+use Rattle.z_types.specs.Under.{under}
 use Rattle.route_config.specs.Sound.{IsSound}
 use Rattle.route_config.specs.declared.route.Route.{Route}
 use Rattle.gateway_rules.specs.Fair.{IsFair}
@@ -19,18 +20,19 @@ use Rattle.package_rules.specs.Asked.{Asked, first_asked}
 use Rattle.package_rules.specs.Planned.{AreThere, then_asked_by}
 use Rattle.package_rules.specs.Said.{cause_of, class_name, finished, mark_of}
 
--- the hits that a fetch goes by are the world's
+-- the hits that a fetch goes by are the world's under its login
 abbrev pub HasWorldsHits : {W : Type 0} → world.Ghosts W → Route → Work → Type 0
 HasWorldsHits w route (work.Fetch login legs query hits first count syntax element) =
-    hits_of w route legs query ≡ Ok hits
+    hits_of (under login w) route legs query ≡ Ok hits
 HasWorldsHits w route other = Unit {0}
 
 module _ {W : Type 0} (w : world.Ghosts W) (route : Route) where
-  -- a leg answered what it was asked: what fits, and is the world's at one of its class's addresses
+  -- a leg answered what it was asked: what fits, and is the world's at one of its class's
+  -- addresses inside the login of who asks
   pub record IsAnswerTo (asked : Asked) (answered : Answered) : Type 0 where
     pub leg : answered.leg ≡ asked.leg
     pub fits : AnswerFits asked.task answered.answer
-    pub right : IsRight w (terms_of route asked.leg) asked.task answered.answer
+    pub right : IsRight w (terms_of route asked.login asked.leg) asked.task answered.answer
 
   -- so did each
   abbrev pub AreAnswersTo : List Asked → List Answered → Type 0

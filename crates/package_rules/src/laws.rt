@@ -25,7 +25,7 @@ pub fn scans_may_be_asked()
 {}
 
 /// On a fair route, what comes of a work by its legs' answers is what comes of it under the cause: the
-/// mark of the first leg that is marked, with its class, or else what the targets mean.
+/// mark of the first leg that is marked, with its class, or else what the targets mean under its login.
 pub fn finished_is_outcome<W: World>()
     ensures { FinishedIsOutcome W.World }
 {}

@@ -16,9 +16,9 @@ use Rattle.sharing_rules.specs.Needed.{count_after, needs_dial, needs_search}
 use Rattle.sharing_rules.specs.Uses.{Use}
 use Rattle.sharing_rules.specs.steps.Shared.{dial_due, search_due}
 use Rattle.package_shares.specs.steps.Requests.{behind, dials_in, searches_in}
-use Rattle.package_shares.specs.steps.Together.{AreApart, HadItsCost, class_in, classes_of, use_of, uses_behind}
-use Rattle.package_shares.proofs.OwnUses.{own-dials, own-searches, own_of}
-use Rattle.package_shares.proofs.UsesLemmas.{other-in, same-self}
+use Rattle.package_shares.specs.steps.Together.{AreApart, HadItsCost, class_in, classes_of, use_of, uses_behind, who_in}
+use Rattle.package_shares.proofs.OwnUses.{own-dials, own-searches, own-self, own_of}
+use Rattle.package_shares.proofs.UsesLemmas.{other-in}
 
 -- a number of the accounts of a class
 abbrev counted_in : (Account → ℕ) → ℕ → Account → ℕ
@@ -150,9 +150,8 @@ module _ {S : Type 0} (route : Route) (now : ℕ) where
     dials-so [] had = tt
     dials-so (leg ∷ legs) had = (
       λ e.
-          let same : class ≡ class_in route leg = eqb-true class (class_in route leg) e in
-          had.0.dials ∙ ap (λ (c : ℕ). one_if (dial_due route c now before)) (sym same) ∙ sym (as-one (dial_due route class now before))
-          ∙ ap (λ (t : Bool). if t && dial_due route class now before then 1 else 0) (sym (nat_eq_equiv.symm (class_in route leg) class ∙ e)),
+          had.0.dials ∙ sym (as-one (dial_due route (who_in route leg) now before))
+          ∙ ap (λ (t : Bool). if t && dial_due route (who_in route leg) now before then 1 else 0) (sym (nat_eq_equiv.symm (class_in route leg) class ∙ e)),
       dials-so legs had.1,
     )
 
@@ -161,7 +160,7 @@ module _ {S : Type 0} (route : Route) (now : ℕ) where
     searches-so [] had = tt
     searches-so (leg ∷ legs) had = (
       λ e.
-          let due : Bool = search_due w route (class_in route leg) now before (want_of leg.task) in
+          let due : Bool = search_due w route (who_in route leg) now before (want_of leg.task) in
           had.0.searches ∙ sym (as-one due)
           ∙ ap (λ (t : Bool). if t && due then 1 else 0) (sym (nat_eq_equiv.symm (class_in route leg) class ∙ e)),
       searches-so legs had.1,
@@ -172,11 +171,11 @@ module _ {S : Type 0} (route : Route) (now : ℕ) where
         → sum_by (dials_in class) (accounts_of legs) ≡ count_after (needs_dial route class) before (uses_in legs)
     dials-counted legs apart own had =
         all-counted (λ account. account.dials) class (needs_dial route class) before legs apart own (dials-so legs had)
-        ∙ sym (own-dials class route (uses_in legs) before before refl)
+        ∙ sym (own-dials class route (uses_in legs) before before (own-self class before))
 
     pub searches-counted : (legs : List (LegView S)) → AreApart route legs → AllByRecursion (CountsItsClass route) legs
         → AllByRecursion (HadItsCost w route now before) legs
         → sum_by (searches_in class) (accounts_of legs) ≡ count_after (needs_search w route class) before (uses_in legs)
     searches-counted legs apart own had =
         all-counted (λ account. account.searches) class (needs_search w route class) before legs apart own (searches-so legs had)
-        ∙ sym (own-searches class w route (uses_in legs) before before (same-self class before))
+        ∙ sym (own-searches class w route (uses_in legs) before before (own-self class before))

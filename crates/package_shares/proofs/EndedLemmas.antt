@@ -52,7 +52,7 @@ module _ {W S : Type 0} (w : world.Ghosts W) (t : sitting.Ghosts S W) (route : R
     pub said : LegAnswer
     pub is : answered leg.phase ≡ Some said
     pub fits : AnswerFits leg.task said
-    pub right : IsRight w (terms_of route leg.leg) leg.task said
+    pub right : IsRight w (terms_of route leg.login leg.leg) leg.task said
     pub caused : IsCaused route.pool most leg.account said
     pub own : CountsItsClass route leg
 
@@ -60,7 +60,7 @@ module _ {W S : Type 0} (w : world.Ghosts W) (t : sitting.Ghosts S W) (route : R
       → IsEndedLeg leg
   ended-by leg None is fits of = absurd fits
   ended-by leg (Some said) is fits of =
-      let stands = subst (λ (x : Phase S). StandsAt w t (terms_of route leg.leg) most leg.task x leg.account) (done-is leg.phase said is) of.stands in
+      let stands = subst (λ (x : Phase S). StandsAt w t (terms_of route leg.login leg.leg) most leg.task x leg.account) (done-is leg.phase said is) of.stands in
       record { said = said; is = is; fits = fits; right = stands.0; caused = stands.1; own = stands.2 }
 
   all-ended : (legs : List (LegView S)) → AllByRecursion (λ (leg : LegView S). HasFitting leg.task (answered leg.phase)) legs

@@ -9,7 +9,7 @@ use Rattle.pool_sets.specs.declared.doors.Taken.TheVariants as taken
 use Rattle.package_quiet.specs.leg.Accounts.{more}
 use Rattle.package_quiet.specs.leg.Deeds.{BackendView, Deed, took, opened, began, heard, put_back, gave_up, redialled, no_memory, nothing, rises_of}
 use Rattle.package_quiet.specs.leg.Tasks.{want_of}
-use Rattle.package_quiet.specs.leg.Terms.{class_of, terms_of}
+use Rattle.package_quiet.specs.leg.Terms.{terms_of}
 use Rattle.package_quiet.specs.leg.Turns.{DoorView, IsDue, IsTurn, PoolMoves}
 use Rattle.package_quiet.specs.leg.declared.accounts.Account.{Account}
 use Rattle.package_quiet.specs.leg.declared.answers.Turned.{Turned}
@@ -17,26 +17,27 @@ use Rattle.package_quiet.specs.leg.declared.phases.Phase.{Phase}
 use Rattle.package_quiet.specs.leg.declared.phases.Phase.TheVariants.{Begin, Dialling, Dialled, Ready, Searching, Presenting, Fetching, Scanning, Returning, Losing, Redialling, Spoiled, Done, Ended}
 use Rattle.package_quiet.specs.leg.declared.tasks.Task.{Task}
 use Rattle.sharing_rules.specs.Uses.{Use}
-use Rattle.leg_shares.specs.steps.Pools.{IsPoolOf, MayUse}
-use Rattle.leg_shares.specs.steps.Sharing.{Shares, StandsBy}
+use Rattle.leg_shares.specs.steps.Pools.{IsPoolOf, MayUse, sharers_at}
+use Rattle.leg_shares.specs.steps.Sharing.{AreOthersKept, Shares, StandsBy}
 use Rattle.leg_shares.proofs.PoolLemmas.{given-so}
 
-module _ {W S : Type 0} (w : world.Ghosts W) (t : sitting.Ghosts S W) (route : Route) (place now : ℕ) (before : List Use) (task : Task)
-    (may : MayUse w route (class_of route place) now before (want_of task)) (p : Pool S) (of : IsPoolOf route p) where
+module _ {W S : Type 0} (w : world.Ghosts W) (t : sitting.Ghosts S W) (route : Route) (login : Option (List ℕ)) (place now : ℕ) (before : List Use) (task : Task)
+    (may : MayUse w route (sharers_at route login place) now before (want_of task)) (p : Pool S) (of : IsPoolOf route p)
+    (rest : AreOthersKept w route (sharers_at route login place) now before p) where
   abbrev IsNoFull : Deed S → Type 0
   IsNoFull deed = (rises_of (want_of task) deed).fulls ≡ false
 
-  none-taken : (most : ℕ) (behind : Option (Pool S)) (gives : Taken S) → StandsBy w t route (class_of route place) now before task Begin p
-      → PoolMoves (terms_of route place) task now Begin (took gives) (Some p) behind → IsNoFull (took gives)
+  none-taken : (most : ℕ) (behind : Option (Pool S)) (gives : Taken S) → StandsBy w t route (sharers_at route login place) now before task Begin p
+      → PoolMoves (terms_of route login place) task now Begin (took gives) (Some p) behind → IsNoFull (took gives)
   none-taken most behind (taken.Reuse seat parts slot hits) kept moves = refl
   none-taken most behind (taken.Fresh seat parts) kept moves = refl
   none-taken most behind (taken.Dial seat member) kept moves = refl
   none-taken most behind (taken.Full open_) kept moves =
-      absurd ((given-so w route (class_of route place) now before (want_of task) may p of kept (taken.Full open_) behind tt moves).so)
+      absurd ((given-so w route (sharers_at route login place) now before (want_of task) may p of kept rest (taken.Full open_) behind tt moves).so)
   none-taken most behind taken.Memory kept moves = refl
 
-  no-full : (most : ℕ) (behind : Option (Pool S)) (phase : Phase S) (deed : Deed S) → IsDue w t (terms_of route place) most task phase deed
-      → StandsBy w t route (class_of route place) now before task phase p → PoolMoves (terms_of route place) task now phase deed (Some p) behind
+  no-full : (most : ℕ) (behind : Option (Pool S)) (phase : Phase S) (deed : Deed S) → IsDue w t (terms_of route login place) most task phase deed
+      → StandsBy w t route (sharers_at route login place) now before task phase p → PoolMoves (terms_of route login place) task now phase deed (Some p) behind
       → IsNoFull deed
   no-full most behind Begin (took gives) due stands moves = none-taken most behind gives stands moves
   no-full most behind (Dialling seat member) (took gives) due stands moves = absurd due
@@ -63,10 +64,10 @@ module _ {W S : Type 0} (w : world.Ghosts W) (t : sitting.Ghosts S W) (route : R
 
   -- so its account counts none
   pub turn-unfull : (exact : Bool) (old new : Phase S) (a b : Account) (answer : Turned) (door after : DoorView S) (backend moved : BackendView)
-      → door.pool ≡ Some p → IsTurn w t exact (terms_of route place) task now old new a b answer door after backend moved
-      → Shares w t route (class_of route place) now before task old a p → b.fulls ≡ a.fulls
+      → door.pool ≡ Some p → IsTurn w t exact (terms_of route login place) task now old new a b answer door after backend moved
+      → Shares w t route (sharers_at route login place) now before task old a p → b.fulls ≡ a.fulls
   turn-unfull exact old new a b answer door after backend moved told turn shares =
       ap (λ (x : Account). x.fulls) turn.account
       ∙ ap (λ (r : Bool). more r a.fulls)
       (no-full door.counts.most after.pool old turn.deed turn.due shares.stands
-      (subst (λ (q : Option (Pool S)). PoolMoves (terms_of route place) task now old turn.deed q after.pool) told turn.pool))
+      (subst (λ (q : Option (Pool S)). PoolMoves (terms_of route login place) task now old turn.deed q after.pool) told turn.pool))

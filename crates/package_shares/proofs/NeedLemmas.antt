@@ -1,11 +1,11 @@
 -- The legs for records of a request that was searched for at that moment need nothing more
 use Rattle.std.proofs.Common.{◌≡◌, ◌∙◌, ◌||◌, ◌&&◌, ◌≤◌, ◌<◌, ℕ, zero, suc, Bool, true, false, cond, List, [], ◌∷◌, map, find, drop, length, get_or, Option, None, Some, Result, Ok, Err, refl, sym, ap, subst, nat_eq, nat_lt, arith, option_map}
 use Rattle.std.specs.Prelude.{is_err}
-use Rattle.std.specs.Cmp.{nat_eq_equiv}
 use Rattle.std.specs.List.{AllByRecursion, IsDistinct, cons_option, range_with_len}
 use Rattle.std.specs.Option.{option_map_or}
 use Rattle.std.specs.Set.{is_member}
 use Rattle.z_types.specs.contracts.key.SetKeyEq.TheImpl.Laws as key_law
+use Rattle.z_types.specs.declared.address.Address.{Address}
 use Rattle.z_types.specs.declared.diagnostic.Diag.{Diag}
 use Rattle.z_types.specs.declared.key.SetKey.{SetKey}
 use Rattle.z_types.specs.declared.marks.Mark.{Mark}
@@ -22,7 +22,7 @@ use Rattle.pool_sets.specs.Table.{same_key}
 use Rattle.package_quiet.specs.leg.LegView.{LegView}
 use Rattle.package_quiet.specs.leg.Right.{IsRight}
 use Rattle.package_quiet.specs.leg.Tasks.{want_of}
-use Rattle.package_quiet.specs.leg.Terms.{class_of, terms_of}
+use Rattle.package_quiet.specs.leg.Terms.{class_of, members_of, terms_of}
 use Rattle.package_quiet.specs.leg.declared.answers.LegAnswer.{LegAnswer}
 use Rattle.package_quiet.specs.leg.declared.answers.LegAnswer.TheVariants as answer
 use Rattle.package_quiet.specs.leg.declared.tasks.Task.TheVariants.{Hits}
@@ -33,77 +33,80 @@ use Rattle.package_quiet.specs.package_rules.declared.spans.Span.{Span}
 use Rattle.package_quiet.specs.package_rules.steps.Spans.{RunTo, rank_from}
 use Rattle.package_quiet.proofs.package_rules.RunLemmas.{run_of_places}
 use Rattle.package_quiet.specs.package.steps.Packages.{answers_of, asked_of}
-use Rattle.sharing_rules.specs.Needed.{is_in, is_refused, is_set_in, last_at}
+use Rattle.sharing_rules.specs.Needed.{is_by, is_refused, is_set_by, last_at}
+use Rattle.sharing_rules.specs.Sharers.{Sharers, same_sharers}
 use Rattle.sharing_rules.specs.Uses.{Use}
-use Rattle.leg_shares.specs.steps.Pools.{IsOneTarget}
+use Rattle.sharing_rules.proofs.SharerFacts.{sharers_itself}
+use Rattle.leg_shares.specs.steps.Pools.{IsOneTarget, sharers_at}
+use Rattle.leg_shares.proofs.MemberLemmas.{own-site}
 use Rattle.package_shares.specs.steps.Requests.{behind}
-use Rattle.package_shares.specs.steps.Together.{AreApart, class_in, use_of}
+use Rattle.package_shares.specs.steps.Together.{AreApart, use_of, who_in}
 use Rattle.package_shares.proofs.CostLemmas.{IsOnlyIn, own-each, uses_in}
 use Rattle.package_shares.proofs.EndedLemmas.{IsEndedLeg}
 use Rattle.package_shares.proofs.OwnUses.{keys_in, own-keys, own-last, own_of}
 use Rattle.package_shares.proofs.UsesLemmas.{same-self}
 use Rattle.package_shares.proofs.WorkUses.{at-each, classes_asked, numbers-each, records-apart, spans-each}
 
--- a class and a key of it were used at this moment
-pub record IsUsedNow (now class : ℕ) (key : SetKey) (uses : List Use) : Type 0 where
-  pub in_class : last_at (is_in class) uses ≡ Some now
-  pub in_set : last_at (is_set_in class key) uses ≡ Some now
-  pub among : is_member same_key (keys_in class uses) key ≡ true
+-- some sharers used their class and a key at this moment
+pub record IsUsedNow (now : ℕ) (who : Sharers) (key : SetKey) (uses : List Use) : Type 0 where
+  pub in_class : last_at (is_by who) uses ≡ Some now
+  pub in_set : last_at (is_set_by who key) uses ≡ Some now
+  pub among : is_member same_key (keys_in who uses) key ≡ true
 
 -- what is asked needs nothing behind these uses: its key was used at this moment, and is not refused
 pub record NeedsNothing {W : Type 0} (w : world.Ghosts W) (route : Route) (now : ℕ) (uses : List Use) (asked : Asked) : Type 0 where
   pub key : SetKey
   pub wants : want_of asked.task ≡ Some key
-  pub used : IsUsedNow now (class_of route asked.leg) key uses
-  pub found : is_refused w route (class_of route asked.leg) key ≡ false
+  pub used : IsUsedNow now (sharers_at route asked.login asked.leg) key uses
+  pub found : is_refused w route (sharers_at route asked.login asked.leg) key ≡ false
 
 -- ---- used at this moment
 
-in-set : (class now : ℕ) (key : SetKey) (want : Option SetKey) → want ≡ Some key
-    → is_set_in class key (record { class = class; key = want; at = now }) ≡ true
-in-set class now key want is =
-    ap (λ (o : Option SetKey). nat_eq class class && option_map_or (same_key key) o false) is
-    ∙ ap (λ (b : Bool). b && same_key key key) (nat_eq_equiv.refl class) ∙ key_law.laws-law.refl key
+in-set : (who : Sharers) (now : ℕ) (key : SetKey) (want : Option SetKey) → want ≡ Some key
+    → is_set_by who key (record { by = who; key = want; at = now }) ≡ true
+in-set who now key want is =
+    ap (λ (o : Option SetKey). same_sharers who who && option_map_or (same_key key) o false) is
+    ∙ ap (λ (b : Bool). b && same_key key key) (sharers_itself who) ∙ key_law.laws-law.refl key
 
 module _ {S : Type 0} (route : Route) (now : ℕ) (before : List Use) (first : List (LegView S)) where
   -- the key of a leg was
   used-by : (leg : LegView S) (key : SetKey) → IsOnlyIn route now first leg → want_of leg.task ≡ Some key
-      → IsUsedNow now (class_in route leg) key (behind before (uses_in route now first))
+      → IsUsedNow now (who_in route leg) key (behind before (uses_in route now first))
   used-by leg key only wants =
-      let class = class_in route leg in
+      let who = who_in route leg in
       let one : Use = use_of route now leg in
-      let last = own-last class (uses_in route now first) before before (same-self class before) in
-      let alone : behind before (own_of class (uses_in route now first)) ≡ one ∷ before = ap (behind before) only in
+      let last = own-last who (uses_in route now first) before before (same-self who before) in
+      let alone : behind before (own_of who.class (uses_in route now first)) ≡ one ∷ before = ap (behind before) only in
       record {
         in_class =
-            sym last.of_class ∙ ap (last_at (is_in class)) alone
-            ∙ ap (λ (b : Bool). option_map (λ (u : Use). u.at) (cond b (Some one) (find (is_in class) before))) (nat_eq_equiv.refl class);
+            sym last.of_theirs ∙ ap (last_at (is_by who)) alone
+            ∙ ap (λ (b : Bool). option_map (λ (u : Use). u.at) (cond b (Some one) (find (is_by who) before))) (sharers_itself who);
         in_set =
-            sym (last.of_key key) ∙ ap (last_at (is_set_in class key)) alone
-            ∙ ap (λ (b : Bool). option_map (λ (u : Use). u.at) (cond b (Some one) (find (is_set_in class key) before))) (in-set class now key (want_of leg.task) wants);
+            sym (last.of_key key) ∙ ap (last_at (is_set_by who key)) alone
+            ∙ ap (λ (b : Bool). option_map (λ (u : Use). u.at) (cond b (Some one) (find (is_set_by who key) before))) (in-set who now key (want_of leg.task) wants);
         among =
-            ap (λ (ks : List SetKey). is_member same_key ks key) (own-keys class (uses_in route now first) before before refl ∙ ap (keys_in class) alone)
-            ∙ ap (λ (b : Bool). is_member same_key (cons_option (cond b (want_of leg.task) None) (keys_in class before)) key) (nat_eq_equiv.refl class)
-            ∙ ap (λ (o : Option SetKey). is_member same_key (cons_option o (keys_in class before)) key) wants
-            ∙ ap (λ (b : Bool). b || is_member same_key (keys_in class before) key) (key_law.laws-law.refl key);
+            ap (λ (ks : List SetKey). is_member same_key ks key) (own-keys who (uses_in route now first) before before refl ∙ ap (keys_in who) alone)
+            ∙ ap (λ (b : Bool). is_member same_key (cons_option (cond b (want_of leg.task) None) (keys_in who before)) key) (sharers_itself who)
+            ∙ ap (λ (o : Option SetKey). is_member same_key (cons_option o (keys_in who before)) key) wants
+            ∙ ap (λ (b : Bool). b || is_member same_key (keys_in who before) key) (key_law.laws-law.refl key);
       }
 
   -- so was that of each leg of a Search
-  abbrev IsSearched : RpnQuery → ℕ → Type 0
-  IsSearched query leg = IsUsedNow now (class_of route leg) (key_at route leg query) (behind before (uses_in route now first))
+  abbrev IsSearched : Option (List ℕ) → RpnQuery → ℕ → Type 0
+  IsSearched login query leg = IsUsedNow now (sharers_at route login leg) (key_at route leg query) (behind before (uses_in route now first))
 
-  searched-by : (query : RpnQuery) (legs : List (LegView S)) (named : List ℕ) → AllByRecursion (IsOnlyIn route now first) legs
-      → map asked_of legs ≡ map (hits_asked route query) named → AllByRecursion (IsSearched query) named
-  searched-by query [] [] only asks = tt
-  searched-by query [] (leg ∷ named) only asks = absurd cc
-  searched-by query (one ∷ legs) [] only asks = absurd cc
-  searched-by query (one ∷ legs) (leg ∷ named) only asks =
-      let is : asked_of one ≡ hits_asked route query leg = ap (λ (all_of : List Asked). get_or all_of 0 (hits_asked route query leg)) asks in
-      let there : one.leg ≡ leg = ap (λ (a : Asked). a.leg) is in
+  searched-by : (login : Option (List ℕ)) (query : RpnQuery) (legs : List (LegView S)) (named : List ℕ) → AllByRecursion (IsOnlyIn route now first) legs
+      → map asked_of legs ≡ map (hits_asked route login query) named → AllByRecursion (IsSearched login query) named
+  searched-by login query [] [] only asks = tt
+  searched-by login query [] (leg ∷ named) only asks = absurd cc
+  searched-by login query (one ∷ legs) [] only asks = absurd cc
+  searched-by login query (one ∷ legs) (leg ∷ named) only asks =
+      let is : asked_of one ≡ hits_asked route login query leg = ap (λ (all_of : List Asked). get_or all_of 0 (hits_asked route login query leg)) asks in
+      let there : who_in route one ≡ sharers_at route login leg = ap (λ (a : Asked). sharers_at route a.login a.leg) is in
       let wants : want_of one.task ≡ Some (key_at route leg query) = ap (λ (a : Asked). want_of a.task) is in (
-        subst (λ (l : ℕ). IsUsedNow now (class_of route l) (key_at route leg query) (behind before (uses_in route now first))) there
+        subst (λ (who : Sharers). IsUsedNow now who (key_at route leg query) (behind before (uses_in route now first))) there
             (used-by one (key_at route leg query) only.0 wants),
-        searched-by query legs named only.1 (ap (drop 1) asks),
+        searched-by login query legs named only.1 (ap (drop 1) asks),
       )
 
 -- ---- not refused
@@ -136,24 +139,27 @@ said-found (answer.Scanned entries) hits h some = let none : 0 ≡ hits = cc in 
 said-found (answer.Marked m) hits h some = let none : 0 ≡ hits = cc in absurd (omega (arith, none, some))
 
 module _ {W S : Type 0} (w : world.Ghosts W) (t : sitting.Ghosts S W) (route : Route) (most : ℕ)
-    (one : (class : ℕ) → IsOneTarget w route class) (query : RpnQuery) where
+    (one : (who : Sharers) → IsOneTarget w route who) (login : Option (List ℕ)) (query : RpnQuery) where
   abbrev IsFound : ℕ → Type 0
-  IsFound leg = is_refused w route (class_of route leg) (key_at route leg query) ≡ false
+  IsFound leg = is_refused w route (sharers_at route login leg) (key_at route leg query) ≡ false
 
-  right-found : (leg hits : ℕ) → IsRight w (terms_of route leg) (Hits (key_at route leg query)) (answer.Hits hits) → IsFound leg
+  right-found : (leg hits : ℕ) → IsRight w (terms_of route login leg) (Hits (key_at route leg query)) (answer.Hits hits) → IsFound leg
   right-found leg hits (address, among, right) =
-      sym ((one (class_of route leg)).refuse address (key_at route leg query) among)
-      ∙ ap is_err (right ((one (class_of route leg)).told address among))
+      let key = key_at route leg query in
+      let own = own-site login (members_of route (class_of route leg)) address among in
+      let target = one (sharers_at route login leg) in
+      sym (target.refuse own.0 key own.1.0) ∙ ap (λ (a : Address). is_err (w.search a key)) own.1.1
+      ∙ ap is_err (right (subst (λ (a : Address). w.told a) own.1.1 (target.told own.0 own.1.0)))
 
-  leg-found : (leg : LegView S) (place hits : ℕ) → IsEndedLeg w t route most leg → asked_of leg ≡ hits_asked route query place
-      → (said : LegAnswer) → said ≡ answer.Hits hits → IsRight w (terms_of route leg.leg) leg.task said → IsFound place
+  leg-found : (leg : LegView S) (place hits : ℕ) → IsEndedLeg w t route most leg → asked_of leg ≡ hits_asked route login query place
+      → (said : LegAnswer) → said ≡ answer.Hits hits → IsRight w (terms_of route leg.login leg.leg) leg.task said → IsFound place
   leg-found leg place hits ended asks said is right =
       right-found place hits
-      (subst (λ (a : LegAnswer). IsRight w (terms_of route place) (Hits (key_at route place query)) a) is
-      (subst (λ (a : Asked). IsRight w (terms_of route a.leg) a.task said) asks right))
+      (subst (λ (a : LegAnswer). IsRight w (terms_of route login place) (Hits (key_at route place query)) a) is
+      (subst (λ (a : Asked). IsRight w (terms_of route a.login a.leg) a.task said) asks right))
 
   found-by : (legs : List (LegView S)) (named hits : List ℕ) (i : ℕ) → AllByRecursion (IsEndedLeg w t route most) legs
-      → map asked_of legs ≡ map (hits_asked route query) named → all_hits route (answers_of legs) ≡ Ok hits
+      → map asked_of legs ≡ map (hits_asked route login query) named → all_hits route (answers_of legs) ≡ Ok hits
       → i < length named → 1 ≤ get_or hits i 0 → IsFound (get_or named i 0)
   found-by legs [] hits i ended asks all inside some = absurd (omega (arith, inside))
   found-by [] (leg ∷ named) hits i ended asks all inside some = absurd cc
@@ -169,7 +175,7 @@ module _ {W S : Type 0} (w : world.Ghosts W) (t : sitting.Ghosts S W) (route : R
           → (j : ℕ) (both : AreFirst (hidden (hides route one.leg) (hits_said ended.0.said)) (all_hits route (answers_of legs)) hits)
           → j < length (leg ∷ named) → 1 ≤ get_or (both.first ∷ both.rest) j 0 → IsFound (get_or (leg ∷ named) j 0)
       at-place others zero both inside some =
-          leg-found one leg both.first ended.0 (ap (λ (all_of : List Asked). get_or all_of 0 (hits_asked route query leg)) asks) ended.0.said
+          leg-found one leg both.first ended.0 (ap (λ (all_of : List Asked). get_or all_of 0 (hits_asked route login query leg)) asks) ended.0.said
           (said-found ended.0.said both.first (hidden-found (hides route one.leg) (hits_said ended.0.said) both.first both.is some) some) ended.0.right
       at-place others (suc j) both inside some = others j both.rest both.later (omega (arith, inside)) some
 
@@ -191,7 +197,7 @@ shown-some small large medium room hits leg some = by-room (nat_lt room _) _ som
         omega (arith, run)
 
 module _ {W S : Type 0} (w : world.Ghosts W) (t : sitting.Ghosts S W) (route : Route) (now : ℕ) (before : List Use) (most : ℕ)
-    (one : (class : ℕ) → IsOneTarget w route class) (first : List (LegView S)) (apart : AreApart route first)
+    (one : (who : Sharers) → IsOneTarget w route who) (first : List (LegView S)) (apart : AreApart route first)
     (ended : AllByRecursion (IsEndedLeg w t route most) first) where
   -- it needs nothing, and goes to different classes
   pub record AreNeedless (asked : List Asked) : Type 0 where
@@ -202,43 +208,43 @@ module _ {W S : Type 0} (w : world.Ghosts W) (t : sitting.Ghosts S W) (route : R
   unfolding IsDistinct
   nothing-asked = record { each = tt; differ = tt }
 
-  abbrev IsGiven : List ℕ → RpnQuery → ℕ → Type 0
-  IsGiven legs query i =
-      IsSearched route now before first query (leg_of legs i) × IsFound w t route most one query (leg_of legs i)
+  abbrev IsGiven : Option (List ℕ) → List ℕ → RpnQuery → ℕ → Type 0
+  IsGiven login legs query i =
+      IsSearched route now before first login query (leg_of legs i) × IsFound w t route most one login query (leg_of legs i)
 
-  all-needless : (legs : List ℕ) (query : RpnQuery) (syntax element : Option (List ℕ)) (spans : List Span)
-      → AllByRecursion (λ (s : Span). IsGiven legs query s.leg) spans
-      → AllByRecursion (NeedsNothing w route now (behind before (uses_in route now first))) (map (records_asked route legs query syntax element) spans)
-  all-needless legs query syntax element [] are = tt
-  all-needless legs query syntax element (span ∷ spans) are = (
+  all-needless : (login : Option (List ℕ)) (legs : List ℕ) (query : RpnQuery) (syntax element : Option (List ℕ)) (spans : List Span)
+      → AllByRecursion (λ (s : Span). IsGiven login legs query s.leg) spans
+      → AllByRecursion (NeedsNothing w route now (behind before (uses_in route now first))) (map (records_asked route login legs query syntax element) spans)
+  all-needless login legs query syntax element [] are = tt
+  all-needless login legs query syntax element (span ∷ spans) are = (
     record { key = key_at route (leg_of legs span.leg) query; wants = refl; used = are.0.0; found = are.0.1 },
-    all-needless legs query syntax element spans are.1,
+    all-needless login legs query syntax element spans are.1,
   )
 
-  records-needless : (legs : List ℕ) (query : RpnQuery) (small large medium room : ℕ) (hits : List ℕ) (syntax element : Option (List ℕ))
-      → map asked_of first ≡ map (hits_asked route query) legs → IsDistinct nat_eq (map (class_of route) legs)
+  records-needless : (login : Option (List ℕ)) (legs : List ℕ) (query : RpnQuery) (small large medium room : ℕ) (hits : List ℕ) (syntax element : Option (List ℕ))
+      → map asked_of first ≡ map (hits_asked route login query) legs → IsDistinct nat_eq (map (class_of route) legs)
       → all_hits route (answers_of first) ≡ Ok hits
-      → AreNeedless (all_records_asked route legs query syntax element (places_shown small large medium room hits))
-  records-needless legs query small large medium room hits syntax element asks differ all =
+      → AreNeedless (all_records_asked route login legs query syntax element (places_shown small large medium room hits))
+  records-needless login legs query small large medium room hits syntax element asks differ all =
       let places = places_shown small large medium room hits in
-      let used = searched-by route now before first query first legs (own-each route now first apart) asks in
+      let used = searched-by route now before first login query first legs (own-each route now first apart) asks in
       record {
         each =
-            all-needless legs query syntax element (spans_of (length legs) places)
-            (spans-each places (IsGiven legs query) (range_with_len 0 (length legs))
-            (numbers-each route legs places (λ i. 1 ≤ length (ranks_of i places) → IsGiven legs query i) 0 (length legs)
+            all-needless login legs query syntax element (spans_of (length legs) places)
+            (spans-each places (IsGiven login legs query) (range_with_len 0 (length legs))
+            (numbers-each route legs places (λ i. 1 ≤ length (ranks_of i places) → IsGiven login legs query i) 0 (length legs)
             (λ i inside some. (
-              at-each route legs places (IsSearched route now before first query) legs i used (omega (arith, inside)),
-              found-by w t route most one query first legs hits i ended asks all (omega (arith, inside)) (shown-some small large medium room hits i some),
+              at-each route legs places (IsSearched route now before first login query) legs i used (omega (arith, inside)),
+              found-by w t route most one login query first legs hits i ended asks all (omega (arith, inside)) (shown-some small large medium room hits i some),
             ))));
-        differ = records-apart route legs query syntax element places differ;
+        differ = records-apart route login legs query syntax element places differ;
       }
 
   by-hits : (asked : Work) (found : Result (List ℕ) Diag) → map asked_of first ≡ first_asked route asked
       → IsDistinct nat_eq (map (class_of route) (legs_named asked)) → all_hits route (answers_of first) ≡ found → AreNeedless (by_hits route asked found)
   by-hits asked (Err diag) asks differ all = nothing-asked
   by-hits (work.Search login legs query small large medium small_element medium_element syntax room) (Ok hits) asks differ all =
-      records-needless legs query small large medium room hits syntax (element_shown small small_element medium_element hits) asks differ all
+      records-needless login legs query small large medium room hits syntax (element_shown small small_element medium_element hits) asks differ all
   by-hits (work.Fetch login legs query hits from count syntax element) (Ok all_of) asks differ all = nothing-asked
   by-hits (work.Scan login leg ask) (Ok hits) asks differ all = nothing-asked
 

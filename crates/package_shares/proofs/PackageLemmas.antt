@@ -8,7 +8,6 @@ use Rattle.route_config.specs.declared.route.Route.{Route}
 use Rattle.pool_sets.specs.Plain.{Pool}
 use Rattle.package_quiet.specs.leg.Deeds.{BackendView}
 use Rattle.package_quiet.specs.leg.LegView.{LegView}
-use Rattle.package_quiet.specs.leg.Terms.{class_of}
 use Rattle.package_quiet.specs.leg.Turns.{DoorView}
 use Rattle.package_quiet.specs.leg.declared.answers.Turned.{Turned}
 use Rattle.package_quiet.specs.leg.declared.answers.Turned.TheVariants as turned
@@ -17,11 +16,12 @@ use Rattle.package_quiet.specs.package.declared.turning.Round.{Round}
 use Rattle.package_quiet.specs.package.steps.Packages.{PackageView, begun, new_package}
 use Rattle.package_quiet.specs.package.steps.Turns.{GoesOn, IsPackageTurn, Plans, TakesTurn, all_done, no_round}
 use Rattle.sharing_rules.specs.Uses.{Use}
+use Rattle.leg_shares.specs.steps.Pools.{sharers_at}
 use Rattle.package_quiet.specs.steps.Quiet.{AreWell, HasNoCause}
 use Rattle.package_quiet.proofs.PackageLemmas.{HadMemories}
 use Rattle.package_shares.specs.steps.Packages.{MayPackageShare, PackageShares, PackageSharesOver}
 use Rattle.package_shares.specs.steps.Together.{AreAllKept, AreApart, AreSharing, AreUndisturbed, HadItsCost, IsSharing, uses_behind}
-use Rattle.package_shares.proofs.RoundLemmas.{AreUnfull, legs-share, round-shares}
+use Rattle.package_shares.proofs.RoundLemmas.{AreUnfull, legs-share, others-of, round-shares}
 use Rattle.package_shares.proofs.UsesLemmas.{done-leave}
 
 -- ---- two parts
@@ -41,10 +41,10 @@ module _ {W S : Type 0} (w : world.Ghosts W) (t : sitting.Ghosts S W) (route : R
     (kept : AreAllKept w route now before pool) where
   begun-each : (asked : List Asked) → AllByRecursion (IsSharing w t route now before pool) (map begun asked)
   begun-each [] = tt
-  begun-each (ask ∷ asked) = (record { stands = kept.each (class_of route ask.leg); dials = refl; searches = refl }, begun-each asked)
+  begun-each (ask ∷ asked) = (record { stands = kept.each (sharers_at route ask.login ask.leg); dials = refl; searches = refl }, begun-each asked)
 
   begun-share : (asked : List Asked) → AreSharing w t route now before (map begun asked) pool
-  begun-share asked = record { of = kept.of; each = begun-each asked; rest = λ class none_of. kept.each class }
+  begun-share asked = record { of = kept.of; each = begun-each asked; rest = λ who none_of. kept.each who }
 
   pub package-begins : (work : Work) → PackageShares w t route now before (new_package {S = S} route work).planned (new_package route work) pool
   package-begins work = (begun-share (first_asked route work), refl)
@@ -155,11 +155,12 @@ module _ {W S : Type 0} (w : world.Ghosts W) (t : sitting.Ghosts S W) (exact : B
   unfull-by false old new answer round door after backend moved pool may h has none told shares first later =
       let all = legs-share w t exact route now before old.first new.first no_round round door after backend moved pool may.first.apart may.first.each h.0
       (goes-memory (all_done new.first) new round answer refl h.1 has) (front-all (λ leg. HasNoCause leg.account) new.first new.later none) told
-      shares.0.of shares.0.each in (all.unfull first, goes-unfull (all_done new.first) new round answer h.1)
+      shares.0.of shares.0.each (others-of w t exact route now before old.first pool may.first.apart shares.0) in (all.unfull first, goes-unfull (all_done new.first) new round answer h.1)
   unfull-by true old new answer round door after backend moved pool may h has none told shares first later =
       let all = legs-share w t exact route now (uses_behind route now before old.first) old.later new.later no_round round door after backend moved pool
       may.later.apart may.later.each h.2 (inl (lacks-said round.lacks _ answer h.3 has))
-      (back-all (λ leg. HasNoCause leg.account) new.first new.later none) told shares.1.of shares.1.each in
+      (back-all (λ leg. HasNoCause leg.account) new.first new.later none) told shares.1.of shares.1.each
+      (others-of w t exact route now (uses_behind route now before old.first) old.later pool may.later.apart shares.1) in
       (subst (λ (ls : List (LegView S)). AreUnfull ls) (sym h.0) first, all.unfull later)
 
   pub package-unfull : (old new : PackageView S) (answer : Turned) (door after : DoorView S) (backend moved : BackendView) (pool : Pool S)

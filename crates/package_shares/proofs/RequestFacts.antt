@@ -1,9 +1,11 @@
 -- What works use and need, and when they may be done, by computation. A set is kept for 60 seconds
-use Rattle.std.specs.Prelude.{◌≡◌, ℕ, ◌+◌, ◌≤◌, ◌<◌, ◌==◌, Option, Some, filter_map, if◌then◌else◌, List, [], ◌∷◌, codes, map, length, sum_by, None, refl, nat_eq}
+use Rattle.std.specs.Prelude.{◌≡◌, ℕ, ◌+◌, ◌≤◌, ◌<◌, Bool, true, false, filter, Option, Some, filter_map, if◌then◌else◌, List, [], ◌∷◌, codes, map, length, sum_by, None, refl, nat_eq}
 use Rattle.std.specs.List.{IsDistinct, cons_option}
-use Rattle.std.proofs.Common.{arith}
+use Rattle.std.proofs.Common.{cond, arith}
+use Rattle.std.proofs.lemmas.List.{length-map}
 use Rattle.std.proofs.lemmas.List.Elements.{All-from_recursion}
 use Rattle.std.proofs.lemmas.Map.Made.{distinct_count-le}
+use Rattle.z_types.specs.Logins.{same_login}
 use Rattle.z_types.specs.Tree.{leaf}
 use Rattle.z_types.specs.declared.address.Address.TheVariants.{Test}
 use Rattle.z_types.specs.declared.query.RpnQuery.{RpnQuery}
@@ -21,8 +23,9 @@ use Rattle.package_quiet.specs.leg.Terms.{class_of}
 use Rattle.package_quiet.specs.leg.declared.accounts.Account.{Account}
 use Rattle.package_quiet.specs.package_rules.Asked.{first_asked}
 use Rattle.package_quiet.specs.package_rules.Planned.{legs_named}
-use Rattle.sharing_rules.specs.Needed.{count_after, needs_dial, needs_search}
-use Rattle.sharing_rules.specs.Orderly.{keys_used}
+use Rattle.sharing_rules.specs.Needed.{count_after, is_by, is_in, needs_dial, needs_search}
+use Rattle.sharing_rules.specs.Orderly.{keys_used, logins_used}
+use Rattle.sharing_rules.specs.Sharers.{Sharers}
 use Rattle.sharing_rules.specs.Uses.{Use}
 use Rattle.package_shares.specs.steps.Requests.{MayWork, behind, dials_in, searches_in, uses_at}
 
@@ -56,7 +59,7 @@ fetch query = work.Fetch None (0 ∷ 2 ∷ []) query (3 ∷ 3 ∷ []) 2 2 None N
 -- ---- uses
 
 abbrev classes : List Use → List ℕ
-classes uses = map (λ this. this.class) uses
+classes uses = map (λ this. this.by.class) uses
 
 -- uses stand in the order in which their records are given, though the legs are asked in their own
 of_fetch : classes (uses_at two_classes 7 (fetch (by 4 97))) ≡ 1 ∷ 0 ∷ []
@@ -117,7 +120,7 @@ its_searches = refl
 
 -- ---- when a work may be done
 
-keys_of_both : keys_used 0 (behind searched (uses_at two_classes 0 (search (0 ∷ 2 ∷ []) (by 4 98)))) ≡ 2
+keys_of_both : keys_used (record { class = 0; login = None }) (behind searched (uses_at two_classes 0 (search (0 ∷ 2 ∷ []) (by 4 98)))) ≡ 2
 keys_of_both = refl
 
 -- keys that are used are no more than the uses
@@ -129,10 +132,25 @@ length-given : {A B : Type 0} (f : A → Option B) (xs : List A) → length (fil
 length-given f [] = omega arith
 length-given f (x ∷ xs) = let few = given-few (f x) (filter_map f xs) (length xs) (length-given f xs) in omega (arith, few)
 
-keys-few : (class : ℕ) (uses : List Use) → keys_used class uses ≤ length uses
-keys-few class uses =
-    let few = distinct_count-le same_key (filter_map (λ (this : Use). if this.class == class then this.key else None) uses) in
-    let given = length-given (λ (this : Use). if this.class == class then this.key else None) uses in omega (arith, few, given)
+keys-few : (who : Sharers) (uses : List Use) → keys_used who uses ≤ length uses
+keys-few who uses =
+    let few = distinct_count-le same_key (filter_map (λ (this : Use). if is_by who this then this.key else None) uses) in
+    let given = length-given (λ (this : Use). if is_by who this then this.key else None) uses in omega (arith, few, given)
+
+filter-few : {A : Type 0} (p : A → Bool) (xs : List A) → length (filter p xs) ≤ length xs
+filter-few p [] = omega arith
+filter-few p (x ∷ xs) =
+    let few = filter-few p xs in
+    (elim (p x) as (λ b. length (cond b (x ∷ filter p xs) (filter p xs)) ≤ length (x ∷ xs)) [
+      | true ↦ omega (arith, few)
+      | false ↦ omega (arith, few)
+    ])
+
+logins-few : (class : ℕ) (uses : List Use) → logins_used class uses ≤ length uses
+logins-few class uses =
+    let few = distinct_count-le same_login (map (λ (this : Use). this.by.login) (filter (is_in class) uses)) in
+    let same = length-map (filter (is_in class) uses) (λ (this : Use). this.by.login) in
+    let kept = filter-few (is_in class) uses in omega (arith, few, same, kept)
 
 -- a fetch of what was searched for may be done
 may_fetch : MayWork two_classes 59 searched (fetch (by 4 97))
@@ -141,8 +159,11 @@ may_fetch = record {
   there = All-from_recursion (λ leg. leg < length two_classes.legs) (0 ∷ 2 ∷ []) (omega arith, (omega arith, tt));
   apart = ((refl, tt), (tt, tt));
   falls = (omega arith, (omega arith, tt));
-  few = λ class.
-      let few = keys-few class (behind searched (uses_at two_classes 59 (fetch (by 4 97)))) in
+  few = λ who.
+      let few = keys-few who (behind searched (uses_at two_classes 59 (fetch (by 4 97)))) in
+      let four : length (behind searched (uses_at two_classes 59 (fetch (by 4 97)))) ≡ 4 = refl in omega (arith, few, four);
+  own = λ class.
+      let few = logins-few class (behind searched (uses_at two_classes 59 (fetch (by 4 97)))) in
       let four : length (behind searched (uses_at two_classes 59 (fetch (by 4 97)))) ≡ 4 = refl in omega (arith, few, four);
 }
 

@@ -8,7 +8,7 @@ use Rattle.z_types.specs.declared.sitting.Sitting as sitting
 use Rattle.z_types.specs.declared.work.Work.{Work}
 use Rattle.z_types.specs.declared.world.World as world
 use Rattle.gateway_rules.specs.Fair.{IsFair}
-use Rattle.route_config.specs.Sound.{ArePoolNumbers}
+use Rattle.route_config.specs.Sound.{IsSound}
 use Rattle.route_config.specs.declared.route.Route.{Route}
 use Rattle.pool_sets.specs.Plain.{Pool}
 use Rattle.package_quiet.specs.leg.LegView.{LegView}
@@ -19,6 +19,7 @@ use Rattle.package_quiet.specs.package_rules.Said.{cause_of}
 use Rattle.package_quiet.specs.package.steps.Drives.{PackageAt}
 use Rattle.package_quiet.specs.package.steps.Packages.{AreDone, IsOver, IsPackageOf, IsPlanned, PackageView, accounts_of, all_accounts, answers_of, asked_of, begun, new_package}
 use Rattle.sharing_rules.specs.Needed.{count_after, needs_dial, needs_search}
+use Rattle.sharing_rules.specs.Sharers.{Sharers}
 use Rattle.sharing_rules.specs.Uses.{Use}
 use Rattle.leg_shares.specs.steps.Pools.{HaveSameLast}
 use Rattle.package_quiet.specs.steps.Quiet.{AreWell, HasNoCause, IsCalm, IsToldRoute}
@@ -47,10 +48,10 @@ begun-unfull S [] = tt
 begun-unfull S (ask ∷ asked) = (refl, begun-unfull S asked)
 
 fair-told : {W : Type 0} (w : world.Ghosts W) (route : Route) → IsFair w route → IsToldRoute w route
-fair-told w route fair class there address among = (fair class there).told address among
+fair-told w route fair login class there address among = (fair login class there).told address among
 
 module _ {W S : Type 0} (w : world.Ghosts W) (t : sitting.Ghosts S W) (exact : Bool) (route : Route) (now : ℕ) (before : List Use) (asked : Work)
-    (counts : exact ≡ true) (fair : IsFair w route) (numbers : ArePoolNumbers route.pool) (may : MayWork route now before asked) where
+    (counts : exact ≡ true) (fair : IsFair w route) (sound : IsSound route) (may : MayWork route now before asked) where
   -- ---- what its legs may
 
   -- behind the legs that are asked first
@@ -60,31 +61,31 @@ module _ {W S : Type 0} (w : world.Ghosts W) (t : sitting.Ghosts S W) (exact : B
   -- what a package of the route asks then needs nothing
   then-need : (most : ℕ) (view : PackageView S) → view.work ≡ asked → (of : IsPackageOf w t route most view) (done : AreDone view.first)
       → (asks : map asked_of view.first ≡ first_asked route asked)
-      → AreNeedless w t route now before most (λ class. fair-one w route class fair) view.first
-      (first-differ w route now before asked fair numbers may view.first asks)
+      → AreNeedless w t route now before most (λ who. fair-one w route who fair) view.first
+      (first-differ w route now before asked fair sound may view.first asks)
       (legs-ended w t route most view.first done of.first) (then_asked_by route asked (answers_of view.first))
   then-need most view is of done asks =
-      then-needless w t route now before most (λ class. fair-one w route class fair) view.first
-      (first-differ w route now before asked fair numbers may view.first asks) (legs-ended w t route most view.first done of.first) asked asks may.apart
+      then-needless w t route now before most (λ who. fair-one w route who fair) view.first
+      (first-differ w route now before asked fair sound may view.first asks) (legs-ended w t route most view.first done of.first) asked asks may.apart
 
   later-may : (planned : Bool) (most : ℕ) (view : PackageView S) → view.work ≡ asked → IsPackageOf w t route most view
       → (asks : map asked_of view.first ≡ first_asked route asked) → IsPlanned planned route view → MayShare w route now (used view.first) view.later
   unfolding IsDistinct
   later-may false most view is of asks then =
       subst (λ (ls : List (LegView S)). MayShare w route now (used view.first) ls) (sym then)
-      (may-again w route now before asked fair numbers may view.first asks [] tt tt)
+      (may-again w route now before asked fair sound may view.first asks [] tt tt)
   later-may true most view is of asks then =
       let need = then-need most view is of then.0 asks in
       let same : map asked_of view.later ≡ then_asked_by route asked (answers_of view.first) =
       then.1 ∙ ap (λ (x : Work). then_asked_by route x (answers_of view.first)) is in
-      may-again w route now before asked fair numbers may view.first asks view.later (legs-apart route view.later _ same need.differ)
+      may-again w route now before asked fair sound may view.first asks view.later (legs-apart route view.later _ same need.differ)
       (legs-need w route now (used view.first) view.later
       (subst (λ (all_of : List Asked). AllByRecursion (NeedsNothing w route now (used view.first)) all_of) (sym same) need.each))
 
   pub package-may : (most : ℕ) (view : PackageView S) → view.work ≡ asked → IsPackageOf w t route most view → MayPackageShare w route now before view
   package-may most view is of =
       let asks = of.asks.at_first ∙ ap (first_asked route) is in record {
-        first = may-first w route now before asked fair numbers may view.first asks;
+        first = may-first w route now before asked fair sound may view.first asks;
         later =
             subst (λ (us : List Use). MayShare w route now us view.later) (sym (behind-legs route now view.first before))
             (later-may view.planned most view is of asks of.asks.then);
@@ -95,10 +96,10 @@ module _ {W S : Type 0} (w : world.Ghosts W) (t : sitting.Ghosts S W) (exact : B
   begun-may =
       let first : List (LegView S) = map begun (first_asked route asked) in
       let asks = begun-asked S (first_asked route asked) in record {
-        first = may-first w route now before asked fair numbers may first asks;
+        first = may-first w route now before asked fair sound may first asks;
         later =
             subst (λ (us : List Use). MayShare {S = S} w route now us []) (sym (behind-legs route now first before))
-            (may-again w route now before asked fair numbers may first asks [] tt tt);
+            (may-again w route now before asked fair sound may first asks [] tt tt);
       }
 
   -- ---- from turn to turn
@@ -216,14 +217,14 @@ module _ {W S : Type 0} (w : world.Ghosts W) (t : sitting.Ghosts S W) (exact : B
         (ended-done w t route so.most view.later later-ended)
 
     -- the last uses are those of the work
-    uses-same : (class : ℕ) → HaveSameLast class (uses_behind route now (used view.first) view.later) (behind before uses)
-    uses-same class =
-        let more = again-last w route now (used view.first) view.later (used view.first) need (λ k. same-self k (used view.first)) class in
-        let work = same-last class (uses_in route now view.first) uses before (sym (first-own w route now before asked fair numbers may view.first asks class)) in
+    uses-same : (who : Sharers) → HaveSameLast who (uses_behind route now (used view.first) view.later) (behind before uses)
+    uses-same who =
+        let more = again-last w route now (used view.first) view.later (used view.first) need (λ k. same-self k (used view.first)) who in
+        let work = same-last who (uses_in route now view.first) uses before (sym (first-own w route now before asked fair sound may view.first asks who.class)) in
         let legs : uses_behind route now (used view.first) view.later ≡ behind (used view.first) (uses_in route now view.later) =
         behind-legs route now view.later (used view.first) in
-        subst (λ (us : List Use). HaveSameLast class us (behind before uses)) (sym legs) (record {
-          of_class = work.of_class ∙ sym more.of_class;
+        subst (λ (us : List Use). HaveSameLast who us (behind before uses)) (sym legs) (record {
+          of_theirs = work.of_theirs ∙ sym more.of_theirs;
           of_key = λ key. work.of_key key ∙ sym (more.of_key key);
         })
 
@@ -239,21 +240,21 @@ module _ {W S : Type 0} (w : world.Ghosts W) (t : sitting.Ghosts S W) (exact : B
       kept = record { pool = so.pool; told = so.told; kept = kept; calm = so.calm };
       undisturbed = none;
       unmarked =
-          cause-past w t route so.most view.first (answers_of view.later) numbers first-ended (front-all (λ leg. HasNoCause leg.account) view.first view.later none)
+          cause-past w t route so.most view.first (answers_of view.later) sound.pool first-ended (front-all (λ leg. HasNoCause leg.account) view.first view.later none)
           so.unfull.0 ∙ ap (cause_of route) (sym (append-nil (answers_of view.later)))
-          ∙ cause-past w t route so.most view.later [] numbers later-ended (back-all (λ leg. HasNoCause leg.account) view.first view.later none) so.unfull.1;
+          ∙ cause-past w t route so.most view.later [] sound.pool later-ended (back-all (λ leg. HasNoCause leg.account) view.first view.later none) so.unfull.1;
       dials = λ class.
           all-counted (dials_in class) view (count_after (needs_dial route class) before uses)
-          (dials-counted route now w before class view.first (first-differ w route now before asked fair numbers may view.first asks)
+          (dials-counted route now w before class view.first (first-differ w route now before asked fair sound may view.first asks)
           (ended-own w t route so.most view.first first-ended) served.0
-          ∙ same-dials class uses (uses_in route now view.first) before (first-own w route now before asked fair numbers may view.first asks class) route)
-          (nothing-counted route now (λ account. account.dials) class view.later (again-dials w route now (used view.first) numbers view.later need later-left.0));
+          ∙ same-dials class uses (uses_in route now view.first) before (first-own w route now before asked fair sound may view.first asks class) route)
+          (nothing-counted route now (λ account. account.dials) class view.later (again-dials w route now (used view.first) sound.pool view.later need later-left.0));
       searches = λ class.
           all-counted (searches_in class) view (count_after (needs_search w route class) before uses)
-          (searches-counted route now w before class view.first (first-differ w route now before asked fair numbers may view.first asks)
+          (searches-counted route now w before class view.first (first-differ w route now before asked fair sound may view.first asks)
           (ended-own w t route so.most view.first first-ended) served.0
-          ∙ same-searches class uses (uses_in route now view.first) before (first-own w route now before asked fair numbers may view.first asks class) w route)
-          (nothing-counted route now (λ account. account.searches) class view.later (again-searches w route now (used view.first) numbers view.later need later-left.0));
+          ∙ same-searches class uses (uses_in route now view.first) before (first-own w route now before asked fair sound may view.first asks class) w route)
+          (nothing-counted route now (λ account. account.searches) class view.later (again-searches w route now (used view.first) sound.pool view.later need later-left.0));
     }
 
   pub request-shares : (first last : PackageAt S) (earlier : List (PackageAt S)) → first.view ≡ new_package route asked

@@ -24,6 +24,7 @@ use Rattle.package_quiet.specs.package_rules.Planned.{AreThere, legs_named}
 use Rattle.package_quiet.specs.package_rules.declared.spans.Span.{Span}
 use Rattle.package_quiet.proofs.package_rules.LegsAsked.{IsLegOf, first_of}
 use Rattle.sharing_rules.specs.Uses.{Use, key_if, use_at}
+use Rattle.leg_shares.specs.steps.Pools.{sharers_at}
 use Rattle.sharing_rules.specs.steps.Shared.{use_now}
 use Rattle.package_shares.specs.steps.Requests.{uses_at}
 use Rattle.package_shares.proofs.OnceLemmas.{IsOfNone, IsTheOne, among-contains, among-each, apart-distinct, apart-unique, each-unique, one-or-none, range-map, same-truth, unique-among, unique-distinct}
@@ -31,27 +32,27 @@ use Rattle.package_shares.proofs.OwnUses.{own_of}
 
 -- the use of what is asked
 abbrev pub use_asked : Route → (now : ℕ) → Asked → Use
-use_asked route now asked = use_now (class_of route asked.leg) now (want_of asked.task)
+use_asked route now asked = use_now (sharers_at route asked.login asked.leg) now (want_of asked.task)
 
 -- the key of a leg, of a query that may be there
 abbrev key_by : Route → Option RpnQuery → ℕ → Option SetKey
 key_by route None leg = None
 key_by route (Some query) leg = Some (key_at route leg query)
 
-module _ (route : Route) (now : ℕ) where
+module _ (route : Route) (now : ℕ) (login : Option (List ℕ)) where
   -- the use of a leg
   abbrev pub use_by : Option RpnQuery → ℕ → Use
-  use_by query leg = use_now (class_of route leg) now (key_by route query leg)
+  use_by query leg = use_now (sharers_at route login leg) now (key_by route query leg)
 
   -- ---- legs of the route
 
   abbrev use_in : Option RpnQuery → RouteLeg → Use
-  use_in query leg = use_at now (key_if query leg) leg
+  use_in query leg = use_at now login (key_if query leg) leg
 
   by-there : (query : Option RpnQuery) (leg : ℕ) (found : RouteLeg) → slice_get route.legs leg ≡ Some found → use_by query leg ≡ use_in query found
-  by-there None leg found is = ap (λ (o : Option RouteLeg). use_now (option_map_or (λ (l : RouteLeg). l.class) o 0) now None) is
+  by-there None leg found is = ap (λ (o : Option RouteLeg). use_now (record { class = option_map_or (λ (l : RouteLeg). l.class) o 0; login = login }) now None) is
   by-there (Some query) leg found is =
-      ap (λ (o : Option RouteLeg). use_now (option_map_or (λ (l : RouteLeg). l.class) o 0) now
+      ap (λ (o : Option RouteLeg). use_now (record { class = option_map_or (λ (l : RouteLeg). l.class) o 0; login = login }) now
       (Some (record { dbs = option_map_or (λ (l : RouteLeg). l.databases) o []; query = query }))) is
 
   there-one : (query : Option RpnQuery) (leg : ℕ) (others : List RouteLeg) → leg < length route.legs
@@ -304,32 +305,32 @@ module _ (route : Route) (now class : ℕ) where
   MayAsk asked = AreThere route asked → IsDistinct nat_eq (map (class_of route) (legs_named asked)) → IsSame asked
 
   -- the uses of records are those of their legs
-  records-by : (legs : List ℕ) (query : RpnQuery) (syntax element : Option (List ℕ)) (spans : List Span)
-      → map (use_asked route now) (map (records_asked route legs query syntax element) spans)
-      ≡ map (use_by route now (Some query)) (map (λ (s : Span). leg_of legs s.leg) spans)
-  records-by legs query syntax element [] = refl
-  records-by legs query syntax element (span ∷ spans) =
-      ap (λ (us : List Use). use_by route now (Some query) (leg_of legs span.leg) ∷ us) (records-by legs query syntax element spans)
+  records-by : (login : Option (List ℕ)) (legs : List ℕ) (query : RpnQuery) (syntax element : Option (List ℕ)) (spans : List Span)
+      → map (use_asked route now) (map (records_asked route login legs query syntax element) spans)
+      ≡ map (use_by route now login (Some query)) (map (λ (s : Span). leg_of legs s.leg) spans)
+  records-by login legs query syntax element [] = refl
+  records-by login legs query syntax element (span ∷ spans) =
+      ap (λ (us : List Use). use_by route now login (Some query) (leg_of legs span.leg) ∷ us) (records-by login legs query syntax element spans)
 
-  hits-by : (legs : List ℕ) (query : RpnQuery)
-      → map (use_asked route now) (map (hits_asked route query) legs) ≡ map (use_by route now (Some query)) legs
-  hits-by [] query = refl
-  hits-by (leg ∷ legs) query = ap (λ (us : List Use). use_by route now (Some query) leg ∷ us) (hits-by legs query)
+  hits-by : (login : Option (List ℕ)) (legs : List ℕ) (query : RpnQuery)
+      → map (use_asked route now) (map (hits_asked route login query) legs) ≡ map (use_by route now login (Some query)) legs
+  hits-by login [] query = refl
+  hits-by login (leg ∷ legs) query = ap (λ (us : List Use). use_by route now login (Some query) leg ∷ us) (hits-by login legs query)
 
   pub work-own : (asked : Work) → MayAsk asked
   work-own (work.Search login legs query small large medium small_element medium_element syntax room) there apart =
       ap (own_of class)
-      (ap (λ (ls : List ℕ). map (λ (l : RouteLeg). use_at now (Some (record { dbs = l.databases; query = query })) l) (filter_map (slice_get route.legs) ls))
+      (ap (λ (ls : List ℕ). map (λ (l : RouteLeg). use_at now login (Some (record { dbs = l.databases; query = query })) l) (filter_map (slice_get route.legs) ls))
       (apart-unique (class_of route) legs apart)
-      ∙ there-uses route now (Some query) legs (recursion_from_All (λ leg. leg < length route.legs) legs there) ∙ sym (hits-by legs query))
+      ∙ there-uses route now login (Some query) legs (recursion_from_All (λ leg. leg < length route.legs) legs there) ∙ sym (hits-by login legs query))
   work-own (work.Fetch login legs query hits first count syntax element) there apart =
       let places = places_from hits first count in
       let asked = asked_at legs places in
       let is_there = recursion_from_All (λ leg. leg < length route.legs) legs there in
       ap (own_of class)
-      (there-uses route now (Some query) (unique_keys nat_eq asked)
+      (there-uses route now login (Some query) (unique_keys nat_eq asked)
       (each-unique (λ leg. leg < length route.legs) asked (asked-each legs places (λ leg. leg < length route.legs) is_there places)))
-      ∙ same-own route now (Some query) class legs (unique_keys nat_eq asked) (legs_had route legs places) apart
+      ∙ same-own route now login (Some query) class legs (unique_keys nat_eq asked) (legs_had route legs places) apart
       (λ P each. each-unique P asked (asked-each legs places P each places)) (had-each route legs places) (unique-distinct asked)
       (apart-distinct (class_of route) (legs_had route legs places)
       (subst (λ (ks : List ℕ). IsDistinct nat_eq ks) (sym (map-each (λ (s : Span). leg_of legs s.leg) (class_of route) (spans_of (length legs) places)))
@@ -338,13 +339,13 @@ module _ (route : Route) (now class : ℕ) where
       (λ is. among-each (λ l. list_any (nat_eq l) (legs_had route legs places) ≡ true) asked leg
       (asked-had legs places places (recursion_from_All (Contains places) places (All-contains_itself places))) is)
       (λ is. among-each (λ l. list_any (nat_eq l) asked ≡ true) (legs_had route legs places) leg (back there) is))
-      ∙ ap (own_of class) (sym (records-by legs query syntax element (spans_of (length legs) places)))
+      ∙ ap (own_of class) (sym (records-by login legs query syntax element (spans_of (length legs) places)))
     where
       asks : List Asked
-      asks = all_records_asked route legs query syntax element (places_from hits first count)
+      asks = all_records_asked route login legs query syntax element (places_from hits first count)
 
       leg-back : (spans : List Span)
-          → AllByRecursion (λ (a : Asked). IsLegOf route (work.Fetch login legs query hits first count syntax element) a.leg) (map (records_asked route legs query syntax element) spans)
+          → AllByRecursion (λ (a : Asked). IsLegOf route (work.Fetch login legs query hits first count syntax element) a.leg) (map (records_asked route login legs query syntax element) spans)
           → AllByRecursion (λ l. list_any (nat_eq l) (asked_at legs (places_from hits first count)) ≡ true) (map (λ (s : Span). leg_of legs s.leg) spans)
       leg-back [] each = tt
       leg-back (span ∷ spans) each =
@@ -357,7 +358,7 @@ module _ (route : Route) (now class : ℕ) where
           (recursion_from_All (λ (a : Asked). IsLegOf route (work.Fetch login legs query hits first count syntax element) a.leg) asks
           (first_of route (work.Fetch login legs query hits first count syntax element) there))
   work-own (work.Scan login leg ask) there apart =
-      ap (own_of class) (there-uses route now None (leg ∷ []) (recursion_from_All (λ l. l < length route.legs) (leg ∷ []) there))
+      ap (own_of class) (there-uses route now login None (leg ∷ []) (recursion_from_All (λ l. l < length route.legs) (leg ∷ []) there))
 
 -- ---- what is asked goes to different classes
 
@@ -366,18 +367,18 @@ abbrev pub classes_asked : Route → List Asked → List ℕ
 classes_asked route asked = map (λ (a : Asked). class_of route a.leg) asked
 
 module _ (route : Route) where
-  pub records-apart : (legs : List ℕ) (query : RpnQuery) (syntax element : Option (List ℕ)) (places : List Place)
+  pub records-apart : (login : Option (List ℕ)) (legs : List ℕ) (query : RpnQuery) (syntax element : Option (List ℕ)) (places : List Place)
       → IsDistinct nat_eq (map (class_of route) legs)
-      → IsDistinct nat_eq (classes_asked route (all_records_asked route legs query syntax element places))
-  records-apart legs query syntax element places apart =
+      → IsDistinct nat_eq (classes_asked route (all_records_asked route login legs query syntax element places))
+  records-apart login legs query syntax element places apart =
       subst (λ (ks : List ℕ). IsDistinct nat_eq ks)
-      (sym (map-each (records_asked route legs query syntax element) (λ (a : Asked). class_of route a.leg) (spans_of (length legs) places)))
+      (sym (map-each (records_asked route login legs query syntax element) (λ (a : Asked). class_of route a.leg) (spans_of (length legs) places)))
       (had-apart route legs places apart)
 
   pub first-apart : (asked : Work) → IsDistinct nat_eq (map (class_of route) (legs_named asked))
       → IsDistinct nat_eq (classes_asked route (first_asked route asked))
   first-apart (work.Search login legs query small large medium small_element medium_element syntax room) apart =
-      subst (λ (ks : List ℕ). IsDistinct nat_eq ks) (sym (map-each (hits_asked route query) (λ (a : Asked). class_of route a.leg) legs)) apart
+      subst (λ (ks : List ℕ). IsDistinct nat_eq ks) (sym (map-each (hits_asked route login query) (λ (a : Asked). class_of route a.leg) legs)) apart
   first-apart (work.Fetch login legs query hits first count syntax element) apart =
-      records-apart legs query syntax element (places_from hits first count) apart
+      records-apart login legs query syntax element (places_from hits first count) apart
   first-apart (work.Scan login leg ask) apart = apart

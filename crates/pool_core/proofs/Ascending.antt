@@ -46,7 +46,7 @@ module _ {S : Type 0} where
 
   -- the session with its new stand
   abbrev pub stood : Session S → Stand (Parts S) Address → Session S
-  stood o stand = record { number = o.number; class = o.class; member = o.member; stand = stand }
+  stood o stand = record { number = o.number; class = o.class; login = o.login; member = o.member; stand = stand }
 
   -- each number is above m
   number_at : (m n i : ℕ) (os : List (Session S)) (d : Session S) → i < length os → Ascends m n os → m < (get_or os i d).number

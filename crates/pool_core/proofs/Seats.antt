@@ -91,7 +91,7 @@ module _ {W S : Type 0} (t : sitting.Ghosts S W) where
 
 module _ {S : Type 0} where
   abbrev pub idle_now : Parts S → ℕ → Session S → Session S
-  idle_now parts now o = record { number = o.number; class = o.class; member = o.member; stand = Idle parts now }
+  idle_now parts now o = record { number = o.number; class = o.class; login = o.login; member = o.member; stand = Idle parts now }
 
   pub put_at : (seat : Seat) (parts : Parts S) (now : ℕ) (p : Pool S) (place : ℕ) (o : Session S) → place < length p.sessions → ((d : Session S) → is_seat seat (get_or p.sessions place d) ≡ true) → o ≡ get_or p.sessions place o → Ascends 0 p.given p.sessions → parts.table.most ≤ p.sets_max → with_sessions (set p.sessions place (idle_now parts now o)) p ≡ put seat parts now p
   put_at seat parts now p place o within is e a le =
@@ -107,7 +107,7 @@ module _ {S : Type 0} where
 
   -- a redialled session stands at its place
   abbrev pub moved : Seat → List Address → ℕ → Session S → Session S
-  moved seat at m o = record { number = o.number; class = o.class; member = m; stand = Out (address_at at m) }
+  moved seat at m o = record { number = o.number; class = o.class; login = o.login; member = m; stand = Out (address_at at m) }
 
   pub redial_at : (seat : Seat) (at : List Address) (p : Pool S) (place : ℕ) (o : Session S) (m : ℕ) → place < length p.sessions → ((d : Session S) → is_seat seat (get_or p.sessions place d) ≡ true) → o ≡ get_or p.sessions place o → Ascends 0 p.given p.sessions → m ≡ redial_member seat at p → with_sessions (set p.sessions place (moved seat at m o)) p ≡ redial seat at p
   redial_at seat at p place o m within is e a k =

@@ -1,8 +1,8 @@
 -- For contracts alone: a pool of one thread (this project's own)
-use Rattle.std.specs.Prelude.{◌≡◌, ℕ, ◌<◌, ◌≤◌, ◌^◌, List, [], length, All, Bool, true, false, is_some, Option, position}
+use Rattle.std.specs.Prelude.{◌≡◌, ℕ, ◌+◌, ◌<◌, ◌≤◌, ◌^◌, List, [], ◌∷◌, ◌++◌, length, All, Bool, true, false, is_some, Option, None, Some, option_map, position}
 use Rattle.z_types.specs.declared.address.Address.{Address}
 use Rattle.z_types.specs.declared.sitting.Sitting as sitting
-use Rattle.pool_sets.specs.Sessions.{Session, idle_in, idle_with}
+use Rattle.pool_sets.specs.Sessions.{Session, first_some, idle_in, idle_for, idle_with, without_number}
 use Rattle.pool_sets.specs.declared.pooled.Parts.{Parts}
 use Rattle.pool_sets.specs.declared.sessions.Stand.{Stand}
 use Rattle.pool_sets.specs.declared.sessions.Stand.TheVariants.{Idle, Out}
@@ -48,9 +48,36 @@ module _ {S : Type 0} where
   counts_of v =
       record { most = v.pool.max_sessions; fulls = v.fulls; opens = v.opens; booked = v.booked }
 
+  -- a session that is out
+  abbrev pub out_session : ℕ → ℕ → Option (List ℕ) → ℕ → Address → Session S
+  out_session number class login member address =
+      record {
+        number = number;
+        class = class;
+        login = login;
+        member = member;
+        stand = Out address;
+      }
+
   -- another pool with the same counts
   abbrev pub with_pool : Pool S → PoolView S → PoolView S
   with_pool p v = record { pool = p; fulls = v.fulls; opens = v.opens; booked = v.booked }
+
+  -- a session is added under the next number, out for the first member
+  abbrev pub with_out : ℕ → Option (List ℕ) → Address → PoolView S → PoolView S
+  with_out class login address v = record {
+    pool = record {
+      sessions = v.pool.sessions ++ out_session (v.pool.given + 1) class login 0 address ∷ [];
+      given = v.pool.given + 1;
+      max_sessions = v.pool.max_sessions;
+      sets_max = v.pool.sets_max;
+      session_ttl = v.pool.session_ttl;
+      set_ttl = v.pool.set_ttl;
+    };
+    fulls = v.fulls;
+    opens = one_more true v.opens;
+    booked = v.booked;
+  }
 
   -- each redial opens a session
   abbrev pub after_redial : Seat → List Address → PoolView S → PoolView S
@@ -66,14 +93,35 @@ module _ {S : Type 0} where
   abbrev pub idle_place : ℕ → List Address → List (Session S) → Option ℕ
   idle_place class at os = position (λ o. is_some (idle_in class at o)) os
 
-  -- the place of the first of them that holds a set of the key
-  abbrev pub holder_place : ℕ → List Address → SetKey → List (Session S) → Option ℕ
-  holder_place class at key os = position (λ o. is_some (idle_with class at key o)) os
+  -- the place of the first of them that is one of the login
+  abbrev pub own_place : ℕ → List Address → Option (List ℕ) → List (Session S) → Option ℕ
+  own_place class at login os = position (λ o. is_some (idle_for class at login o)) os
 
-  -- a session that is out for a member
+  -- the place of the first of those that holds a set of the key
+  abbrev pub holder_place : ℕ → List Address → Option (List ℕ) → SetKey → List (Session S)
+      → Option ℕ
+  holder_place class at login key os =
+      position (λ o. is_some (idle_with class at login key o)) os
+
+  -- the number of the first idle session of a class
+  abbrev pub idle_number : ℕ → List Address → List (Session S) → Option ℕ
+  idle_number class at os = option_map (λ i. i.number) (first_some (idle_in class at) os)
+
+  -- the sessions but that of a number, where one is named
+  abbrev pub without_named : Option ℕ → List (Session S) → List (Session S)
+  without_named None os = os
+  without_named (Some number) os = without_number number os
+
+  -- a session that is out for a member, for the login that it was dialled for
   abbrev pub at_member : ℕ → Address → Session S → Session S
   at_member member address o =
-      record { number = o.number; class = o.class; member = member; stand = Out address }
+      record {
+        number = o.number;
+        class = o.class;
+        login = o.login;
+        member = member;
+        stand = Out address;
+      }
 
 -- an idle session rests
 abbrev pub StandRests : {W S : Type 0} → sitting.Ghosts S W → Stand (Parts S) Address → Type 0

@@ -4,13 +4,13 @@ ghost use Rattle.std.specs.Prelude.{◌≡◌, ◌<◌, ◌^◌, ◌≤◌, posi
 ghost use Rattle.pool_sets.specs.Sessions.{open_of, member_for};
 ghost use Rattle.pool_sets.specs.Plain.{is_seat};
 ghost use Rattle.pool_core.specs.Loads.{is_counted, is_counted_for};
-ghost use Rattle.pool_core.specs.PoolView.{idle_place, holder_place};
+ghost use Rattle.pool_core.specs.PoolView.{idle_place, own_place, holder_place, idle_number};
 
 use crate::Spot;
-use crate::session::{holds_in, is_idle_in, is_in_class, is_of_member, is_seat};
+use crate::session::{holds_in, is_idle_for, is_idle_in, is_in_class, is_of_member, is_seat};
 use load_balance::least;
 use pool_sets::{Open, Pooled, Seat};
-use z_types::{Address, SetKey, Sitting, World};
+use z_types::{Address, SetKey, Sitting, Text, World};
 
 /// The place of the first idle session of the class.
 pub fn idle_place<W: World, S: Sitting<W>>(
@@ -23,19 +23,51 @@ pub fn idle_place<W: World, S: Sitting<W>>(
     sessions.iter().position(|o| is_idle_in(o, class, at))
 }
 
-/// The place of the first of them that holds a set of the key.
+/// The place of the first of them that is one of the login.
+pub fn own_place<W: World, S: Sitting<W>>(
+    sessions: &[Open<Pooled<W, S>, Spot>],
+    class: u32,
+    at: &[Address],
+    login: Option<&Text>,
+) -> Option<usize>
+    ensures { result ≡ own_place class at.now (option_copied login.entry) sessions.now }
+{
+    sessions
+        .iter()
+        .position(|o| is_idle_for(o, class, at, login))
+}
+
+/// The place of the first of those that holds a set of the key.
 pub fn holder_place<W: World, S: Sitting<W>>(
     sessions: &[Open<Pooled<W, S>, Spot>],
     class: u32,
     at: &[Address],
+    login: Option<&Text>,
     key: &SetKey,
 ) -> Option<usize>
-    ensures { result ≡ holder_place class at.now key.now sessions.now }
+    ensures { result
+        ≡ holder_place class at.now (option_copied login.entry) key.now sessions.now }
 {
-    sessions.iter().position(|o| holds_in(o, class, at, key))
+    sessions
+        .iter()
+        .position(|o| holds_in(o, class, at, login, key))
 }
 
-/// How many sessions of the class are open.
+/// The number of the first idle session of the class.
+pub fn first_idle<W: World, S: Sitting<W>>(
+    sessions: &[Open<Pooled<W, S>, Spot>],
+    class: u32,
+    at: &[Address],
+) -> Option<u64>
+    ensures { result ≡ idle_number class at.now sessions.now }
+{
+    let Some(place) = idle_place(sessions, class, at) else {
+        return None;
+    };
+    Some(sessions[place].number)
+}
+
+/// How many sessions of the class are open, whatever their logins.
 pub fn open_in<W: World, S: Sitting<W>>(
     sessions: &[Open<Pooled<W, S>, Spot>],
     class: u32,

@@ -9,7 +9,7 @@ ghost use Rattle.pool_core.specs.PoolView.{counts_of};
 use crate::Pool;
 use pool_sets::{Door, Parts, Seat, Taken};
 use std::alloc::Global;
-use z_types::{Address, SetKey, Sitting, World};
+use z_types::{Address, SetKey, Sitting, Text, World};
 
 impl<W: World, S: Sitting<W>> Door<W, S> for Pool<W, S> {
     ghost pool = { λ p. Some p.pool };
@@ -21,13 +21,14 @@ impl<W: World, S: Sitting<W>> Door<W, S> for Pool<W, S> {
         alloc: Global,
         class: u32,
         at: &[Address],
+        login: Option<&Text>,
         want: Option<&SetKey>,
         now: u64,
     ) -> Taken<S> {
         self.forget_old(now);
         match want {
-            Some(key) => self.take_for(alloc, class, at, key, now),
-            None => self.take_any(alloc, class, at),
+            Some(key) => self.take_for(alloc, class, at, login, key, now),
+            None => self.take_any(alloc, class, at, login),
         }
     }
 

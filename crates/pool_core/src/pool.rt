@@ -1,22 +1,23 @@
 //! The pool.
 
-ghost use Rattle.std.specs.Prelude.{◌≡◌, ◌<◌, ◌≤◌, [], Some, None, length, IfOk, filter, map, OnOk, OnErr, ◌++◌, ◌∷◌, All};
+ghost use Rattle.std.specs.Prelude.{◌≡◌, ◌<◌, ◌≤◌, [], Some, None, length, IfOk, IfSome, filter, map, OnOk, OnErr, ◌++◌, ◌∷◌, ◌^◌, ◌-◌, nat_lt, option_copied, All};
 ghost use Rattle.z_types.specs.Members.{IsMember};
 ghost use Rattle.z_types.specs.Pending.{resting};
-ghost use Rattle.pool_sets.specs.Plain.{stays_open, with_fresh_sets, fresh_sessions, expire, take_with, take_any, open_one, lost, without_seat, put, redial_member};
+ghost use Rattle.pool_sets.specs.Sessions.{open_of, without_number};
+ghost use Rattle.pool_sets.specs.Plain.{stays_open, with_fresh_sets, fresh_sessions, expire, take_with, take_any, open_one, made_room, with_sessions, lost, without_seat, put, redial_member, redial};
 ghost use Rattle.pool_sets.specs.Counts.{after_take};
 ghost use Rattle.pool_sets.specs.Doors.{TakenFits};
 ghost use Rattle.pool_sets.specs.Kept.{TableKept};
-ghost use Rattle.pool_core.specs.PoolView.{Gives, idle_place, holder_place, new_pool, pool_after, with_pool, counts_of, after_book, after_redial};
+ghost use Rattle.pool_core.specs.PoolView.{Gives, own_place, holder_place, idle_number, without_named, with_out, new_pool, pool_after, with_pool, counts_of, after_book, after_redial};
 
 use crate::Spot;
-use crate::choice::{holder_place, idle_place, member_for, open_in, seat_place};
+use crate::choice::{first_idle, holder_place, member_for, open_in, own_place, seat_place};
 use crate::session::{freshen, is_seat, lend, move_to, rest, spot_for, stays};
 use pool_sets::{Open, Parts, Pooled, Seat, Stand, Taken};
 use route_config::{PoolNumbers, Route};
 use std::alloc::Global;
 use std::marker::Model;
-use z_types::{Address, Memory, SetKey, Sitting, World};
+use z_types::{Address, Memory, SetKey, Sitting, Text, World, copy};
 
 /// A pool of sessions with the targets of a world, for one thread.
 #[derive(Drop)]
@@ -104,6 +105,41 @@ fn add<W: World, S: Sitting<W>>(
     Ok(())
 }
 
+/// Drops the session of a number.
+fn drop_number<W: World, S: Sitting<W>>(sessions: &mut Vec<Open<Pooled<W, S>, Spot>>, number: u64)
+    ensures { sessions.new.items ≡ without_number number sessions.old.items }
+{
+    sessions.retain(|o| o.number != number);
+}
+
+/// A login of one's own, or none.
+fn own_login(login: Option<&Text>) -> Result<Option<Text>, Memory>
+    ensures { IfOk result (λ own. own ≡ option_copied login.entry) }
+{
+    match login {
+        Some(login) => Ok(Some(copy(login)?)),
+        None => Ok(None),
+    }
+}
+
+/// A spot for any of the addresses, and the login of a session that is to be dialled.
+pub fn berth_for(
+    alloc: Global,
+    at: &[Address],
+    login: Option<&Text>,
+) -> Option<(Spot, Option<Text>)>
+    requires some { 0 < length at.now }
+    ensures { IfSome result (λ berth. berth.1 ≡ option_copied login.entry) }
+{
+    let Ok(spot) = Spot::new(alloc, &at[0]) else {
+        return None;
+    };
+    let Ok(login) = own_login(login) else {
+        return None;
+    };
+    Some((spot, login))
+}
+
 impl<W: World, S: Sitting<W>> Pool<W, S> {
     /// A pool without sessions, whose numbers are the route's. It takes no memory yet.
     pub fn new(alloc: Global, route: &Route) -> Result<Pool<W, S>, Memory>
@@ -133,15 +169,18 @@ impl<W: World, S: Sitting<W>> Pool<W, S> {
         alloc: Global,
         class: u32,
         at: &[Address],
+        login: Option<&Text>,
         key: &SetKey,
         now: u64,
         place: usize,
     ) -> Taken<S>
-        requires first { holder_place class at.now key.now self.old.pool.sessions ≡ Some place }
-        ensures plain { Gives (take_with class at.now key.now now self.old.pool)
+        requires first { holder_place class at.now (option_copied login) key.now
+            self.old.pool.sessions ≡ Some place }
+        ensures plain { Gives
+            (take_with class at.now (option_copied login.entry) key.now now self.old.pool)
             self.old.pool result self.new.pool }
-        ensures fits { TakenFits W.World S.Sitting
-            at.now (Some key.now) self.old.pool.max_sessions result }
+        ensures fits { TakenFits W.World S.Sitting class at.now
+            (option_copied login.entry) (Some key.now) self.old.pool.max_sessions result }
         ensures counts { counts_of self.new
             ≡ after_take (Some key.now) result (counts_of self.old) }
         ensures bound { length self.new.pool.sessions ≤ self.new.opens }
@@ -165,13 +204,21 @@ impl<W: World, S: Sitting<W>> Pool<W, S> {
         }
     }
 
-    /// Gives the session at a place, which is the first idle one.
-    fn fresh(&mut self, alloc: Global, class: u32, at: &[Address], place: usize) -> Taken<S>
-        requires first { idle_place class at.now self.old.pool.sessions ≡ Some place }
-        ensures plain { Gives (take_any class at.now self.old.pool)
+    /// Gives the session at a place, which is the first idle one of the class and login.
+    fn fresh(
+        &mut self,
+        alloc: Global,
+        class: u32,
+        at: &[Address],
+        login: Option<&Text>,
+        place: usize,
+    ) -> Taken<S>
+        requires first { own_place class at.now (option_copied login)
+            self.old.pool.sessions ≡ Some place }
+        ensures plain { Gives (take_any class at.now (option_copied login.entry) self.old.pool)
             self.old.pool result self.new.pool }
-        ensures fits { TakenFits W.World S.Sitting
-            at.now None self.old.pool.max_sessions result }
+        ensures fits { TakenFits W.World S.Sitting class at.now
+            (option_copied login.entry) None self.old.pool.max_sessions result }
         ensures counts { counts_of self.new ≡ after_take None result (counts_of self.old) }
         ensures bound { length self.new.pool.sessions ≤ self.new.opens }
     {
@@ -189,44 +236,118 @@ impl<W: World, S: Sitting<W>> Pool<W, S> {
         }
     }
 
-    /// Dials where fewer sessions are open than there may be.
-    fn dial(&mut self, alloc: Global, class: u32, at: &[Address]) -> Taken<S>
+    /// Dials where there may be one more session of the class, or an idle one makes room.
+    fn dial(&mut self, alloc: Global, class: u32, at: &[Address], login: Option<&Text>) -> Taken<S>
         requires some { 0 < length at.now }
         requires few { length at.now ≤ 16 }
-        ensures plain { Gives (open_one class at.now self.old.pool)
+        requires short { All IsMember at.now }
+        ensures plain { Gives (open_one class at.now (option_copied login.entry) self.old.pool)
             self.old.pool result self.new.pool }
-        ensures fits { TakenFits W.World S.Sitting
-            at.now None self.old.pool.max_sessions result }
+        ensures fits { TakenFits W.World S.Sitting class at.now
+            (option_copied login.entry) None self.old.pool.max_sessions result }
         ensures counts { counts_of self.new ≡ after_take None result (counts_of self.old) }
         ensures bound { length self.new.pool.sessions ≤ self.new.opens }
     {
-        if open_in(&self.sessions, class, at) >= self.numbers.max_sessions as usize {
-            self.fulls = self.fulls.saturating_add(1);
-            return Taken::Full {
-                open: self.numbers.max_sessions,
-            };
+        if self.may_open(class, at) {
+            return self.dial_without(alloc, class, at, login, None);
         }
+        if let Some(number) = self.first_idle(class, at) {
+            return self.dial_without(alloc, class, at, login, Some(number));
+        }
+        self.fulls = self.fulls.saturating_add(1);
+        Taken::Full {
+            open: self.numbers.max_sessions,
+        }
+    }
+
+    /// Dials, without the idle session of a number where one is named. For want of memory that one
+    /// stays.
+    fn dial_without(
+        &mut self,
+        alloc: Global,
+        class: u32,
+        at: &[Address],
+        login: Option<&Text>,
+        number: Option<u64>,
+    ) -> Taken<S>
+        requires some { 0 < length at.now }
+        requires few { length at.now ≤ 16 }
+        requires short { All IsMember at.now }
+        requires given { IfSome number (λ n. n ≤ self.old.pool.given) }
+        requires room { made_room class at.now self.old.pool
+            ≡ Some (with_sessions (without_named number self.old.pool.sessions) self.old.pool) }
+        ensures plain { Gives (open_one class at.now (option_copied login.entry) self.old.pool)
+            self.old.pool result self.new.pool }
+        ensures fits { TakenFits W.World S.Sitting class at.now
+            (option_copied login.entry) None self.old.pool.max_sessions result }
+        ensures counts { counts_of self.new ≡ after_take None result (counts_of self.old) }
+        ensures bound { length self.new.pool.sessions ≤ self.new.opens }
+    {
         if self.sessions.len() >= u32::MAX as usize || self.given == u64::MAX {
             return Taken::Memory;
         }
-        let member = member_for(&self.sessions, class, at, None);
-        let Ok(address) = Spot::new(alloc, &at[member as usize]) else {
+        let Some((address, login)) = berth_for(alloc, at, login) else {
             return Taken::Memory;
         };
+        let Ok(()) = self.add_out(class, login, address) else {
+            return Taken::Memory;
+        };
+        self.drop_number(number);
+        let seat = Seat {
+            class,
+            number: self.given,
+        };
+        let member = self.move_seat(&seat, at);
+        Taken::Dial { seat, member }
+    }
+
+    /// Adds a session under the next number, which is out for the first member until one is chosen.
+    fn add_out(&mut self, class: u32, login: Option<Text>, address: Spot) -> Result<(), Memory>
+        requires number { self.old.pool.given < 2 ^ 64 - 1 }
+        requires few { length self.old.pool.sessions < 2 ^ 32 - 1 }
+        ensures ok { OnOk result (self.new ≡ with_out class login address self.old) }
+        ensures err { OnErr result (self.new ≡ self.old) }
+    {
         let number = self.given + 1;
         let session = Open {
             number,
             class,
-            member,
+            login,
+            member: 0,
             stand: Stand::Out { address },
         };
         let Ok(()) = add(&mut self.sessions, session) else {
-            return Taken::Memory;
+            return Err(Memory);
         };
         self.given = number;
         self.opens = self.opens.saturating_add(1);
-        let seat = Seat { class, number };
-        Taken::Dial { seat, member }
+        Ok(())
+    }
+
+    /// Drops the session of a number, where one is named.
+    fn drop_number(&mut self, number: Option<u64>)
+        ensures { self.new ≡ with_pool
+            (with_sessions (without_named number self.old.pool.sessions) self.old.pool) self.old }
+    {
+        if let Some(number) = number {
+            drop_number(&mut self.sessions, number);
+        }
+    }
+
+    /// Whether there may be one more session of the class.
+    fn may_open(&self, class: u32, at: &[Address]) -> bool
+        ensures { result ≡ nat_lt (open_of class at.now self.now.pool.sessions)
+            self.now.pool.max_sessions }
+    {
+        open_in(self.sessions.as_slice(), class, at) < self.numbers.max_sessions as usize
+    }
+
+    /// The number of the first idle session of the class, whatever its login.
+    fn first_idle(&self, class: u32, at: &[Address]) -> Option<u64>
+        ensures number { result ≡ idle_number class at.now self.now.pool.sessions }
+        ensures given { IfSome result (λ n. n ≤ self.now.pool.given) }
+    {
+        first_idle(self.sessions.as_slice(), class, at)
     }
 
     /// Drops the sessions, and forgets the sets, that were unused for too long.
@@ -241,18 +362,26 @@ impl<W: World, S: Sitting<W>> Pool<W, S> {
         forget_old(&mut self.sessions, now, session_ttl, set_ttl);
     }
 
-    /// The place of the first idle session of the class that holds the key.
-    fn holder(&self, class: u32, at: &[Address], key: &SetKey) -> Option<usize>
-        ensures { result ≡ holder_place class at.now key.now self.now.pool.sessions }
+    /// The place of the first idle session of the class and login that holds the key.
+    fn holder(
+        &self,
+        class: u32,
+        at: &[Address],
+        login: Option<&Text>,
+        key: &SetKey,
+    ) -> Option<usize>
+        ensures { result ≡ holder_place class at.now (option_copied login.entry) key.now
+            self.now.pool.sessions }
     {
-        holder_place(self.sessions.as_slice(), class, at, key)
+        holder_place(self.sessions.as_slice(), class, at, login, key)
     }
 
-    /// The place of the first idle session of the class.
-    fn idle(&self, class: u32, at: &[Address]) -> Option<usize>
-        ensures { result ≡ idle_place class at.now self.now.pool.sessions }
+    /// The place of the first idle session of the class and login.
+    fn own(&self, class: u32, at: &[Address], login: Option<&Text>) -> Option<usize>
+        ensures { result
+            ≡ own_place class at.now (option_copied login.entry) self.now.pool.sessions }
     {
-        idle_place(self.sessions.as_slice(), class, at)
+        own_place(self.sessions.as_slice(), class, at, login)
     }
 
     /// Counts an answer to who wanted a set.
@@ -264,46 +393,56 @@ impl<W: World, S: Sitting<W>> Pool<W, S> {
         }
     }
 
-    /// Takes any session of the class.
-    pub(crate) fn take_any(&mut self, alloc: Global, class: u32, at: &[Address]) -> Taken<S>
+    /// Takes any session of the class and login.
+    pub(crate) fn take_any(
+        &mut self,
+        alloc: Global,
+        class: u32,
+        at: &[Address],
+        login: Option<&Text>,
+    ) -> Taken<S>
         requires some { 0 < length at.now }
         requires few { length at.now ≤ 16 }
-        ensures plain { Gives (take_any class at.now self.old.pool)
+        requires short { All IsMember at.now }
+        ensures plain { Gives (take_any class at.now (option_copied login.entry) self.old.pool)
             self.old.pool result self.new.pool }
-        ensures fits { TakenFits W.World S.Sitting
-            at.now None self.old.pool.max_sessions result }
+        ensures fits { TakenFits W.World S.Sitting class at.now
+            (option_copied login.entry) None self.old.pool.max_sessions result }
         ensures counts { counts_of self.new ≡ after_take None result (counts_of self.old) }
         ensures bound { length self.new.pool.sessions ≤ self.new.opens }
     {
-        if let Some(place) = self.idle(class, at) {
-            return self.fresh(alloc, class, at, place);
+        if let Some(place) = self.own(class, at, login) {
+            return self.fresh(alloc, class, at, login, place);
         }
-        self.dial(alloc, class, at)
+        self.dial(alloc, class, at, login)
     }
 
-    /// Takes a session of the class, one that holds a set of the key where there is one.
+    /// Takes a session of the class and login, one that holds a set of the key where there is one.
     pub(crate) fn take_for(
         &mut self,
         alloc: Global,
         class: u32,
         at: &[Address],
+        login: Option<&Text>,
         key: &SetKey,
         now: u64,
     ) -> Taken<S>
         requires some { 0 < length at.now }
         requires few { length at.now ≤ 16 }
-        ensures plain { Gives (take_with class at.now key.now now self.old.pool)
+        requires short { All IsMember at.now }
+        ensures plain { Gives
+            (take_with class at.now (option_copied login.entry) key.now now self.old.pool)
             self.old.pool result self.new.pool }
-        ensures fits { TakenFits W.World S.Sitting
-            at.now (Some key.now) self.old.pool.max_sessions result }
+        ensures fits { TakenFits W.World S.Sitting class at.now
+            (option_copied login.entry) (Some key.now) self.old.pool.max_sessions result }
         ensures counts { counts_of self.new
             ≡ after_take (Some key.now) result (counts_of self.old) }
         ensures bound { length self.new.pool.sessions ≤ self.new.opens }
     {
-        if let Some(place) = self.holder(class, at, key) {
-            return self.reuse(alloc, class, at, key, now, place);
+        if let Some(place) = self.holder(class, at, login, key) {
+            return self.reuse(alloc, class, at, login, key, now, place);
         }
-        let taken = self.take_any(alloc, class, at);
+        let taken = self.take_any(alloc, class, at, login);
         self.book(&taken);
         taken
     }
@@ -341,6 +480,18 @@ impl<W: World, S: Sitting<W>> Pool<W, S> {
         ensures plain { self.new ≡ after_redial seat.now at.now self.old }
     {
         self.opens = self.opens.saturating_add(1);
+        self.move_seat(seat, at)
+    }
+
+    /// Chooses a member for the seat's session, where it is out: that member, else 0.
+    fn move_seat(&mut self, seat: &Seat, at: &[Address]) -> u32
+        requires some { 0 < length at.now }
+        requires few { length at.now ≤ 16 }
+        requires short { All IsMember at.now }
+        ensures member { result ≡ redial_member seat.now at.now self.old.pool }
+        ensures within { result < length at.now }
+        ensures plain { self.new ≡ with_pool (redial seat.now at.now self.old.pool) self.old }
+    {
         let Some(place) = seat_place(self.sessions.as_slice(), seat) else {
             return 0;
         };

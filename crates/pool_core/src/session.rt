@@ -4,7 +4,8 @@
 ghost use Rattle.std.specs.Prelude.{◌≡◌, is_some, option_copied, true, IfSome};
 ghost use Rattle.z_types.specs.Members.{IsMember};
 ghost use Rattle.pool_sets.specs.declared.sessions.Stand.TheVariants.{Idle, Out};
-ghost use Rattle.pool_sets.specs.Sessions.{is_among, in_class, idle_in, idle_with, is_out, idle_parts, with_stand};
+ghost use Rattle.z_types.specs.Logins.{same_login, inner};
+ghost use Rattle.pool_sets.specs.Sessions.{is_among, in_class, is_for, idle_in, idle_for, idle_with, is_out, idle_parts, with_stand};
 ghost use Rattle.pool_sets.specs.Plain.{is_seat, stays_open, with_fresh_sets};
 ghost use Rattle.pool_core.specs.Loads.{is_counted, is_counted_for};
 ghost use Rattle.pool_core.specs.PoolView.{at_member};
@@ -13,18 +14,18 @@ use crate::Spot;
 use pool_sets::{Open, Pooled, Seat, Stand};
 use std::alloc::Global;
 use std::mem;
-use z_types::{Address, SetKey, Sitting, World};
+use z_types::{Address, SetKey, Sitting, Text, World};
 
-/// Whether an address is one of these.
+/// Whether an address is one of these, by itself or inside a login.
 fn is_among(at: &[Address], address: &Address) -> bool
-    ensures { result ≡ is_among at.now address.now }
+    ensures { result ≡ is_among at.now (inner address.now) }
 {
-    at.iter().any(|a| *a == *address)
+    at.iter().any(|a| address.is_at(a))
 }
 
 /// Whether a spot's address is one of these.
 fn is_spot_among(at: &[Address], spot: &Spot) -> bool
-    ensures { result ≡ is_among at.now spot.now }
+    ensures { result ≡ is_among at.now (inner spot.now) }
 {
     at.iter().any(|a| spot.is(a))
 }
@@ -46,6 +47,33 @@ pub fn is_in_class<W: World, S: Sitting<W>>(
     }
 }
 
+/// Whether that is the login, or there is none twice.
+fn is_login(own: &Option<Text>, login: Option<&Text>) -> bool
+    ensures { result ≡ same_login (option_copied login.entry) own.now }
+{
+    match (own, login) {
+        (Some(own), Some(login)) => *login == *own,
+        (None, None) => true,
+        _ => false,
+    }
+}
+
+/// Whether the session is one of the login: it was dialled for it, and its address is inside it.
+pub fn is_for<W: World, S: Sitting<W>>(
+    session: &Open<Pooled<W, S>, Spot>,
+    login: Option<&Text>,
+) -> bool
+    ensures { result ≡ is_for (option_copied login.entry) session.now }
+{
+    if !is_login(&session.login, login) {
+        return false;
+    }
+    match &session.stand {
+        Stand::Idle { pooled, .. } => pooled.address().is_inside(login),
+        Stand::Out { .. } => true,
+    }
+}
+
 /// Whether the session is idle and one of the class.
 pub fn is_idle_in<W: World, S: Sitting<W>>(
     session: &Open<Pooled<W, S>, Spot>,
@@ -57,18 +85,34 @@ pub fn is_idle_in<W: World, S: Sitting<W>>(
     is_in_class(session, class, at) && matches!(&session.stand, Stand::Idle { .. })
 }
 
-/// Whether the session is idle and one of the class, and holds a set of the key.
+/// Whether the session is idle and one of the class and login.
+pub fn is_idle_for<W: World, S: Sitting<W>>(
+    session: &Open<Pooled<W, S>, Spot>,
+    class: u32,
+    at: &[Address],
+    login: Option<&Text>,
+) -> bool
+    ensures { result ≡ is_some (idle_for class at.now (option_copied login.entry) session.now) }
+{
+    is_for(session, login) && is_idle_in(session, class, at)
+}
+
+/// Whether the session is idle and one of the class and login, and holds a set of the key.
 pub fn holds_in<W: World, S: Sitting<W>>(
     session: &Open<Pooled<W, S>, Spot>,
     class: u32,
     at: &[Address],
+    login: Option<&Text>,
     key: &SetKey,
 ) -> bool
-    ensures { result ≡ is_some (idle_with class at.now key.now session.now) }
+    ensures { result
+        ≡ is_some (idle_with class at.now (option_copied login.entry) key.now session.now) }
 {
     match &session.stand {
         Stand::Idle { pooled, .. } => {
-            is_in_class(session, class, at) && pooled.table().holds(key).is_some()
+            is_for(session, login)
+                && is_in_class(session, class, at)
+                && pooled.table().holds(key).is_some()
         }
         Stand::Out { .. } => false,
     }
@@ -149,13 +193,13 @@ pub fn move_to<W: World, S: Sitting<W>>(
     }
 }
 
-/// A spot with the address of an idle session.
+/// A spot with the address of an idle session, without its login.
 pub fn spot_for<W: World, S: Sitting<W>>(
     alloc: Global,
     session: &Open<Pooled<W, S>, Spot>,
 ) -> Option<Spot>
     ensures { IfSome result (λ spot.
-        IfSome (idle_parts session.now.stand) (λ p. spot ≡ p.address)) }
+        IfSome (idle_parts session.now.stand) (λ p. spot ≡ inner p.address)) }
 {
     match &session.stand {
         Stand::Idle { pooled, .. } => Spot::new(alloc, pooled.address()).ok(),

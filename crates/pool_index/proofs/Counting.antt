@@ -6,15 +6,15 @@ use Rattle.std.proofs.lemmas.List.Sums.{length-filter}
 use Rattle.z_types.specs.declared.address.Address.{Address}
 use Rattle.load_balance.specs.Least.{least_place}
 use Rattle.pool_sets.specs.declared.doors.Seat.{Seat}
-use Rattle.pool_sets.specs.Sessions.{Session, in_class, is_of_member, idle_in, open_of, member_for}
+use Rattle.pool_sets.specs.Sessions.{Session, in_class, is_of_member, idle_in, idle_for, without_number, open_of, member_for}
 use Rattle.pool_sets.specs.Plain.{is_seat, without_seat, with_fresh_sets}
 use Rattle.pool_core.specs.Loads.{is_counted}
-use Rattle.pool_core.specs.PoolView.{idle_place}
+use Rattle.pool_core.specs.PoolView.{idle_place, own_place}
 use Rattle.pool_core.proofs.Loads.{count_of_filter}
 use Rattle.pool_index.specs.declared.berth.Berth.{Berth}
 use Rattle.pool_index.specs.declared.berth.Expiries.{Expiries}
 use Rattle.pool_index.specs.Told.{seen, told}
-use Rattle.pool_index.proofs.Lazy.{seen_class, seen_seat, seen_idle}
+use Rattle.pool_index.proofs.Lazy.{seen_number, seen_class, seen_seat, seen_idle, seen_own}
 
 module _ {X Y : Type 0} (p : Y → Bool) (q : X → Bool) (f : X → Y) (same : (x : X) → p (f x) ≡ q x) where
   place_same : (xs : List X) → position_or_len p (map f xs) ≡ position_or_len q xs
@@ -46,6 +46,12 @@ module _ {S : Type 0} (x : Expiries) (ttl : ℕ) where
 
   pub told_idle : (class : ℕ) (at : List Address) (bs : List (Berth (Session S))) → position (λ b. is_some (idle_in class at b.session)) bs ≡ idle_place class at (told x ttl bs)
   told_idle class at bs = sym (position_same (λ o. is_some (idle_in class at o)) (λ b. is_some (idle_in class at b.session)) (seen x ttl) (seen_idle x ttl class at) bs)
+
+  pub told_own : (class : ℕ) (at : List Address) (login : Option (List ℕ)) (bs : List (Berth (Session S))) → position (λ b. is_some (idle_for class at login b.session)) bs ≡ own_place class at login (told x ttl bs)
+  told_own class at login bs = sym (position_same (λ o. is_some (idle_for class at login o)) (λ b. is_some (idle_for class at login b.session)) (seen x ttl) (seen_own x ttl class at login) bs)
+
+  pub told_without_number : (number : ℕ) (bs : List (Berth (Session S))) → told x ttl (filter (λ b. not (b.session.number == number)) bs) ≡ without_number number (told x ttl bs)
+  told_without_number number bs = sym (filter_same (λ o. not (o.number == number)) (λ b. not (b.session.number == number)) (seen x ttl) (λ b. ap (λ n. not (n == number)) (seen_number x ttl b)) bs)
 
   pub told_without : (seat : Seat) (bs : List (Berth (Session S))) → told x ttl (filter (λ b. not (is_seat seat b.session)) bs) ≡ without_seat seat (told x ttl bs)
   told_without seat bs = sym (filter_same (λ o. not (is_seat seat o)) (λ b. not (is_seat seat b.session)) (seen x ttl) (λ b. ap not (seen_seat x ttl seat b)) bs)

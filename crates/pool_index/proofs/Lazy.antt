@@ -8,11 +8,12 @@ use Rattle.pool_sets.specs.declared.sessions.Stand.{Stand}
 use Rattle.pool_sets.specs.declared.sessions.Stand.TheVariants.{Idle, Out}
 use Rattle.pool_sets.specs.Table.{Entry, Table, after_expire}
 use Rattle.pool_sets.specs.declared.doors.Seat.{Seat}
-use Rattle.pool_sets.specs.Sessions.{Session, with_stand, with_table, stand_address, is_out, is_among, in_class, idler, idle_in}
+use Rattle.z_types.specs.Logins.{same_login}
+use Rattle.pool_sets.specs.Sessions.{Session, with_stand, with_table, stand_target, stand_login, is_out, is_among, in_class, is_for, idler, idle_in, idle_for}
 use Rattle.pool_sets.specs.Plain.{is_seat, stays, stays_open, without_old_sets, with_fresh_sets, fresh_sessions}
 use Rattle.pool_index.specs.declared.berth.Berth.{Berth}
 use Rattle.pool_index.specs.declared.berth.Expiries.{Expiries}
-use Rattle.pool_index.specs.Told.{seen, told, settled, StandSince}
+use Rattle.pool_index.specs.Told.{sharers_of, seen, told, settled, StandSince}
 
 -- what passes the one test and with it the other
 filter_twice : {X : Type 0} (p q : X → Bool) (xs : List X) → ((x : X) → p x ≡ true → q x ≡ true) → filter p (filter q xs) ≡ filter p xs
@@ -122,9 +123,13 @@ module _ {S : Type 0} where
   settled_all x ttl (b ∷ bs) = λ i. settled_same x ttl b i ∷ settled_all x ttl bs i
 
   -- its number, its class, its member and its address are as they were left
-  stand_address_same : (now ttl : ℕ) (s : Stand (Parts S) Address) → stand_address (without_old_sets now ttl s) ≡ stand_address s
-  stand_address_same now ttl (Idle parts since) = refl
-  stand_address_same now ttl (Out address) = refl
+  stand_target_same : (now ttl : ℕ) (s : Stand (Parts S) Address) → stand_target (without_old_sets now ttl s) ≡ stand_target s
+  stand_target_same now ttl (Idle parts since) = refl
+  stand_target_same now ttl (Out address) = refl
+
+  stand_login_same : (login : Option (List ℕ)) (now ttl : ℕ) (s : Stand (Parts S) Address) → stand_login login (without_old_sets now ttl s) ≡ stand_login login s
+  stand_login_same login now ttl (Idle parts since) = refl
+  stand_login_same login now ttl (Out address) = refl
 
   stand_out_same : (now ttl : ℕ) (s : Stand (Parts S) Address) → is_out (without_old_sets now ttl s) ≡ is_out s
   stand_out_same now ttl (Idle parts since) = refl
@@ -134,14 +139,14 @@ module _ {S : Type 0} where
   pub seen_number : (x : Expiries) (ttl : ℕ) (b : Berth (Session S)) → (seen x ttl b).number ≡ b.session.number
   seen_number x ttl b = (elim (nat_lt b.stamp x.count) as (λ t. (cond t (with_fresh_sets x.last ttl b.session) b.session).number ≡ b.session.number) [ true ↦ refl | false ↦ refl ])
 
-  -- and so is its class
-  pub seen_of_class : (x : Expiries) (ttl : ℕ) (b : Berth (Session S)) → (seen x ttl b).class ≡ b.session.class
-  seen_of_class x ttl b = (elim (nat_lt b.stamp x.count) as (λ t. (cond t (with_fresh_sets x.last ttl b.session) b.session).class ≡ b.session.class) [ true ↦ refl | false ↦ refl ])
+  -- and so are its class and its login
+  pub seen_sharers : (x : Expiries) (ttl : ℕ) (b : Berth (Session S)) → sharers_of (seen x ttl b) ≡ sharers_of b.session
+  seen_sharers x ttl b = (elim (nat_lt b.stamp x.count) as (λ t. sharers_of (cond t (with_fresh_sets x.last ttl b.session) b.session) ≡ sharers_of b.session) [ true ↦ refl | false ↦ refl ])
 
   -- and so is whether it is of a class, of a member, of a seat, or idle
   pub seen_class : (x : Expiries) (ttl class : ℕ) (at : List Address) (b : Berth (Session S)) → in_class class at (seen x ttl b) ≡ in_class class at b.session
   seen_class x ttl class at b = (elim (nat_lt b.stamp x.count) as (λ t. in_class class at (cond t (with_fresh_sets x.last ttl b.session) b.session) ≡ in_class class at b.session) [
-    | true ↦ ap (λ a. (b.session.class == class) && is_among at a) (stand_address_same x.last ttl b.session.stand)
+    | true ↦ ap (λ a. (b.session.class == class) && is_among at a) (stand_target_same x.last ttl b.session.stand)
     | false ↦ refl
   ])
 
@@ -164,7 +169,20 @@ module _ {S : Type 0} where
   idle_same : (now ttl class : ℕ) (at : List Address) (o : Session S) → is_some (idle_in class at (with_fresh_sets now ttl o)) ≡ is_some (idle_in class at o)
   idle_same now ttl class at o =
       some_cond (in_class class at (with_fresh_sets now ttl o)) (in_class class at o) (idler o.number (without_old_sets now ttl o.stand)) (idler o.number o.stand)
-      (ap (λ a. (o.class == class) && is_among at a) (stand_address_same now ttl o.stand)) (idler_same now ttl o.number o.stand)
+      (ap (λ a. (o.class == class) && is_among at a) (stand_target_same now ttl o.stand)) (idler_same now ttl o.number o.stand)
+
+  for_same : (now ttl : ℕ) (login : Option (List ℕ)) (o : Session S) → is_for login (with_fresh_sets now ttl o) ≡ is_for login o
+  for_same now ttl login o = ap (λ l. same_login login o.login && same_login login l) (stand_login_same o.login now ttl o.stand)
+
+  own_same : (now ttl class : ℕ) (at : List Address) (login : Option (List ℕ)) (o : Session S) → is_some (idle_for class at login (with_fresh_sets now ttl o)) ≡ is_some (idle_for class at login o)
+  own_same now ttl class at login o =
+      some_cond (is_for login (with_fresh_sets now ttl o)) (is_for login o) (idle_in class at (with_fresh_sets now ttl o)) (idle_in class at o) (for_same now ttl login o) (idle_same now ttl class at o)
+
+  pub seen_own : (x : Expiries) (ttl class : ℕ) (at : List Address) (login : Option (List ℕ)) (b : Berth (Session S)) → is_some (idle_for class at login (seen x ttl b)) ≡ is_some (idle_for class at login b.session)
+  seen_own x ttl class at login b = (elim (nat_lt b.stamp x.count) as (λ t. is_some (idle_for class at login (cond t (with_fresh_sets x.last ttl b.session) b.session)) ≡ is_some (idle_for class at login b.session)) [
+    | true ↦ own_same x.last ttl class at login b.session
+    | false ↦ refl
+  ])
 
   pub seen_idle : (x : Expiries) (ttl class : ℕ) (at : List Address) (b : Berth (Session S)) → is_some (idle_in class at (seen x ttl b)) ≡ is_some (idle_in class at b.session)
   seen_idle x ttl class at b = (elim (nat_lt b.stamp x.count) as (λ t. is_some (idle_in class at (cond t (with_fresh_sets x.last ttl b.session) b.session)) ≡ is_some (idle_in class at b.session)) [

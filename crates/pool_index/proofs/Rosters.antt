@@ -1,5 +1,5 @@
 -- What a roster keeps, and what is told of it
-use Rattle.std.proofs.Common.{◌≡◌, ℕ, suc, zero, ◌+◌, ◌-◌, ◌^◌, ◌<◌, ◌≤◌, min, nat_lt, true, false, cond, not, List, [], ◌∷◌, ◌++◌, length, get_or, set, map, filter, Contains, position, is_some, refl, sym, ◌∙◌, ap, subst, arith, All}
+use Rattle.std.proofs.Common.{◌≡◌, ◌==◌, ℕ, suc, zero, ◌+◌, ◌-◌, ◌^◌, ◌<◌, ◌≤◌, min, nat_lt, true, false, cond, not, List, [], ◌∷◌, ◌++◌, length, get_or, set, map, filter, Contains, position, Option, is_some, refl, sym, ◌∙◌, ap, subst, arith, All}
 use Rattle.std.specs.List.Sorted.{IsPermutation}
 use Rattle.std.proofs.lemmas.Bool.Decides.{leb_tells}
 use Rattle.std.proofs.lemmas.List.{map-set, map-append, get_or-map, length-map}
@@ -13,17 +13,18 @@ use Rattle.pool_sets.specs.declared.doors.Seat.{Seat}
 use Rattle.pool_sets.specs.Table.{Entry}
 use Rattle.pool_sets.specs.Sessions.{Session, idle_with, with_stand}
 use Rattle.pool_sets.specs.Plain.{is_seat, stays_open, with_fresh_sets, fresh_sessions, Ascends}
-use Rattle.pool_core.specs.PoolView.{holder_place, at_member}
+use Rattle.pool_core.specs.PoolView.{holder_place, at_member, out_session}
 use Rattle.pool_core.proofs.Ascending.{ascends_filter, ascends_map, ascends_put}
 use Rattle.pool_keys.specs.declared.index.Pair.{Pair}
 use Rattle.pool_keys.specs.Pairs.{Indexed, Holds, Grows, pair}
+use Rattle.pool_keys.specs.Digests.{Sharers}
 use Rattle.pool_index.specs.declared.berth.Berth.{Berth}
 use Rattle.pool_index.specs.declared.berth.Expiries.{Expiries}
-use Rattle.pool_index.specs.Told.{seen, told, settled, StandSince, sets_of, AreListed, IsListed, AreGathered, IsBerth, IsRoster}
-use Rattle.pool_index.specs.RosterView.{RiseIn, IsPlace, is_holder, IsHolder, out_session}
+use Rattle.pool_index.specs.Told.{sharers_of, seen, told, settled, StandSince, sets_of, AreListed, IsListed, AreGathered, IsBerth, IsRoster}
+use Rattle.pool_index.specs.RosterView.{RiseIn, IsPlace, is_holder, IsHolder}
 use Rattle.pool_index.proofs.Lazy.{expires_lazily, expires_each, settled_all, seen_number}
 use Rattle.pool_index.proofs.Settling.{since_lower, settled_berth}
-use Rattle.pool_index.proofs.Counting.{position_same, told_without}
+use Rattle.pool_index.proofs.Counting.{position_same, told_without, told_without_number}
 
 not_less : (n : ℕ) → nat_lt n n ≡ false
 not_less n = grind (arith, leb_tells)
@@ -100,20 +101,20 @@ module _ {S : Type 0} where
     moved_seen b member to = (elim (nat_lt b.stamp x.count) as (λ t. cond t (with_fresh_sets x.last ttl (at_member member to b.session)) (at_member member to b.session) ≡ at_member member to (cond t (with_fresh_sets x.last ttl b.session) b.session)) [ true ↦ refl | false ↦ refl ])
 
     -- the first of the settled sessions that holds a set is the first that is told to hold one
-    pub settled_place : (class : ℕ) (at : List Address) (key : SetKey) (bs : List (Berth (Session S))) → position (λ b. is_some (idle_with class at key b.session)) (map (settled x ttl x.count) bs) ≡ holder_place class at key (told x ttl bs)
-    settled_place class at key bs =
-        position_same (λ b. is_some (idle_with class at key b.session)) (λ b. is_some (idle_with class at key (seen x ttl b))) (settled x ttl x.count) (λ b. refl) bs
-        ∙ sym (position_same (λ o. is_some (idle_with class at key o)) (λ b. is_some (idle_with class at key (seen x ttl b))) (seen x ttl) (λ b. refl) bs)
+    pub settled_place : (class : ℕ) (at : List Address) (login : Option (List ℕ)) (key : SetKey) (bs : List (Berth (Session S))) → position (λ b. is_some (idle_with class at login key b.session)) (map (settled x ttl x.count) bs) ≡ holder_place class at login key (told x ttl bs)
+    settled_place class at login key bs =
+        position_same (λ b. is_some (idle_with class at login key b.session)) (λ b. is_some (idle_with class at login key (seen x ttl b))) (settled x ttl x.count) (λ b. refl) bs
+        ∙ sym (position_same (λ o. is_some (idle_with class at login key o)) (λ b. is_some (idle_with class at login key (seen x ttl b))) (seen x ttl) (λ b. refl) bs)
 
     -- the session at a place is one that holds a set, once it is settled
-    pub holder_at : (number class : ℕ) (at : List Address) (key : SetKey) (bs : List (Berth (Session S))) (place : ℕ) (b c : Berth (Session S)) → IsPlace number bs place → b ≡ get_or bs place b → c ≡ settled x ttl x.count b → is_holder class at key c.session ≡ true → IsHolder number class at key (told x ttl bs) place
-    holder_at number class at key bs place b c is e s h = record {
+    pub holder_at : (number class : ℕ) (at : List Address) (login : Option (List ℕ)) (key : SetKey) (bs : List (Berth (Session S))) (place : ℕ) (b c : Berth (Session S)) → IsPlace number bs place → b ≡ get_or bs place b → c ≡ settled x ttl x.count b → is_holder class at login key c.session ≡ true → IsHolder number class at login key (told x ttl bs) place
+    holder_at number class at login key bs place b c is e s h = record {
       within = subst (λ n. place < n) (sym (length-map bs (seen x ttl))) is.within;
       number_there = λ d. ap (λ o. o.number) (told_at place bs b d is.within e) ∙ seen_number x ttl b ∙ ap (λ y. y.session.number) e ∙ is.number_there b;
-      holds = λ d. ap (is_holder class at key) (told_at place bs b d is.within e ∙ sym (ap (λ y. y.session) s)) ∙ h;
+      holds = λ d. ap (is_holder class at login key) (told_at place bs b d is.within e ∙ sym (ap (λ y. y.session) s)) ∙ h;
     }
 
-  module _ (digest : ℕ → SetKey → ℕ) (index : Indexed) (x : Expiries) (oldest ttl : ℕ) where
+  module _ (digest : Sharers → SetKey → ℕ) (index : Indexed) (x : Expiries) (oldest ttl : ℕ) where
     -- the pool expires, and no session does
     pub told_lazily : (now session_ttl : ℕ) (bs : List (Berth (Session S))) → x.last ≤ now → now - oldest < session_ttl → IsRoster digest index x oldest ttl bs → told (record { count = x.count + 1; last = now }) ttl bs ≡ fresh_sessions now session_ttl ttl (told x ttl bs)
     told_lazily now session_ttl bs h k r =
@@ -155,6 +156,13 @@ module _ {S : Type 0} where
       each = All-filter (λ b. not (is_seat seat b.session)) (IsBerth digest index x.count oldest) bs r.each;
     }
 
+    -- a session of a number is dropped
+    pub roster_dropped : (number : ℕ) (bs : List (Berth (Session S))) → IsRoster digest index x oldest ttl bs → IsRoster digest index x oldest ttl (filter (λ b. not (b.session.number == number)) bs)
+    roster_dropped number bs r = record {
+      ascends = subst (Ascends 0 (2 ^ 64 - 1)) (sym (told_without_number x ttl number bs)) (ascends_filter 0 (2 ^ 64 - 1) (λ o. not (o.number == number)) (told x ttl bs) r.ascends);
+      each = All-filter (λ b. not (b.session.number == number)) (IsBerth digest index x.count oldest) bs r.each;
+    }
+
     -- a session is added
     pub roster_push : (bs : List (Berth (Session S))) (b : Berth (Session S)) → IsRoster digest index x oldest ttl bs → IsBerth digest index x.count oldest b → Ascends 0 (2 ^ 64 - 1) (told x ttl bs ++ seen x ttl b ∷ []) → IsRoster digest index x oldest ttl (bs ++ b ∷ [])
     roster_push bs b r is a = record {
@@ -171,7 +179,7 @@ module _ {S : Type 0} where
       each = All-set (IsBerth digest after x.count since) bs place c is (All-weaker (IsBerth digest index x.count oldest) (IsBerth digest after x.count since) (λ y k. record {
         stamped = k.stamped;
         since = since_lower since oldest y.session.stand earlier k.since;
-        listed = All-weaker (λ (f : Entry). Holds index (pair (digest y.session.class f.key) y.session.number)) (λ f. Holds after (pair (digest y.session.class f.key) y.session.number)) (λ f h. grows (pair (digest y.session.class f.key) y.session.number) h) (sets_of y.session.stand) k.listed;
+        listed = All-weaker (λ (f : Entry). Holds index (pair (digest (sharers_of y.session) f.key) y.session.number)) (λ f. Holds after (pair (digest (sharers_of y.session) f.key) y.session.number)) (λ f h. grows (pair (digest (sharers_of y.session) f.key) y.session.number) h) (sets_of y.session.stand) k.listed;
       }) bs r.each);
     }
 
@@ -179,12 +187,12 @@ module _ {S : Type 0} where
     pub lent_roster : (place : ℕ) (bs : List (Berth (Session S))) (b : Berth (Session S)) (spot : Address) → IsRoster digest index x oldest ttl bs → place < length bs → b ≡ get_or bs place b → IsRoster digest index x oldest ttl (set bs place (record { session = with_stand (Out spot) (seen x ttl b); stamp = x.count }))
     lent_roster place bs b spot r w e =
         roster_set index oldest place bs b (record { session = with_stand (Out spot) (seen x ttl b); stamp = x.count }) r (λ p h. h) (omega arith)
-        (record { stamped = omega arith; since = tt; listed = All-nil (λ (f : Entry). Holds index (pair (digest (seen x ttl b).class f.key) (seen x ttl b).number)) })
+        (record { stamped = omega arith; since = tt; listed = All-nil (λ (f : Entry). Holds index (pair (digest (sharers_of (seen x ttl b)) f.key) (seen x ttl b).number)) })
         (ap (λ o. o.number) (left_now x ttl (with_stand (Out spot) (seen x ttl b)))) w e
 
     -- a session is put to rest, and its sets are found
     pub rested_roster : (after : Indexed) (since place : ℕ) (bs : List (Berth (Session S))) (b : Berth (Session S)) (parts : Parts S) → IsRoster digest index x oldest ttl bs → place < length bs → b ≡ get_or bs place b →
-        Grows index after → AreListed (digest b.session.class) after b.session.number parts.table.entries → IsRoster digest after x (min oldest since) ttl (set bs place (record { session = with_stand (Idle parts since) b.session; stamp = x.count }))
+        Grows index after → AreListed (digest (sharers_of b.session)) after b.session.number parts.table.entries → IsRoster digest after x (min oldest since) ttl (set bs place (record { session = with_stand (Idle parts since) b.session; stamp = x.count }))
     rested_roster after since place bs b parts r w e grows listed =
         roster_set after (min oldest since) place bs b (record { session = with_stand (Idle parts since) b.session; stamp = x.count }) r grows (omega arith)
         (record { stamped = omega arith; since = omega arith; listed = listed })
@@ -194,15 +202,15 @@ module _ {S : Type 0} where
     pub moved_roster : (place : ℕ) (bs : List (Berth (Session S))) (b : Berth (Session S)) (member : ℕ) (to : Address) → IsRoster digest index x oldest ttl bs → place < length bs → b ≡ get_or bs place b → IsRoster digest index x oldest ttl (set bs place (record { session = at_member member to b.session; stamp = b.stamp }))
     moved_roster place bs b member to r w e =
         roster_set index oldest place bs b (record { session = at_member member to b.session; stamp = b.stamp }) r (λ p h. h) (omega arith)
-        (record { stamped = subst (λ y. y.stamp ≤ x.count) (sym e) (r.each place b w).stamped; since = tt; listed = All-nil (λ (f : Entry). Holds index (pair (digest b.session.class f.key) b.session.number)) })
+        (record { stamped = subst (λ y. y.stamp ≤ x.count) (sym e) (r.each place b w).stamped; since = tt; listed = All-nil (λ (f : Entry). Holds index (pair (digest (sharers_of b.session) f.key) b.session.number)) })
         (ap (λ o. o.number) (moved_seen x ttl b member to)) w e
 
     -- a session is dialled
-    pub dialled_roster : (bs : List (Berth (Session S))) (number class member : ℕ) (spot : Address) → IsRoster digest index x oldest ttl bs → Ascends 0 (2 ^ 64 - 1) (told x ttl bs ++ out_session number class member spot ∷ []) → IsRoster digest index x oldest ttl (bs ++ (record { session = out_session number class member spot; stamp = x.count }) ∷ [])
-    dialled_roster bs number class member spot r a =
-        roster_push bs (record { session = out_session number class member spot; stamp = x.count }) r
-        (record { stamped = omega arith; since = tt; listed = All-nil (λ (f : Entry). Holds index (pair (digest class f.key) number)) })
-        (subst (λ o. Ascends 0 (2 ^ 64 - 1) (told x ttl bs ++ o ∷ [])) (sym (left_now x ttl (out_session number class member spot))) a)
+    pub dialled_roster : (bs : List (Berth (Session S))) (number class member : ℕ) (login : Option (List ℕ)) (spot : Address) → IsRoster digest index x oldest ttl bs → Ascends 0 (2 ^ 64 - 1) (told x ttl bs ++ out_session number class login member spot ∷ []) → IsRoster digest index x oldest ttl (bs ++ (record { session = out_session number class login member spot; stamp = x.count }) ∷ [])
+    dialled_roster bs number class member login spot r a =
+        roster_push bs (record { session = out_session number class login member spot; stamp = x.count }) r
+        (record { stamped = omega arith; since = tt; listed = All-nil (λ (f : Entry). Holds index (pair (digest (class, login) f.key) number)) })
+        (subst (λ o. Ascends 0 (2 ^ 64 - 1) (told x ttl bs ++ o ∷ [])) (sym (left_now x ttl (out_session number class login member spot))) a)
 
     pub relisted : (after : Indexed) (bs : List (Berth (Session S))) → IsRoster digest index x oldest ttl bs → All (IsListed digest after) bs → IsRoster digest after x oldest ttl bs
     relisted after bs r listed = record {
@@ -215,7 +223,7 @@ module _ {S : Type 0} where
     roster_lacking after bs lacks r = relisted after bs r (λ k d w i e h whole. let bad : true ≡ false = sym whole ∙ lacks in cc)
 
     -- an index that is filled with the pairs of all sets
-    pub roster_filled : (after : Indexed) (ps : List Pair) (bs : List (Berth (Session S))) → IsPermutation ps after.pairs → All (λ b. AreGathered (digest b.session.class) ps b.session.number (sets_of b.session.stand)) bs → IsRoster digest index x oldest ttl bs → IsRoster digest after x oldest ttl bs
+    pub roster_filled : (after : Indexed) (ps : List Pair) (bs : List (Berth (Session S))) → IsPermutation ps after.pairs → All (λ b. AreGathered (digest (sharers_of b.session)) ps b.session.number (sets_of b.session.stand)) bs → IsRoster digest index x oldest ttl bs → IsRoster digest after x oldest ttl bs
     roster_filled after ps bs moved gathered r =
-        relisted after bs r (λ k d w. All-weaker (λ (e : Entry). Contains ps (pair (digest (get_or bs k d).session.class e.key) (get_or bs k d).session.number)) (λ e. Holds after (pair (digest (get_or bs k d).session.class e.key) (get_or bs k d).session.number))
-        (λ e there whole. Contains-permutation ps after.pairs (pair (digest (get_or bs k d).session.class e.key) (get_or bs k d).session.number) moved there) (sets_of (get_or bs k d).session.stand) (gathered k d w))
+        relisted after bs r (λ k d w. All-weaker (λ (e : Entry). Contains ps (pair (digest (sharers_of (get_or bs k d).session) e.key) (get_or bs k d).session.number)) (λ e. Holds after (pair (digest (sharers_of (get_or bs k d).session) e.key) (get_or bs k d).session.number))
+        (λ e there whole. Contains-permutation ps after.pairs (pair (digest (sharers_of (get_or bs k d).session) e.key) (get_or bs k d).session.number) moved there) (sets_of (get_or bs k d).session.stand) (gathered k d w))

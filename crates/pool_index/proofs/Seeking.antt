@@ -52,44 +52,44 @@ too_low : (n m : ℕ) → n ≤ m → m < n → ⊥
 too_low n m h k = omega arith
 
 -- the sets of a key are found under a digest
-abbrev pub AreFound : {S : Type 0} → Indexed → ℕ → ℕ → List Address → SetKey → List (Session S) → Type 0
-AreFound index digest class at key os = All (λ o. is_holder class at key o ≡ true → Contains index.pairs (pair digest o.number)) os
+abbrev pub AreFound : {S : Type 0} → Indexed → ℕ → ℕ → List Address → Option (List ℕ) → SetKey → List (Session S) → Type 0
+AreFound index digest class at login key os = All (λ o. is_holder class at login key o ≡ true → Contains index.pairs (pair digest o.number)) os
 
 -- no session of a lesser number holds a set of the key
-abbrev pub NoneUnder : {S : Type 0} → ℕ → List Address → SetKey → List (Session S) → ℕ → Type 0
-NoneUnder class at key os from = All (λ o. o.number < from → is_holder class at key o ≡ false) os
+abbrev pub NoneUnder : {S : Type 0} → ℕ → List Address → Option (List ℕ) → SetKey → List (Session S) → ℕ → Type 0
+NoneUnder class at login key os from = All (λ o. o.number < from → is_holder class at login key o ≡ false) os
 
-module _ {S : Type 0} (index : Indexed) (digest class : ℕ) (at : List Address) (key : SetKey) (os : List (Session S)) (up : RiseIn os) (found : AreFound index digest class at key os) where
+module _ {S : Type 0} (index : Indexed) (digest class : ℕ) (at : List Address) (login : Option (List ℕ)) (key : SetKey) (os : List (Session S)) (up : RiseIn os) (found : AreFound index digest class at login key os) where
   abbrev NoneBelow : ℕ → Type 0
-  NoneBelow from = NoneUnder class at key os from
+  NoneBelow from = NoneUnder class at login key os from
 
   -- a session that holds one has at least the number that is next
-  at_least : (from : ℕ) (n : Option ℕ) → NoneBelow from → IsNext index digest from n → (k : ℕ) (d : Session S) → k < length os → is_holder class at key (get_or os k d) ≡ true → IsAtMost n (get_or os k d).number
+  at_least : (from : ℕ) (n : Option ℕ) → NoneBelow from → IsNext index digest from n → (k : ℕ) (d : Session S) → k < length os → is_holder class at login key (get_or os k d) ≡ true → IsAtMost n (get_or os k d).number
   at_least from n none next k d w h = (elim (nat_lt (get_or os k d).number from) as (λ b. nat_lt (get_or os k d).number from ≡ b → IsAtMost n (get_or os k d).number) [
     | true ↦ λ t. let bad : true ≡ false = sym h ∙ none k d w (ltb-true (get_or os k d).number from t) in cc
     | false ↦ λ t. next.least (get_or os k d).number (ltb-false (get_or os k d).number from t) (up.small k d w) (found k d w h)
   ]) refl
 
-  pub place_found : (from n i : ℕ) → NoneBelow from → IsNext index digest from (Some n) → IsHolder n class at key os i → holder_place class at key os ≡ Some i
+  pub place_found : (from n i : ℕ) → NoneBelow from → IsNext index digest from (Some n) → IsHolder n class at login key os i → holder_place class at login key os ≡ Some i
   place_found from n i none next is =
-      place_is (is_holder class at key) os i is.within is.holds (λ k d l. false_from_ne_true (is_holder class at key (get_or os k d)) (λ t.
+      place_is (is_holder class at login key) os i is.within is.holds (λ k d l. false_from_ne_true (is_holder class at login key (get_or os k d)) (λ t.
       let low = subst (λ m. (get_or os k d).number < m) (is.number_there d) (up.order k i d l is.within) in
       too_low n (get_or os k d).number (at_least from (Some n) none next k d (omega arith) t) low))
 
-  pub none_found : (from : ℕ) → NoneBelow from → IsNext index digest from None → holder_place class at key os ≡ None
-  none_found from none next = no_place_is (is_holder class at key) os (λ k d w. false_from_ne_true (is_holder class at key (get_or os k d)) (λ t. at_least from None none next k d w t))
+  pub none_found : (from : ℕ) → NoneBelow from → IsNext index digest from None → holder_place class at login key os ≡ None
+  none_found from none next = no_place_is (is_holder class at login key) os (λ k d w. false_from_ne_true (is_holder class at login key (get_or os k d)) (λ t. at_least from None none next k d w t))
 
   one_case : (n m : ℕ) → n ≤ m → m < n + 1 → m ≡ n
   one_case n m h k = omega arith
 
   -- where that of the number that is next holds none, no session up to that number does
-  pub none_more : (from n : ℕ) → NoneBelow from → IsNext index digest from (Some n) → IsNoHolder n class at key os → NoneBelow (n + 1)
-  none_more from n none next lacks k d w l = false_from_ne_true (is_holder class at key (get_or os k d)) (λ t.
+  pub none_more : (from n : ℕ) → NoneBelow from → IsNext index digest from (Some n) → IsNoHolder n class at login key os → NoneBelow (n + 1)
+  none_more from n none next lacks k d w l = false_from_ne_true (is_holder class at login key (get_or os k d)) (λ t.
       let bad : true ≡ false = sym t ∙ lacks k d w (one_case n (get_or os k d).number (at_least from (Some n) none next k d w t) l) in cc)
 
   -- no number is above the last
-  pub none_last : (from : ℕ) → 2 ^ 64 ≤ from → NoneBelow from → holder_place class at key os ≡ None
-  none_last from h none = no_place_is (is_holder class at key) os (λ k d w. none k d w (lower (get_or os k d).number (2 ^ 64) from (up.small k d w) h))
+  pub none_last : (from : ℕ) → 2 ^ 64 ≤ from → NoneBelow from → holder_place class at login key os ≡ None
+  none_last from h none = no_place_is (is_holder class at login key) os (λ k d w. none k d w (lower (get_or os k d).number (2 ^ 64) from (up.small k d w) h))
 
 apart : (a b n : ℕ) → a < b → a ≡ n → b ≡ n → ⊥
 apart a b n h e f = omega arith
@@ -169,16 +169,16 @@ module _ {S : Type 0} where
         let same = one_place seat.number bs i up is k d w (seat_number seat (get_or bs k d).session t).0 in
         let bad : true ≡ false = sym t ∙ ap (λ m. is_seat seat (get_or bs m d).session) same ∙ spent d in cc))
 
-module _ {S : Type 0} (x : Expiries) (ttl number class : ℕ) (at : List Address) (key : SetKey) where
+module _ {S : Type 0} (x : Expiries) (ttl number class : ℕ) (at : List Address) (login : Option (List ℕ)) (key : SetKey) where
   -- no session has the number
-  pub no_number : (bs : List (Berth (Session S))) → All (λ b. b.session.number ≢ number) bs → IsNoHolder number class at key (told x ttl bs)
+  pub no_number : (bs : List (Berth (Session S))) → All (λ b. b.session.number ≢ number) bs → IsNoHolder number class at login key (told x ttl bs)
   no_number bs none =
-      All-map (λ (o : Session S). o.number ≡ number → is_holder class at key o ≡ false) (seen x ttl) bs
-      (All-weaker (λ (b : Berth (Session S)). b.session.number ≢ number) (λ b. (seen x ttl b).number ≡ number → is_holder class at key (seen x ttl b) ≡ false) (λ b other e. absurd (other (sym (seen_number x ttl b) ∙ e))) bs none)
+      All-map (λ (o : Session S). o.number ≡ number → is_holder class at login key o ≡ false) (seen x ttl) bs
+      (All-weaker (λ (b : Berth (Session S)). b.session.number ≢ number) (λ b. (seen x ttl b).number ≡ number → is_holder class at login key (seen x ttl b) ≡ false) (λ b other e. absurd (other (sym (seen_number x ttl b) ∙ e))) bs none)
 
   -- the session of the number holds none
-  pub one_number : (bs : List (Berth (Session S))) (i : ℕ) (b : Berth (Session S)) → Rises bs → IsPlace number bs i → b ≡ get_or bs i b → is_holder class at key (seen x ttl b) ≡ false → IsNoHolder number class at key (told x ttl bs)
+  pub one_number : (bs : List (Berth (Session S))) (i : ℕ) (b : Berth (Session S)) → Rises bs → IsPlace number bs i → b ≡ get_or bs i b → is_holder class at login key (seen x ttl b) ≡ false → IsNoHolder number class at login key (told x ttl bs)
   one_number bs i b up is e lacks =
-      All-map (λ (o : Session S). o.number ≡ number → is_holder class at key o ≡ false) (seen x ttl) bs (λ k d l f.
+      All-map (λ (o : Session S). o.number ≡ number → is_holder class at login key o ≡ false) (seen x ttl) bs (λ k d l f.
       let same = one_place number bs i up is k d l (sym (seen_number x ttl (get_or bs k d)) ∙ f) in
-      subst (λ c. is_holder class at key (seen x ttl c) ≡ false) (e ∙ get_or_default bs i b d is.within ∙ ap (λ m. get_or bs m d) (sym same)) lacks)
+      subst (λ c. is_holder class at login key (seen x ttl c) ≡ false) (e ∙ get_or_default bs i b d is.within ∙ ap (λ m. get_or bs m d) (sym same)) lacks)

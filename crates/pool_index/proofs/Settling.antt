@@ -14,9 +14,10 @@ use Rattle.pool_sets.specs.Plain.{without_old_sets, with_fresh_sets}
 use Rattle.pool_keys.specs.Pairs.{Indexed, Holds, pair}
 use Rattle.pool_index.specs.declared.berth.Berth.{Berth}
 use Rattle.pool_index.specs.declared.berth.Expiries.{Expiries}
-use Rattle.pool_index.specs.Told.{seen, told, settled, StandSince, sets_of, AreListed, IsBerth}
+use Rattle.pool_keys.specs.Digests.{Sharers}
+use Rattle.pool_index.specs.Told.{sharers_of, seen, told, settled, StandSince, sets_of, AreListed, IsBerth}
 use Rattle.pool_index.specs.RosterView.{Rises, RiseIn, MaySettle}
-use Rattle.pool_index.proofs.Lazy.{settled_same, seen_number, seen_of_class}
+use Rattle.pool_index.proofs.Lazy.{settled_same, seen_number, seen_sharers}
 
 le_by : (a b c : ℕ) → a ≤ b → b ≤ c → a ≤ c
 le_by a b c h k = omega arith
@@ -55,14 +56,14 @@ module _ {S : Type 0} where
   ])
 
   -- and so are those of a session that is settled
-  pub settled_listed : (digest : ℕ → SetKey → ℕ) (index : Indexed) (x : Expiries) (ttl : ℕ) (b : Berth (Session S)) →
-      AreListed (digest b.session.class) index b.session.number (sets_of b.session.stand) → AreListed (digest (seen x ttl b).class) index (seen x ttl b).number (sets_of (seen x ttl b).stand)
+  pub settled_listed : (digest : Sharers → SetKey → ℕ) (index : Indexed) (x : Expiries) (ttl : ℕ) (b : Berth (Session S)) →
+      AreListed (digest (sharers_of b.session)) index b.session.number (sets_of b.session.stand) → AreListed (digest (sharers_of (seen x ttl b))) index (seen x ttl b).number (sets_of (seen x ttl b).stand)
   settled_listed digest index x ttl b l =
-      subst (λ n. AreListed (digest (seen x ttl b).class) index n (sets_of (seen x ttl b).stand)) (sym (seen_number x ttl b))
-      (subst (λ m. AreListed (digest m) index b.session.number (sets_of (seen x ttl b).stand)) (sym (seen_of_class x ttl b)) (seen_listed (digest b.session.class) index b.session.number ttl x b l))
+      subst (λ n. AreListed (digest (sharers_of (seen x ttl b))) index n (sets_of (seen x ttl b).stand)) (sym (seen_number x ttl b))
+      (subst (λ m. AreListed (digest m) index b.session.number (sets_of (seen x ttl b).stand)) (sym (seen_sharers x ttl b)) (seen_listed (digest (sharers_of b.session)) index b.session.number ttl x b l))
 
   -- a session that is settled is one as before
-  pub settled_berth : (digest : ℕ → SetKey → ℕ) (index : Indexed) (x : Expiries) (ttl stamp count oldest : ℕ) (b : Berth (Session S)) → stamp ≤ count → StandSince oldest b.session.stand → AreListed (digest b.session.class) index b.session.number (sets_of b.session.stand) → IsBerth digest index count oldest (settled x ttl stamp b)
+  pub settled_berth : (digest : Sharers → SetKey → ℕ) (index : Indexed) (x : Expiries) (ttl stamp count oldest : ℕ) (b : Berth (Session S)) → stamp ≤ count → StandSince oldest b.session.stand → AreListed (digest (sharers_of b.session)) index b.session.number (sets_of b.session.stand) → IsBerth digest index count oldest (settled x ttl stamp b)
   settled_berth digest index x ttl stamp count oldest b h s l = record {
     stamped = h;
     since = seen_since x ttl oldest b s;
@@ -107,12 +108,12 @@ module _ {S : Type 0} where
     told_same [] (c ∷ cs) h = absurd h
     told_same (b ∷ bs) [] h = absurd h
 
-    one_berth : (digest : ℕ → SetKey → ℕ) (index : Indexed) (oldest : ℕ) (b c : Berth (Session S)) → MaySettle x ttl b c → IsBerth digest index x.count oldest b → IsBerth digest index x.count oldest c
+    one_berth : (digest : Sharers → SetKey → ℕ) (index : Indexed) (oldest : ℕ) (b c : Berth (Session S)) → MaySettle x ttl b c → IsBerth digest index x.count oldest b → IsBerth digest index x.count oldest c
     one_berth digest index oldest b c (inl h) k = subst (IsBerth digest index x.count oldest) (sym h) k
     one_berth digest index oldest b c (inr h) k = subst (IsBerth digest index x.count oldest) (sym h) (settled_berth digest index x ttl x.count x.count oldest b (omega arith) k.since k.listed)
 
     -- and keep what they keep
-    pub berths_same : (digest : ℕ → SetKey → ℕ) (index : Indexed) (oldest : ℕ) (bs cs : List (Berth (Session S))) → AllZip (MaySettle x ttl) bs cs → All (IsBerth digest index x.count oldest) bs → All (IsBerth digest index x.count oldest) cs
+    pub berths_same : (digest : Sharers → SetKey → ℕ) (index : Indexed) (oldest : ℕ) (bs cs : List (Berth (Session S))) → AllZip (MaySettle x ttl) bs cs → All (IsBerth digest index x.count oldest) bs → All (IsBerth digest index x.count oldest) cs
     berths_same digest index oldest [] [] h k = All-nil (IsBerth digest index x.count oldest)
     berths_same digest index oldest (b ∷ bs) (c ∷ cs) h k =
         All-cons (IsBerth digest index x.count oldest) c cs (one_berth digest index oldest b c h.0 (All-head (IsBerth digest index x.count oldest) b bs k)) (berths_same digest index oldest bs cs h.1 (All-tail (IsBerth digest index x.count oldest) b bs k))

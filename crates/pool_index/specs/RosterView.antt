@@ -1,9 +1,8 @@
 -- For contracts alone: the sessions of a pool, and how long sessions and sets stay unused
 -- (this project's own)
-use Rattle.std.specs.Prelude.{◌≡◌, ◌⊎◌, ℕ, ◌<◌, ◌^◌, Bool, true, false, List, [], slice_set, slice_index_or, length, is_some, All}
+use Rattle.std.specs.Prelude.{◌≡◌, ◌⊎◌, ℕ, ◌<◌, ◌^◌, Bool, true, false, List, [], slice_set, slice_index_or, length, is_some, All, Option}
 use Rattle.z_types.specs.declared.key.SetKey.{SetKey}
 use Rattle.z_types.specs.declared.address.Address.{Address}
-use Rattle.pool_sets.specs.declared.sessions.Stand.TheVariants.{Out}
 use Rattle.pool_sets.specs.Sessions.{Session, idle_with}
 use Rattle.pool_index.specs.declared.berth.Berth.{Berth}
 use Rattle.pool_index.specs.declared.berth.Expiries.{Expiries}
@@ -24,11 +23,6 @@ module _ {S : Type 0} where
   abbrev pub roster_of : ℕ → ℕ → RosterView S
   roster_of session_ttl set_ttl =
       record { sessions = []; session_ttl = session_ttl; set_ttl = set_ttl }
-
-  -- a session that is out
-  abbrev pub out_session : ℕ → ℕ → ℕ → Address → Session S
-  out_session number class member address =
-      record { number = number; class = class; member = member; stand = Out address }
 
   -- one session is changed, at its place
   abbrev pub Changes : (Session S → Session S) → ℕ → RosterView S → RosterView S → Type 0
@@ -53,21 +47,22 @@ module _ {S : Type 0} where
         → (slice_index_or os i d).number < (slice_index_or os j d).number
     pub small : All (λ o. o.number < 2 ^ 64) os
 
-  -- whether a session is idle and of the class, and holds a set of the key
-  abbrev pub is_holder : ℕ → List Address → SetKey → Session S → Bool
-  is_holder class at key o = is_some (idle_with class at key o)
+  -- whether a session is idle and of the class and login, and holds a set of the key
+  abbrev pub is_holder : ℕ → List Address → Option (List ℕ) → SetKey → Session S → Bool
+  is_holder class at login key o = is_some (idle_with class at login key o)
 
   -- the session of a number, at its place, is one
-  pub record IsHolder (number class : ℕ) (at : List Address) (key : SetKey) (os : List (Session S))
-      (place : ℕ) : Type 0 where
+  pub record IsHolder (number class : ℕ) (at : List Address) (login : Option (List ℕ))
+      (key : SetKey) (os : List (Session S)) (place : ℕ) : Type 0 where
     pub within : place < length os
     pub number_there : (d : Session S) → (slice_index_or os place d).number ≡ number
-    pub holds : (d : Session S) → is_holder class at key (slice_index_or os place d) ≡ true
+    pub holds : (d : Session S) → is_holder class at login key (slice_index_or os place d) ≡ true
 
   -- the session of a number is none
-  abbrev pub IsNoHolder : ℕ → ℕ → List Address → SetKey → List (Session S) → Type 0
-  IsNoHolder number class at key os =
-      All (λ o. o.number ≡ number → is_holder class at key o ≡ false) os
+  abbrev pub IsNoHolder : ℕ → ℕ → List Address → Option (List ℕ) → SetKey → List (Session S)
+      → Type 0
+  IsNoHolder number class at login key os =
+      All (λ o. o.number ≡ number → is_holder class at login key o ≡ false) os
 
   -- a session that was left as it was, or as it is told
   abbrev pub MaySettle : Expiries → ℕ → Berth (Session S) → Berth (Session S) → Type 0

@@ -10,6 +10,7 @@ use Rattle.pool_sets.specs.Sessions.{Session}
 use Rattle.pool_sets.specs.Plain.{Ascends, with_fresh_sets}
 use Rattle.pool_keys.specs.declared.index.Pair.{Pair}
 use Rattle.pool_keys.specs.Pairs.{Indexed, Holds, pair}
+use Rattle.pool_keys.specs.Digests.{Sharers}
 use Rattle.pool_index.specs.declared.berth.Berth.{Berth}
 use Rattle.pool_index.specs.declared.berth.Expiries.{Expiries}
 
@@ -37,6 +38,10 @@ pub record IsQuiet (x : Expiries) (oldest now ttl : ℕ) : Type 0 where
   pub young : now - oldest < ttl
 
 module _ {S : Type 0} where
+  -- who may share a session: its class and its login
+  abbrev pub sharers_of : Session S → Sharers
+  sharers_of o = (o.class, o.login)
+
   -- a session is told as it was left; where the pool expired since then, as it is after the last
   -- time
   abbrev pub seen : Expiries → ℕ → Berth (Session S) → Session S
@@ -60,26 +65,26 @@ module _ {S : Type 0} where
   sets_of (Out address) = []
 
   -- the sets of a session are found, where it is idle
-  abbrev pub IsListed : (ℕ → SetKey → ℕ) → Indexed → Berth (Session S) → Type 0
+  abbrev pub IsListed : (Sharers → SetKey → ℕ) → Indexed → Berth (Session S) → Type 0
   IsListed digest index b =
-      AreListed (digest b.session.class) index b.session.number (sets_of b.session.stand)
+      AreListed (digest (sharers_of b.session)) index b.session.number (sets_of b.session.stand)
 
   -- no idle session of a pair's number has a set of its digest
-  abbrev pub IsSpent : (ℕ → SetKey → ℕ) → Pair → List (Berth (Session S)) → Type 0
+  abbrev pub IsSpent : (Sharers → SetKey → ℕ) → Pair → List (Berth (Session S)) → Type 0
   IsSpent digest one bs =
       All (λ b. b.session.number ≡ one.number →
-      LacksDigest (digest b.session.class) one.digest (sets_of b.session.stand)) bs
+      LacksDigest (digest (sharers_of b.session)) one.digest (sets_of b.session.stand)) bs
 
   -- a session that was left no later than the last expiry, not before that moment where it is idle,
   -- and whose sets are found
-  pub record IsBerth (digest : ℕ → SetKey → ℕ) (index : Indexed) (count oldest : ℕ)
+  pub record IsBerth (digest : Sharers → SetKey → ℕ) (index : Indexed) (count oldest : ℕ)
       (b : Berth (Session S)) : Type 0 where
     pub stamped : b.stamp ≤ count
     pub since : StandSince oldest b.session.stand
     pub listed : IsListed digest index b
 
   -- sessions in the order of their numbers, each of them such
-  pub record IsRoster (digest : ℕ → SetKey → ℕ) (index : Indexed) (x : Expiries) (oldest ttl : ℕ)
-      (bs : List (Berth (Session S))) : Type 0 where
+  pub record IsRoster (digest : Sharers → SetKey → ℕ) (index : Indexed) (x : Expiries)
+      (oldest ttl : ℕ) (bs : List (Berth (Session S))) : Type 0 where
     pub ascends : Ascends 0 (2 ^ 64 - 1) (told x ttl bs)
     pub each : All (IsBerth digest index x.count oldest) bs

@@ -1,8 +1,8 @@
 //! The sessions of a pool in the order of their numbers, as it left them.
 
-ghost use Rattle.std.specs.Prelude.{◌≡◌, ◌≢◌, ◌≤◌, ◌<◌, ◌^◌, true, false, nat_lt, not, filter, map, All, length, position, is_some, count_by, option_copied, IfSome, IsNone, OnOk, OnErr, ◌++◌, ◌∷◌, []};
+ghost use Rattle.std.specs.Prelude.{◌≡◌, ◌≢◌, ◌==◌, ◌≤◌, ◌<◌, ◌^◌, true, false, nat_lt, not, filter, map, All, length, position, is_some, count_by, option_copied, IfSome, IsNone, OnOk, OnErr, ◌++◌, ◌∷◌, []};
 ghost use Rattle.std.specs.List.Sorted.{IsPartitionPoint};
-ghost use Rattle.pool_sets.specs.Sessions.{idle_in, idle_with, in_class, member_for};
+ghost use Rattle.pool_sets.specs.Sessions.{idle_in, idle_for, idle_with, in_class, member_for};
 ghost use Rattle.pool_sets.specs.Plain.{stays_open, is_seat};
 ghost use Rattle.pool_core.specs.Loads.{is_counted, is_counted_for};
 ghost use Rattle.pool_index.specs.Told.{settled, StandSince};
@@ -11,9 +11,11 @@ ghost use Rattle.pool_index.specs.RosterView.{Rises, IsPlace};
 use crate::Berth;
 use crate::berth::{Expiries, settle};
 use load_balance::least;
-use pool_core::{Spot, holds_in, is_idle_in, is_in_class, is_of_member, is_seat, stays};
+use pool_core::{
+    Spot, holds_in, is_idle_for, is_idle_in, is_in_class, is_of_member, is_seat, stays,
+};
 use pool_sets::{Open, Pooled, Seat, Stand};
-use z_types::{Address, Memory, SetKey, Sitting, World};
+use z_types::{Address, Memory, SetKey, Sitting, Text, World};
 
 /// Leaves each session as it is told.
 pub fn settle_each<W: World, S: Sitting<W>>(
@@ -38,6 +40,17 @@ pub fn drop_old<W: World, S: Sitting<W>>(
     ensures { berths.new.items ≡ filter (λ b. stays_open now ttl b.session) berths.old.items }
 {
     berths.retain(|b| stays(&b.session, now, ttl));
+}
+
+/// Drops the session of a number.
+pub fn drop_number<W: World, S: Sitting<W>>(
+    berths: &mut Vec<Berth<Open<Pooled<W, S>, Spot>>>,
+    number: u64,
+)
+    ensures { berths.new.items
+        ≡ filter (λ b. not (b.session.number == number)) berths.old.items }
+{
+    berths.retain(|b| b.session.number != number);
 }
 
 /// Drops the session of the seat.
@@ -147,19 +160,36 @@ pub fn idle_place<W: World, S: Sitting<W>>(
         .position(|b| is_idle_in(&b.session, class, at))
 }
 
-/// The place of the first of them that holds a set of the key, as it was left.
+/// The place of the first of them that is one of the login.
+pub fn own_place<W: World, S: Sitting<W>>(
+    berths: &[Berth<Open<Pooled<W, S>, Spot>>],
+    class: u32,
+    at: &[Address],
+    login: Option<&Text>,
+) -> Option<usize>
+    ensures { result ≡ position
+        (λ b. is_some (idle_for class at.now (option_copied login.entry) b.session)) berths.now }
+{
+    berths
+        .iter()
+        .position(|b| is_idle_for(&b.session, class, at, login))
+}
+
+/// The place of the first of those that holds a set of the key, as it was left.
 pub fn holder_place<W: World, S: Sitting<W>>(
     berths: &[Berth<Open<Pooled<W, S>, Spot>>],
     class: u32,
     at: &[Address],
+    login: Option<&Text>,
     key: &SetKey,
 ) -> Option<usize>
-    ensures { result
-        ≡ position (λ b. is_some (idle_with class at.now key.now b.session)) berths.now }
+    ensures { result ≡ position
+        (λ b. is_some (idle_with class at.now (option_copied login.entry) key.now b.session))
+        berths.now }
 {
     berths
         .iter()
-        .position(|b| holds_in(&b.session, class, at, key))
+        .position(|b| holds_in(&b.session, class, at, login, key))
 }
 
 /// How many sessions of the class are open.

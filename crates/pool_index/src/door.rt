@@ -10,7 +10,7 @@ use crate::IndexedPool;
 use pool_keys::Digest;
 use pool_sets::{Door, Parts, Seat, Taken};
 use std::alloc::Global;
-use z_types::{Address, SetKey, Sitting, World};
+use z_types::{Address, SetKey, Sitting, Text, World};
 
 impl<W: World, S: Sitting<W>, D: Digest> Door<W, S> for IndexedPool<W, S, D> {
     ghost pool = { λ p. Some p.pool };
@@ -22,13 +22,14 @@ impl<W: World, S: Sitting<W>, D: Digest> Door<W, S> for IndexedPool<W, S, D> {
         alloc: Global,
         class: u32,
         at: &[Address],
+        login: Option<&Text>,
         want: Option<&SetKey>,
         now: u64,
     ) -> Taken<S> {
         self.forget_old(now);
         match want {
-            Some(key) => self.take_for(alloc, class, at, key, now),
-            None => self.take_any(alloc, class, at),
+            Some(key) => self.take_for(alloc, class, at, login, key, now),
+            None => self.take_any(alloc, class, at, login),
         }
     }
 

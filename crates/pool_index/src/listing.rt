@@ -3,58 +3,93 @@
 ghost use Rattle.std.specs.Prelude.{◌≡◌, ◌<◌, true, false, not, nat_eq, ◌∷◌, [], length, slice_index_or, All, OnOk};
 ghost use Rattle.pool_sets.specs.Table.{Entry};
 ghost use Rattle.pool_keys.specs.Pairs.{Grows};
-ghost use Rattle.pool_index.specs.Told.{AreListed, AreGathered, LacksDigest, Gains, sets_of};
+ghost use Rattle.pool_index.specs.Told.{AreListed, AreGathered, LacksDigest, Gains, sets_of, sharers_of};
 
 use crate::Berth;
 use pool_core::Spot;
 use pool_keys::{Digest, KeyIndex, Pair};
 use pool_sets::{Open, Pooled, SetTable, Stand};
-use z_types::{Memory, Sitting, World};
+use z_types::{Memory, SetKey, Sitting, Text, World};
+
+/// The digest of a key of a class and a login, or none.
+fn digest_of<D: Digest>(class: u32, login: &Option<Text>, key: &SetKey) -> u64
+    ensures { result ≡ D.digest (class, login.now) key.now }
+{
+    D::digest(class, login.as_ref(), key)
+}
 
 /// Puts a session's set at a place into the index, where there is one.
-fn list_one<D: Digest>(index: &mut KeyIndex, table: &SetTable, place: u32, class: u32, number: u64)
+fn list_one<D: Digest>(
+    index: &mut KeyIndex,
+    table: &SetTable,
+    place: u32,
+    class: u32,
+    login: &Option<Text>,
+    number: u64,
+)
     requires within { place < length table.now.entries }
     ensures grows { Grows index.old index.new }
-    ensures listed { (d : Entry) → AreListed (D.digest class) index.new number
-        (slice_index_or table.now.entries place d ∷ []) }
+    ensures listed { (d : Entry) → AreListed (D.digest (class, login.now))
+        index.new number (slice_index_or table.now.entries place d ∷ []) }
 {
     if let Some((key, _)) = table.entry(place) {
         index.admit(Pair {
-            digest: D::digest(class, key),
+            digest: digest_of::<D>(class, login, key),
             number,
         });
     }
 }
 
 /// Puts all sets of a session into the index.
-pub fn list_all<D: Digest>(index: &mut KeyIndex, table: &SetTable, class: u32, number: u64)
+pub fn list_all<D: Digest>(
+    index: &mut KeyIndex,
+    table: &SetTable,
+    class: u32,
+    login: &Option<Text>,
+    number: u64,
+)
     ensures grows { Grows index.old index.new }
-    ensures listed { AreListed (D.digest class) index.new number table.now.entries }
+    ensures listed { AreListed (D.digest (class, login.now))
+        index.new number table.now.entries }
 {
     for place in 0..table.len() {
-        list_one::<D>(index, table, place, class, number);
+        list_one::<D>(index, table, place, class, login, number);
     }
 }
 
 /// Whether a session's set at a place has another digest, where there is one.
-fn differs<D: Digest>(table: &SetTable, place: u32, class: u32, digest: u64) -> bool
+fn differs<D: Digest>(
+    table: &SetTable,
+    place: u32,
+    class: u32,
+    login: &Option<Text>,
+    digest: u64,
+) -> bool
     requires within { place < length table.now.entries }
     ensures { (d : Entry) → result
-        ≡ not (nat_eq (D.digest class (slice_index_or table.now.entries place d).key) digest) }
+        ≡ not (nat_eq (D.digest (class, login.now)
+        (slice_index_or table.now.entries place d).key) digest) }
 {
     match table.entry(place) {
-        Some((key, _)) => D::digest(class, key) != digest,
+        Some((key, _)) => digest_of::<D>(class, login, key) != digest,
         None => true,
     }
 }
 
 /// Whether no set of a session has that digest.
-pub fn lacks_digest<D: Digest>(table: &SetTable, class: u32, digest: u64) -> bool
-    ensures lacks { result ≡ true → LacksDigest (D.digest class) digest table.now.entries }
-    ensures has { result ≡ false → LacksDigest (D.digest class) digest table.now.entries → ⊥ }
+pub fn lacks_digest<D: Digest>(
+    table: &SetTable,
+    class: u32,
+    login: &Option<Text>,
+    digest: u64,
+) -> bool
+    ensures lacks { result ≡ true → LacksDigest (D.digest (class, login.now))
+        digest table.now.entries }
+    ensures has { result ≡ false → LacksDigest (D.digest (class, login.now))
+        digest table.now.entries → ⊥ }
 {
     for place in 0..table.len() {
-        if !differs::<D>(table, place, class, digest) {
+        if !differs::<D>(table, place, class, login, digest) {
             return false;
         }
     }
@@ -67,17 +102,18 @@ fn gather_one<D: Digest>(
     table: &SetTable,
     place: u32,
     class: u32,
+    login: &Option<Text>,
     number: u64,
 ) -> Result<(), Memory>
     requires within { place < length table.now.entries }
     ensures gains { OnOk result (Gains pairs.old.items pairs.new.items) }
     ensures gathered { OnOk result ((d : Entry)
-        → AreGathered (D.digest class) pairs.new.items number
+        → AreGathered (D.digest (class, login.now)) pairs.new.items number
         (slice_index_or table.now.entries place d ∷ [])) }
 {
     if let Some((key, _)) = table.entry(place) {
         let pair = Pair {
-            digest: D::digest(class, key),
+            digest: digest_of::<D>(class, login, key),
             number,
         };
         let Ok(()) = pairs.push(pair) else {
@@ -92,14 +128,16 @@ fn gather<D: Digest>(
     pairs: &mut Vec<Pair>,
     table: &SetTable,
     class: u32,
+    login: &Option<Text>,
     number: u64,
 ) -> Result<(), Memory>
     ensures gains { OnOk result (Gains pairs.old.items pairs.new.items) }
     ensures gathered { OnOk result
-        (AreGathered (D.digest class) pairs.new.items number table.now.entries) }
+        (AreGathered (D.digest (class, login.now))
+        pairs.new.items number table.now.entries) }
 {
     for place in 0..table.len() {
-        let Ok(()) = gather_one::<D>(pairs, table, place, class, number) else {
+        let Ok(()) = gather_one::<D>(pairs, table, place, class, login, number) else {
             return Err(Memory);
         };
     }
@@ -112,7 +150,7 @@ fn gather_from<W: World, S: Sitting<W>, D: Digest>(
     session: &Open<Pooled<W, S>, Spot>,
 ) -> Result<(), Memory>
     ensures gains { OnOk result (Gains pairs.old.items pairs.new.items) }
-    ensures gathered { OnOk result (AreGathered (D.digest session.now.class) pairs.new.items
+    ensures gathered { OnOk result (AreGathered (D.digest (sharers_of session.now)) pairs.new.items
         session.now.number (sets_of session.now.stand)) }
 {
     match &session.stand {
@@ -120,6 +158,7 @@ fn gather_from<W: World, S: Sitting<W>, D: Digest>(
             pairs,
             pooled.table(),
             session.class,
+            &session.login,
             session.number,
         ),
         Stand::Out { .. } => Ok(()),
@@ -131,8 +170,8 @@ pub fn gather_all<W: World, S: Sitting<W>, D: Digest>(
     pairs: &mut Vec<Pair>,
     berths: &[Berth<Open<Pooled<W, S>, Spot>>],
 ) -> Result<(), Memory>
-    ensures gathered { OnOk result (All (λ b. AreGathered (D.digest b.session.class) pairs.new.items
-        b.session.number (sets_of b.session.stand)) berths.now) }
+    ensures gathered { OnOk result (All (λ b. AreGathered (D.digest (sharers_of b.session))
+        pairs.new.items b.session.number (sets_of b.session.stand)) berths.now) }
 {
     for berth in berths {
         let Ok(()) = gather_from::<W, S, D>(pairs, &berth.session) else {

@@ -2,20 +2,21 @@
 
 ghost use Rattle.std.specs.Prelude.{◌≡◌, ◌≤◌, ◌<◌, ◌^◌, ◌-◌, ◌++◌, ◌∷◌, [], true, length, position, filter, IfSome, OnOk, OnErr, option_copied};
 ghost use Rattle.std.specs.List.{HoldsAt};
+ghost use Rattle.z_types.specs.Logins.{inner};
 ghost use Rattle.z_types.specs.Members.{IsMember};
 ghost use Rattle.pool_sets.specs.declared.sessions.Stand.TheVariants.{Idle, Out};
-ghost use Rattle.pool_sets.specs.Sessions.{idle_parts, is_out, with_stand, open_of, member_for};
+ghost use Rattle.pool_sets.specs.Sessions.{idle_parts, is_out, with_stand, without_number, open_of, member_for};
 ghost use Rattle.pool_sets.specs.Plain.{Ascends, fresh_sessions, is_seat, without_seat};
 ghost use Rattle.pool_core.specs.Loads.{is_counted};
-ghost use Rattle.pool_core.specs.PoolView.{idle_place, holder_place, at_member};
+ghost use Rattle.pool_core.specs.PoolView.{idle_number, own_place, holder_place, out_session, at_member};
 ghost use Rattle.pool_index.specs.Told.{IsQuiet};
-ghost use Rattle.pool_index.specs.RosterView.{with_told, Changes, roster_of, out_session};
+ghost use Rattle.pool_index.specs.RosterView.{with_told, Changes, roster_of};
 
 use crate::Berth;
 use crate::berth::{Expiries, lend_out};
 use crate::berths::{
-    add, drop_old, drop_seat, holder_place, idle_place, member_for, oldest, open_in, seat_place,
-    settle_each,
+    add, drop_number, drop_old, drop_seat, holder_place, idle_place, member_for, oldest, open_in,
+    own_place, seat_place, settle_each,
 };
 use crate::listing::{gather_all, list_all};
 use crate::seek::first_holder;
@@ -24,7 +25,7 @@ use pool_keys::{Digest, KeyIndex};
 use pool_sets::{Open, Pooled, Seat, Stand};
 use std::alloc::Global;
 use std::marker::{Model, PhantomData};
-use z_types::{Address, Memory, SetKey, Sitting, World};
+use z_types::{Address, Memory, SetKey, Sitting, Text, World};
 
 /// The sessions of a pool in the order of their numbers. The sets of idle ones are found by the digests
 /// of their keys. Where the pool expires and no session does, none is looked at: what is told of it is
@@ -128,44 +129,64 @@ impl<W: World, S: Sitting<W>, D: Digest> Roster<W, S, D> {
         self.berths[place].session.number
     }
 
-    /// A spot with the address of the session at a place, where it is idle.
+    /// A spot with the address of the session at a place, without its login, where it is idle.
     pub fn spot(&self, alloc: Global, place: usize) -> Option<Spot>
         requires within { place < length self.now.sessions }
         ensures { IfSome result (λ spot. HoldsAt
-            (λ o. IfSome (idle_parts o.stand) (λ p. spot ≡ p.address)) self.now.sessions place) }
+            (λ o. IfSome (idle_parts o.stand) (λ p. spot ≡ inner p.address))
+            self.now.sessions place) }
     {
         spot_for(alloc, &self.berths[place].session)
     }
 
-    /// The place of the first idle session of the class.
-    pub fn idle(&self, class: u32, at: &[Address]) -> Option<usize>
-        ensures { result ≡ idle_place class at.now self.now.sessions }
+    /// The number of the first idle session of the class, whatever its login.
+    pub fn idle(&self, class: u32, at: &[Address]) -> Option<u64>
+        ensures { result ≡ idle_number class at.now self.now.sessions }
     {
-        idle_place(self.berths.as_slice(), class, at)
+        let Some(place) = idle_place(self.berths.as_slice(), class, at) else {
+            return None;
+        };
+        Some(self.berths[place].session.number)
     }
 
-    /// The place of the first of them that holds a set of the key.
+    /// The place of the first idle session of the class and login.
+    pub fn own(&self, class: u32, at: &[Address], login: Option<&Text>) -> Option<usize>
+        ensures { result ≡ own_place class at.now (option_copied login.entry) self.now.sessions }
+    {
+        own_place(self.berths.as_slice(), class, at, login)
+    }
+
+    /// The place of the first of those that holds a set of the key.
     pub fn holder(
         &mut self,
         alloc: Global,
         class: u32,
         at: &[Address],
+        login: Option<&Text>,
         key: &SetKey,
     ) -> Option<usize>
-        ensures place { result ≡ holder_place class at.now key.now self.old.sessions }
+        ensures place { result ≡ holder_place class at.now (option_copied login.entry) key.now
+            self.old.sessions }
         ensures same { self.new ≡ self.old }
     {
         self.complete(alloc);
-        self.holder_found(class, at, key)
+        self.holder_found(class, at, login, key)
     }
 
     /// The same by the index, where it is whole.
-    fn holder_found(&mut self, class: u32, at: &[Address], key: &SetKey) -> Option<usize>
-        ensures place { result ≡ holder_place class at.now key.now self.old.sessions }
+    fn holder_found(
+        &mut self,
+        class: u32,
+        at: &[Address],
+        login: Option<&Text>,
+        key: &SetKey,
+    ) -> Option<usize>
+        ensures place { result ≡ holder_place class at.now (option_copied login.entry) key.now
+            self.old.sessions }
         ensures same { self.new ≡ self.old }
     {
         if !self.index.is_whole() {
-            return self.holder_searched(class, at, key);
+            return self.holder_searched(class, at, login, key);
         }
         first_holder::<W, S, D>(
             &mut self.berths,
@@ -174,6 +195,7 @@ impl<W: World, S: Sitting<W>, D: Digest> Roster<W, S, D> {
             self.set_ttl,
             class,
             at,
+            login,
             key,
         )
     }
@@ -193,13 +215,20 @@ impl<W: World, S: Sitting<W>, D: Digest> Roster<W, S, D> {
     }
 
     /// The same by a look at each session.
-    fn holder_searched(&mut self, class: u32, at: &[Address], key: &SetKey) -> Option<usize>
-        ensures place { result ≡ holder_place class at.now key.now self.old.sessions }
+    fn holder_searched(
+        &mut self,
+        class: u32,
+        at: &[Address],
+        login: Option<&Text>,
+        key: &SetKey,
+    ) -> Option<usize>
+        ensures place { result ≡ holder_place class at.now (option_copied login.entry) key.now
+            self.old.sessions }
         ensures same { self.new ≡ self.old }
     {
         let Expiries { count, .. } = self.expiries;
         settle_each(&mut self.berths, self.expiries, self.set_ttl, count);
-        holder_place(self.berths.as_slice(), class, at, key)
+        holder_place(self.berths.as_slice(), class, at, login, key)
     }
 
     /// How many sessions of the class are open.
@@ -252,6 +281,7 @@ impl<W: World, S: Sitting<W>, D: Digest> Roster<W, S, D> {
             &mut self.index,
             pooled.table(),
             berth.session.class,
+            &berth.session.login,
             berth.session.number,
         );
         self.oldest = self.oldest.min(since);
@@ -269,19 +299,19 @@ impl<W: World, S: Sitting<W>, D: Digest> Roster<W, S, D> {
         move_to(&mut self.berths[place].session, member, to);
     }
 
-    /// Adds a session that is out, with room for that many pairs for each session.
+    /// Adds a session that is out for the first member, with room for that many pairs for each session.
     pub fn add_out(
         &mut self,
         number: u64,
         class: u32,
-        member: u32,
+        login: Option<Text>,
         address: Spot,
         pairs: usize,
     ) -> Result<(), Memory>
         requires next { Ascends 0 (2 ^ 64 - 1)
-            (self.old.sessions ++ out_session number class member address ∷ []) }
+            (self.old.sessions ++ out_session number class login 0 address ∷ []) }
         ensures ok { OnOk result (self.new ≡ with_told
-            (self.old.sessions ++ out_session number class member address ∷ []) self.old) }
+            (self.old.sessions ++ out_session number class login 0 address ∷ []) self.old) }
         ensures err { OnErr result (self.new ≡ self.old) }
     {
         let room = pairs.saturating_mul(self.berths.len().saturating_add(1));
@@ -292,7 +322,8 @@ impl<W: World, S: Sitting<W>, D: Digest> Roster<W, S, D> {
             session: Open {
                 number,
                 class,
-                member,
+                login,
+                member: 0,
                 stand: Stand::Out { address },
             },
             stamp: self.expiries.count,
@@ -301,6 +332,13 @@ impl<W: World, S: Sitting<W>, D: Digest> Roster<W, S, D> {
             return Err(Memory);
         };
         Ok(())
+    }
+
+    /// Drops the session of a number.
+    pub fn drop_number(&mut self, number: u64)
+        ensures { self.new ≡ with_told (without_number number self.old.sessions) self.old }
+    {
+        drop_number(&mut self.berths, number);
     }
 
     /// Drops the session of the seat.

@@ -1,6 +1,6 @@
 //! The first session that holds a set of a key, by the digest of the key.
 
-ghost use Rattle.std.specs.Prelude.{◌≡◌, true, false, All, IfSome, IsNone};
+ghost use Rattle.std.specs.Prelude.{◌≡◌, true, false, option_copied, All, IfSome, IsNone};
 ghost use Rattle.std.specs.List.{AllZip};
 ghost use Rattle.pool_core.specs.PoolView.{holder_place};
 ghost use Rattle.pool_index.specs.Told.{told, IsListed, IsSpent};
@@ -13,7 +13,7 @@ use crate::listing::lacks_digest;
 use pool_core::{Spot, holds_in};
 use pool_keys::{Digest, KeyIndex, Pair};
 use pool_sets::{Open, Pooled, Stand};
-use z_types::{Address, SetKey, Sitting, World};
+use z_types::{Address, SetKey, Sitting, Text, World};
 
 /// The place of the session of a number, where it is idle and of the class and holds a set of the key.
 fn holder_of<W: World, S: Sitting<W>>(
@@ -23,20 +23,23 @@ fn holder_of<W: World, S: Sitting<W>>(
     ttl: u64,
     class: u32,
     at: &[Address],
+    login: Option<&Text>,
     key: &SetKey,
 ) -> Option<usize>
     requires order { RiseIn (told expiries ttl berths.old.items) }
     ensures some { IfSome result
-        (IsHolder number class at.now key.now (told expiries ttl berths.old.items)) }
+        (IsHolder number class at.now (option_copied login.entry) key.now
+        (told expiries ttl berths.old.items)) }
     ensures none { IsNone result
-        → IsNoHolder number class at.now key.now (told expiries ttl berths.old.items) }
+        → IsNoHolder number class at.now (option_copied login.entry) key.now
+        (told expiries ttl berths.old.items) }
     ensures berths { AllZip (MaySettle expiries ttl) berths.old.items berths.new.items }
 {
     let Some(place) = place_of(berths.as_slice(), number) else {
         return None;
     };
     settle(&mut berths[place], expiries, ttl, expiries.count);
-    if holds_in(&berths[place].session, class, at, key) {
+    if holds_in(&berths[place].session, class, at, login, key) {
         Some(place)
     } else {
         None
@@ -58,7 +61,7 @@ fn is_spent<W: World, S: Sitting<W>, D: Digest>(
     let session = &berths[place].session;
     match &session.stand {
         Stand::Idle { pooled, .. } => {
-            lacks_digest::<D>(pooled.table(), session.class, pair.digest)
+            lacks_digest::<D>(pooled.table(), session.class, &session.login, pair.digest)
         }
         Stand::Out { .. } => true,
     }
@@ -89,23 +92,25 @@ pub fn first_holder<W: World, S: Sitting<W>, D: Digest>(
     ttl: u64,
     class: u32,
     at: &[Address],
+    login: Option<&Text>,
     key: &SetKey,
 ) -> Option<usize>
     requires order { RiseIn (told expiries ttl berths.old.items) }
     requires whole { index.old.whole ≡ true }
     requires listed { All (IsListed D.digest index.old) berths.old.items }
     ensures place { result
-        ≡ holder_place class at.now key.now (told expiries ttl berths.old.items) }
+        ≡ holder_place class at.now (option_copied login.entry) key.now
+        (told expiries ttl berths.old.items) }
     ensures berths { AllZip (MaySettle expiries ttl) berths.old.items berths.new.items }
     ensures listed { All (IsListed D.digest index.new) berths.new.items }
 {
-    let digest = D::digest(class, key);
+    let digest = D::digest(class, login, key);
     let mut from = 0;
     loop {
         let Some(number) = index.next(digest, from) else {
             return None;
         };
-        if let Some(place) = holder_of(berths, number, expiries, ttl, class, at, key) {
+        if let Some(place) = holder_of(berths, number, expiries, ttl, class, at, login, key) {
             return Some(place);
         }
         take_out_spent::<W, S, D>(index, berths.as_slice(), Pair { digest, number });

@@ -1,14 +1,23 @@
--- A number for each key of a class, by which its sets are found (this project's own)
-use Rattle.std.specs.Prelude.{ℕ, ◌+◌, ◌*◌, ◌^◌, ◌%◌, List, fold, unsigned_abs}
+-- A number for each key of a class and a login, by which its sets are found (this project's own)
+use Rattle.std.specs.Prelude.{ℕ, ◌+◌, ◌*◌, ◌^◌, ◌%◌, List, Option, None, Some, fold, unsigned_abs}
 use Rattle.z_types.specs.declared.key.SetKey.{SetKey}
 use Rattle.z_types.specs.declared.query.Attr.{Attr}
 use Rattle.z_types.specs.declared.query.Term.{Term}
 use Rattle.z_types.specs.declared.query.Term.TheVariants.{General, Number, Words}
 use Rattle.z_types.specs.Tree.{Tree, leaf, operand, and, or, and_not}
 
+-- who may share a session: a class and a login, or none
+abbrev pub Sharers : Type 0
+Sharers = ℕ × Option (List ℕ)
+
 -- a number of 64 bits, changed by another
 abbrev pub mixed : ℕ → ℕ → ℕ
 mixed digest part = (digest * 1099511628211 + part) % 2 ^ 64
+
+-- changed by a login, by a 9 and its octets; none changes nothing
+abbrev pub login_mixed : ℕ → Option (List ℕ) → ℕ
+login_mixed digest None = digest
+login_mixed digest (Some login) = fold mixed (mixed digest 9) login
 
 -- changed by names, each by a 1 and its octets
 abbrev pub names_mixed : ℕ → List (List ℕ) → ℕ
@@ -32,6 +41,8 @@ tree_mixed (and l r) digest = tree_mixed r (tree_mixed l (mixed digest 6))
 tree_mixed (or l r) digest = tree_mixed r (tree_mixed l (mixed digest 7))
 tree_mixed (and_not l r) digest = tree_mixed r (tree_mixed l (mixed digest 8))
 
--- the number of a key of a class: that of the class, of the key's databases and of its query
-abbrev pub key_digest : ℕ → SetKey → ℕ
-key_digest class key = tree_mixed key.query.root (names_mixed (mixed 0 class) key.dbs)
+-- the number of a key of a class and a login: that of both, of the key's databases and of its
+-- query
+abbrev pub key_digest : Sharers → SetKey → ℕ
+key_digest (class, login) key =
+    tree_mixed key.query.root (names_mixed (login_mixed (mixed 0 class) login) key.dbs)

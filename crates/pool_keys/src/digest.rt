@@ -1,30 +1,31 @@
-//! A number for each key of a class.
+//! A number for each key of a class and a login.
 
-ghost use Rattle.std.specs.Prelude.{◌≡◌, ℕ, fold};
+ghost use Rattle.std.specs.Prelude.{◌≡◌, ℕ, option_copied, fold};
 ghost use Rattle.z_types.specs.declared.key.SetKey.{SetKey};
-ghost use Rattle.pool_keys.specs.Digests.{mixed, names_mixed, attributes_mixed, term_mixed, tree_mixed, key_digest};
+ghost use Rattle.pool_keys.specs.Digests.{Sharers, mixed, login_mixed, names_mixed, attributes_mixed, term_mixed, tree_mixed, key_digest};
 
 use z_types::{Attr, Node, Rpn, SetKey, Term, Text};
 
-/// A number for each key of a class, by which a set is found. Two keys may have one number.
+/// A number for each key of a class and a login, by which a set is found. Two keys may have one number.
 pub trait Digest: Drop {
     /// The number.
-    ghost digest: { ℕ → SetKey → ℕ };
+    ghost digest: { Sharers → SetKey → ℕ };
 
-    /// The number of a key of a class.
-    fn digest(class: u32, key: &SetKey) -> u64
-        ensures { result ≡ digest class key.now };
+    /// The number of a key of a class and a login, or none.
+    fn digest(class: u32, login: Option<&Text>, key: &SetKey) -> u64
+        ensures { result ≡ digest (class, option_copied login.entry) key.now };
 }
 
-/// A number that the class and each part of a key change.
+/// A number that the class, the login and each part of a key change.
 #[derive(Drop)]
 pub struct KeyDigest {}
 
 impl Digest for KeyDigest {
     ghost digest = { key_digest };
 
-    fn digest(class: u32, key: &SetKey) -> u64 {
-        let names = mix_names(mix(0, u64::from(class)), key.dbs.as_slice());
+    fn digest(class: u32, login: Option<&Text>, key: &SetKey) -> u64 {
+        let own = mix_login(mix(0, u64::from(class)), login);
+        let names = mix_names(own, key.dbs.as_slice());
         mix_tree(names, &key.query.root)
     }
 }
@@ -42,6 +43,16 @@ fn mix_text(digest: u64, text: &[u8]) -> u64
 {
     text.iter()
         .fold(digest, |digest, byte| mix(digest, u64::from(*byte)))
+}
+
+/// A number, changed by a login, where there is one.
+fn mix_login(digest: u64, login: Option<&Text>) -> u64
+    ensures { result ≡ login_mixed digest (option_copied login.entry) }
+{
+    match login {
+        Some(login) => mix_text(mix(digest, 9), login.as_slice()),
+        None => digest,
+    }
 }
 
 /// A number, changed by names.

@@ -15,7 +15,7 @@ use pool_sets::{Door, Parts, Seat, Taken};
 use std::alloc::Global;
 use std::marker::PhantomData;
 use std::sync::ledger::{Book, Ledger, Share};
-use z_types::{Address, SetKey, Sitting, World};
+use z_types::{Address, SetKey, Sitting, Text, World};
 
 /// A door whose pool is told, beside the books of four ledgers. The totals of the books are the
 /// door's counts, and where the pool was full it had opened as many sessions as there may be.
@@ -50,6 +50,7 @@ fn take_told<W: World, S: Sitting<W>, P: Door<W, S>>(
     alloc: Global,
     class: u32,
     at: &[Address],
+    login: Option<&Text>,
     want: Option<&SetKey>,
     now: u64,
 ) -> Taken<S>
@@ -59,16 +60,17 @@ fn take_told<W: World, S: Sitting<W>, P: Door<W, S>>(
     requires full_opens { FullOpens
         (P.counts door.old).most (P.counts door.old).fulls (P.counts door.old).opens }
     ensures plain { Takes (P.pool door.old) (P.pool door.new)
-        class at.now (option_copied want.entry) now result }
+        class at.now (option_copied login.entry) (option_copied want.entry) now result }
     ensures fits { TakenFits W.World S.Sitting
-        at.now (option_copied want.entry) (P.counts door.old).most result }
+        class at.now (option_copied login.entry) (option_copied want.entry)
+        (P.counts door.old).most result }
     ensures counts { P.counts door.new
         ≡ after_take (option_copied want.entry) result (P.counts door.old) }
     ensures told { is_some (P.pool door.new) ≡ true }
     ensures full_opens { FullOpens
         (P.counts door.new).most (P.counts door.new).fulls (P.counts door.new).opens }
 {
-    door.take(alloc, class, at, want, now)
+    door.take(alloc, class, at, login, want, now)
 }
 
 impl<
@@ -112,15 +114,17 @@ impl<
         alloc: Global,
         class: u32,
         at: &[Address],
+        login: Option<&Text>,
         want: Option<&SetKey>,
         now: u64,
         shares: &mut Shares<L, M, O>,
     ) -> Taken<S>
         requires members { AreMembers at.now }
         ensures plain { Takes (P.pool self.old.door) (P.pool self.new.door)
-            class at.now (option_copied want.entry) now result }
+            class at.now (option_copied login.entry) (option_copied want.entry) now result }
         ensures fits { TakenFits W.World S.Sitting
-            at.now (option_copied want.entry) (P.counts self.old.door).most result }
+            class at.now (option_copied login.entry) (option_copied want.entry)
+            (P.counts self.old.door).most result }
         ensures counts { P.counts self.new.door
             ≡ after_take (option_copied want.entry) result (P.counts self.old.door) }
         ensures booked { IsNoted (is_booked (option_copied want.entry) result)
@@ -131,7 +135,7 @@ impl<
         ensures fulls_parts { shares.new.fulls.parts ≡ shares.old.fulls.parts }
         ensures opens_parts { shares.new.opens.parts ≡ shares.old.opens.parts }
     {
-        let taken = take_told(&mut self.door, alloc, class, at, want, now);
+        let taken = take_told(&mut self.door, alloc, class, at, login, want, now);
         let booked = is_booked(want, &taken);
         note(&mut self.booked, &mut shares.booked, booked);
         note(&mut self.fulls, &mut shares.fulls, is_full(&taken));

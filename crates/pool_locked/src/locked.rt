@@ -12,7 +12,7 @@ use pool_sets::{Door, Parts, Seat, Taken};
 use std::alloc::Global;
 use std::sync::ledger::{Ledger, Share};
 use std::sync::{Mutex, Wait};
-use z_types::{Address, SetKey, Sitting, World};
+use z_types::{Address, SetKey, Sitting, Text, World};
 
 /// A door over a pool behind a lock, which may wait for it. It counts in shares of its own, and
 /// each call is one hold of the lock: no guard outlives its call.
@@ -120,11 +120,12 @@ impl<
         alloc: Global,
         class: u32,
         at: &[Address],
+        login: Option<&Text>,
         want: Option<&SetKey>,
         now: u64,
     ) -> Taken<S> {
         let mut pool = self.pool.lock(self.rt);
-        let taken = pool.take(alloc, class, at, want, now, &mut self.own);
+        let taken = pool.take(alloc, class, at, login, want, now, &mut self.own);
         match taken {
             Taken::Full { .. } => Taken::Full { open: self.most },
             taken => taken,

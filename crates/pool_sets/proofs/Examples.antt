@@ -4,7 +4,8 @@ use Rattle.z_types.specs.declared.key.SetKey.{SetKey}
 use Rattle.z_types.specs.declared.query.Term.TheVariants.{General}
 use Rattle.z_types.specs.Tree.{leaf}
 use Rattle.z_types.specs.declared.address.Address.{Address}
-use Rattle.z_types.specs.declared.address.Address.TheVariants.{Test}
+use Rattle.z_types.specs.declared.address.Address.TheVariants.{Test, Login}
+use Rattle.z_types.specs.declared.address.Site.TheVariants as site
 use Rattle.pool_sets.specs.declared.pooled.Parts.{Parts}
 use Rattle.pool_sets.specs.declared.sessions.Stand.TheVariants.{Idle, Out}
 use Rattle.pool_sets.specs.declared.doors.Seat.{Seat}
@@ -82,10 +83,10 @@ seat number = record { class = 0; number = number }
 
 -- the answer of a take for class 0 of two members, and the pool after it
 abbrev answer : Option SetKey → ℕ → Pool ℕ → Taken ℕ
-answer want now p = (take_of 0 two_members want now p).0
+answer want now p = (take_of 0 two_members None want now p).0
 
 abbrev after : Option SetKey → ℕ → Pool ℕ → Pool ℕ
-after want now p = (take_of 0 two_members want now p).1
+after want now p = (take_of 0 two_members None want now p).1
 
 abbrev one_out : Pool ℕ
 one_out = after None 0 two
@@ -104,7 +105,7 @@ then_full : answer None 0 two_out ≡ Full 2
 then_full = refl
 
 -- another class is not full, and its session has the next number
-other_class : (take_of 1 two_members None 0 two_out).0 ≡ Dial (record { class = 1; number = 3 }) 0
+other_class : (take_of 1 two_members None None 0 two_out).0 ≡ Dial (record { class = 1; number = 3 }) 0
 other_class = refl
 
 -- what was put back is given again
@@ -153,7 +154,7 @@ before_the_put : answer None 0 (put (seat 1) (parts 11 (empty_table 10) 0) 1000 
 before_the_put = refl
 
 -- a set in a session that is out does not expire until it is put back: then it goes at the next take
-out_keeps_its_sets : (put (seat 1) (a_at 59) 500 (after (Some a) 59 with_a)).sessions ≡ record { number = 1; class = 0; member = 0; stand = Idle (a_at 59) 500 } ∷ []
+out_keeps_its_sets : (put (seat 1) (a_at 59) 500 (after (Some a) 59 with_a)).sessions ≡ record { number = 1; class = 0; login = None; member = 0; stand = Idle (a_at 59) 500 } ∷ []
 out_keeps_its_sets = refl
 
 goes_at_next_take : answer (Some a) 500 (put (seat 1) (a_at 59) 500 (after (Some a) 59 with_a)) ≡ Fresh (seat 1) (parts 11 (record { entries = []; most = 10; latest = 500 }) 0)
@@ -190,11 +191,11 @@ two_of_first = lost (seat 2) (after None 0 (after None 0 (after None 0 three)))
 redial_other : redial_member (seat 3) two_members two_of_first ≡ 1
 redial_other = refl
 
-redial_moves : (redial (seat 3) two_members two_of_first).sessions ≡ record { number = 1; class = 0; member = 0; stand = Out (Test 0) } ∷ record { number = 3; class = 0; member = 1; stand = Out (Test 1) } ∷ []
+redial_moves : (redial (seat 3) two_members two_of_first).sessions ≡ record { number = 1; class = 0; login = None; member = 0; stand = Out (Test 0) } ∷ record { number = 3; class = 0; login = None; member = 1; stand = Out (Test 1) } ∷ []
 redial_moves = refl
 
 -- the seat keeps its number
-redial_keeps_number : (redial (seat 2) two_members two_out).sessions ≡ record { number = 1; class = 0; member = 0; stand = Out (Test 0) } ∷ record { number = 2; class = 0; member = 1; stand = Out (Test 1) } ∷ []
+redial_keeps_number : (redial (seat 2) two_members two_out).sessions ≡ record { number = 1; class = 0; login = None; member = 0; stand = Out (Test 0) } ∷ record { number = 2; class = 0; login = None; member = 1; stand = Out (Test 1) } ∷ []
 redial_keeps_number = refl
 
 -- a lost session's number is not given again
@@ -222,11 +223,11 @@ too_large = refl
 abbrev twice : List Address
 twice = Test 0 ∷ Test 0 ∷ []
 
-by_place : (take_of 0 twice None 0 (take_of 0 twice None 0 two).1).0 ≡ Dial (seat 2) 1
+by_place : (take_of 0 twice None None 0 (take_of 0 twice None None 0 two).1).0 ≡ Dial (seat 2) 1
 by_place = refl
 
 -- a session at an address that is not named is not one of the class
-other_addresses : (take_of 0 (Test 7 ∷ []) None 0 second_back).0 ≡ Dial (seat 3) 0
+other_addresses : (take_of 0 (Test 7 ∷ []) None None 0 second_back).0 ≡ Dial (seat 3) 0
 other_addresses = refl
 
 -- after the last number none is dialled
@@ -235,3 +236,86 @@ last_given = record { sessions = []; given = 18446744073709551615; max_sessions 
 
 no_number : answer None 0 last_given ≡ Memory
 no_number = refl
+
+-- ---- the pool with logins
+
+-- a take for a login, and the pool after it
+abbrev answer_for : List ℕ → Option SetKey → ℕ → Pool ℕ → Taken ℕ
+answer_for login want now p = (take_of 0 two_members (Some login) want now p).0
+
+abbrev after_for : List ℕ → Option SetKey → ℕ → Pool ℕ → Pool ℕ
+after_for login want now p = (take_of 0 two_members (Some login) want now p).1
+
+abbrev ann : List ℕ
+ann = 97 ∷ []
+
+abbrev bob : List ℕ
+bob = 98 ∷ []
+
+-- a session at a test target, inside a login
+abbrev parts_of : List ℕ → ℕ → Table → ℕ → Parts ℕ
+parts_of login session table target = record { session = session; table = table; address = Login (site.Test target) login }
+
+-- Ann's session is out for her, and then idle with a set of the key
+abbrev anns : Pool ℕ
+anns = put (seat 1) (parts_of ann 11 (after_record 0 a 3 0 (empty_table 10)) 0) 0 (after_for ann None 0 two)
+
+-- she finds it, her set too
+ann_reuses : answer_for ann (Some a) 9 anns ≡ Reuse (seat 1) (parts_of ann 11 (after_record 0 a 3 9 (empty_table 10)) 0) 0 3
+ann_reuses = refl
+
+ann_takes : answer_for ann None 0 anns ≡ Fresh (seat 1) (parts_of ann 11 (after_record 0 a 3 0 (empty_table 10)) 0)
+ann_takes = refl
+
+-- nobody else does: another login is dialled for, and so is none
+bob_dials : answer_for bob (Some a) 9 anns ≡ Dial (seat 2) 1
+bob_dials = refl
+
+no_login_dials : answer (Some a) 9 anns ≡ Dial (seat 2) 1
+no_login_dials = refl
+
+-- the member to dial is that of fewest open sessions, whatever their logins; and Ann's stays idle where there is room for one more
+ann_stays : (after_for bob (Some a) 0 anns).sessions ≡ record { number = 1; class = 0; login = Some ann; member = 0; stand = Idle (parts_of ann 11 (after_record 0 a 3 0 (empty_table 10)) 0) 0 } ∷ record { number = 2; class = 0; login = Some bob; member = 1; stand = Out (Test 1) } ∷ []
+ann_stays = refl
+
+-- where there is none, the idle one of the least number makes room, and no other; its member is then the one of fewest
+abbrev both_anns : Pool ℕ
+both_anns = put (seat 2) (parts_of ann 22 (empty_table 10) 1) 0 (put (seat 1) (parts_of ann 11 (empty_table 10) 0) 0 (after_for ann None 0 (after_for ann None 0 two)))
+
+bob_is_dialled : answer_for bob None 0 both_anns ≡ Dial (seat 3) 0
+bob_is_dialled = refl
+
+least_makes_room : (after_for bob None 0 both_anns).sessions ≡ record { number = 2; class = 0; login = Some ann; member = 1; stand = Idle (parts_of ann 22 (empty_table 10) 1) 0 } ∷ record { number = 3; class = 0; login = Some bob; member = 0; stand = Out (Test 0) } ∷ []
+least_makes_room = refl
+
+-- it is full only where none of the class is idle, of whatever login
+then_full_for_all : answer_for bob None 0 (after_for ann None 0 (after_for ann None 0 two)) ≡ Full 2
+then_full_for_all = refl
+
+-- where no number is left, none makes room
+abbrev last_of_anns : Pool ℕ
+last_of_anns = record {
+  sessions = both_anns.sessions;
+  given = 18446744073709551615;
+  max_sessions = 2;
+  sets_max = 10;
+  session_ttl = 300;
+  set_ttl = 60;
+}
+
+no_number_no_room : after_for bob None 0 last_of_anns ≡ last_of_anns
+no_number_no_room = refl
+
+-- a session that comes back inside another login than it was dialled for is nobody's
+abbrev mixed_up : Pool ℕ
+mixed_up = put (seat 1) (parts_of bob 11 (empty_table 10) 0) 0 (after_for ann None 0 two)
+
+not_anns : answer_for ann None 0 mixed_up ≡ Dial (seat 2) 1
+not_anns = refl
+
+not_bobs : answer_for bob None 0 mixed_up ≡ Dial (seat 2) 1
+not_bobs = refl
+
+-- a redial keeps the login
+redial_keeps_login : (redial (seat 2) two_members (after_for ann None 0 (after_for bob None 0 two))).sessions ≡ record { number = 1; class = 0; login = Some bob; member = 0; stand = Out (Test 0) } ∷ record { number = 2; class = 0; login = Some ann; member = 1; stand = Out (Test 1) } ∷ []
+redial_keeps_login = refl

@@ -1,9 +1,10 @@
 -- The pool, as a list of its sessions (this project's own)
-use Rattle.std.specs.Prelude.{◌<◌, ◌≤◌, ℕ, ◌+◌, ◌-◌, ◌^◌, Bool, true, not, ◌&&◌, ◌==◌, nat_lt, nat_le, if◌then◌else◌, List, [], ◌∷◌, ◌++◌, map, filter, find, slice_index_or, Option, None, Some, count_by}
+use Rattle.std.specs.Prelude.{◌<◌, ◌≤◌, ℕ, ◌+◌, ◌-◌, ◌^◌, Bool, true, not, ◌&&◌, ◌==◌, nat_lt, nat_le, if◌then◌else◌, List, [], ◌∷◌, ◌++◌, map, filter, find, slice_index_or, Option, None, Some, option_map, count_by}
 use Rattle.std.specs.Option.{option_map_or}
 use Rattle.z_types.specs.declared.key.SetKey.{SetKey}
 use Rattle.z_types.specs.declared.address.Address.{Address}
 use Rattle.z_types.specs.declared.address.Address.TheVariants.{Test}
+use Rattle.z_types.specs.Logins.{inner}
 use Rattle.pool_sets.specs.declared.pooled.Parts.{Parts}
 use Rattle.pool_sets.specs.declared.sessions.Stand.{Stand}
 use Rattle.pool_sets.specs.declared.sessions.Stand.TheVariants.{Idle, Out}
@@ -11,7 +12,7 @@ use Rattle.pool_sets.specs.declared.doors.Seat.{Seat}
 use Rattle.pool_sets.specs.declared.doors.Taken.{Taken}
 use Rattle.pool_sets.specs.declared.doors.Taken.TheVariants.{Reuse, Fresh, Dial, Full, Memory}
 use Rattle.pool_sets.specs.Table.{Entry, after_find, after_expire}
-use Rattle.pool_sets.specs.Sessions.{Session, Idler, with_table, with_stand, first_some, idle_in, idle_with, is_out, stands_at, open_of, member_for}
+use Rattle.pool_sets.specs.Sessions.{Session, Idler, with_table, with_stand, first_some, idle_in, idle_for, idle_with, is_out, stands_at, without_number, open_of, member_for}
 
 -- the sessions, in the order of their numbers; the last number that was given, 0 before the first;
 -- and the pool's own numbers
@@ -67,7 +68,7 @@ module _ {S : Type 0} where
 
   -- an idle session goes out
   abbrev pub lend_of : Idler S → Pool S → Pool S
-  lend_of i p = with_sessions (stands_at i.number (Out i.parts.address) p.sessions) p
+  lend_of i p = with_sessions (stands_at i.number (Out (inner i.parts.address)) p.sessions) p
 
   abbrev pub seat_of : ℕ → Idler S → Seat
   seat_of class i = record { class = class; number = i.number }
@@ -81,15 +82,21 @@ module _ {S : Type 0} where
   abbrev pub fresh_of : ℕ → Idler S → Taken S
   fresh_of class i = Fresh (seat_of class i) i.parts
 
-  -- a session of the class that is out for a member
-  abbrev pub out_for : ℕ → ℕ → List Address → ℕ → Session S
-  out_for number class at m =
-      record { number = number; class = class; member = m; stand = Out (address_at at m) }
+  -- a session of the class and login that is out for a member
+  abbrev pub out_for : ℕ → ℕ → List Address → Option (List ℕ) → ℕ → Session S
+  out_for number class at login m =
+      record {
+        number = number;
+        class = class;
+        login = login;
+        member = m;
+        stand = Out (address_at at m);
+      }
 
   -- such a session is added, under the next number
-  abbrev pub with_dial : ℕ → List Address → ℕ → Pool S → Pool S
-  with_dial class at m p = record {
-    sessions = p.sessions ++ out_for (p.given + 1) class at m ∷ [];
+  abbrev pub with_dial : ℕ → List Address → Option (List ℕ) → ℕ → Pool S → Pool S
+  with_dial class at login m p = record {
+    sessions = p.sessions ++ out_for (p.given + 1) class at login m ∷ [];
     given = p.given + 1;
     max_sessions = p.max_sessions;
     sets_max = p.sets_max;
@@ -97,50 +104,71 @@ module _ {S : Type 0} where
     set_ttl = p.set_ttl;
   }
 
-  abbrev pub dial_for : ℕ → List Address → ℕ → Pool S → Taken S × Pool S
-  dial_for class at m p =
-      (Dial (record { class = class; number = p.given + 1 }) m, with_dial class at m p)
+  abbrev pub dial_for : ℕ → List Address → Option (List ℕ) → ℕ → Pool S → Taken S × Pool S
+  dial_for class at login m p =
+      (Dial (record { class = class; number = p.given + 1 }) m, with_dial class at login m p)
 
   -- the last number is not given out
   abbrev pub has_number : Pool S → Bool
   has_number p = nat_lt p.given (2 ^ 64 - 1)
 
-  -- where none is idle: a session is dialled where fewer are open than there may be and a number is
-  -- left
-  abbrev pub open_one : ℕ → List Address → Pool S → Taken S × Pool S
-  open_one class at p =
+  -- the pool without an idle session
+  abbrev pub without_idle : Pool S → Idler S → Pool S
+  without_idle p i = with_sessions (without_number i.number p.sessions) p
+
+  -- the pool with room for one more of the class: as it is where fewer are open than there may be;
+  -- else without the idle one of the least number, whatever its login, where one is idle
+  abbrev pub made_room : ℕ → List Address → Pool S → Option (Pool S)
+  made_room class at p =
       if nat_lt (open_of class at p.sessions) p.max_sessions
-      then (if has_number p then dial_for class at (member_for class at p.sessions) p
-      else (Memory, p))
-      else (Full p.max_sessions, p)
+      then Some p
+      else option_map (without_idle p) (first_some (idle_in class at) p.sessions)
 
-  -- the idle session, where there is one
-  abbrev pub any_idle : ℕ → List Address → Pool S → Option (Idler S) → Taken S × Pool S
-  any_idle class at p (Some i) = (fresh_of class i, lend_of i p)
-  any_idle class at p None = open_one class at p
-
-  -- the idle session of the least number, else one that is dialled
-  abbrev pub take_any : ℕ → List Address → Pool S → Taken S × Pool S
-  take_any class at p = any_idle class at p (first_some (idle_in class at) p.sessions)
-
-  -- the idle session that holds a set of the key, where there is one
-  abbrev pub one_idle : ℕ → List Address → SetKey → ℕ → Pool S → Option (Idler S × Entry)
+  -- a session is dialled where there is room and a number is left; else nothing is changed
+  abbrev pub dial_in : ℕ → List Address → Option (List ℕ) → Pool S → Option (Pool S)
       → Taken S × Pool S
-  one_idle class at key now p (Some h) = (reuse_of class key now h.0 h.1, lend_of h.0 p)
-  one_idle class at key now p None = take_any class at p
+  dial_in class at login p None = (Full p.max_sessions, p)
+  dial_in class at login p (Some q) =
+      if has_number q then dial_for class at login (member_for class at q.sessions) q
+      else (Memory, p)
 
-  -- the idle session of the least number that holds a set of the key, else any
-  abbrev pub take_with : ℕ → List Address → SetKey → ℕ → Pool S → Taken S × Pool S
-  take_with class at key now p =
-      one_idle class at key now p (first_some (idle_with class at key) p.sessions)
+  -- where none of the class and login is idle
+  abbrev pub open_one : ℕ → List Address → Option (List ℕ) → Pool S → Taken S × Pool S
+  open_one class at login p = dial_in class at login p (made_room class at p)
 
-  abbrev pub choice : ℕ → List Address → Option SetKey → ℕ → Pool S → Taken S × Pool S
-  choice class at (Some key) now p = take_with class at key now p
-  choice class at None now p = take_any class at p
+  -- the idle session, where there is one, else one that is dialled
+  abbrev pub any_idle : ℕ → List Address → Option (List ℕ) → Pool S → Option (Idler S)
+      → Taken S × Pool S
+  any_idle class at login p (Some i) = (fresh_of class i, lend_of i p)
+  any_idle class at login p None = open_one class at login p
+
+  -- the idle session of the class and login of the least number, else one that is dialled
+  abbrev pub take_any : ℕ → List Address → Option (List ℕ) → Pool S → Taken S × Pool S
+  take_any class at login p =
+      any_idle class at login p (first_some (idle_for class at login) p.sessions)
+
+  -- the idle session that holds a set of the key, where there is one, else any
+  abbrev pub one_idle : ℕ → List Address → Option (List ℕ) → SetKey → ℕ → Pool S
+      → Option (Idler S × Entry) → Taken S × Pool S
+  one_idle class at login key now p (Some h) = (reuse_of class key now h.0 h.1, lend_of h.0 p)
+  one_idle class at login key now p None = take_any class at login p
+
+  -- the idle session of the class and login of the least number that holds a set of the key, else
+  -- any of theirs
+  abbrev pub take_with : ℕ → List Address → Option (List ℕ) → SetKey → ℕ → Pool S
+      → Taken S × Pool S
+  take_with class at login key now p =
+      one_idle class at login key now p (first_some (idle_with class at login key) p.sessions)
+
+  abbrev pub choice : ℕ → List Address → Option (List ℕ) → Option SetKey → ℕ → Pool S
+      → Taken S × Pool S
+  choice class at login (Some key) now p = take_with class at login key now p
+  choice class at login None now p = take_any class at login p
 
   -- what a pool gives, and the pool after it: it expires first
-  abbrev pub take_of : ℕ → List Address → Option SetKey → ℕ → Pool S → Taken S × Pool S
-  take_of class at want now p = choice class at want now (expire now p)
+  abbrev pub take_of : ℕ → List Address → Option (List ℕ) → Option SetKey → ℕ → Pool S
+      → Taken S × Pool S
+  take_of class at login want now p = choice class at login want now (expire now p)
 
   -- the session of the seat is out
   abbrev pub is_seat : Seat → Session S → Bool
@@ -172,9 +200,9 @@ module _ {S : Type 0} where
       option_map_or (λ o. member_for seat.class at (without_seat seat p.sessions))
       (find (is_seat seat) p.sessions) 0
 
-  -- the session of the seat is dialled anew for a member, under its own number
+  -- the session of the seat is dialled anew for a member, under its own number and login
   abbrev pub redial_at_seat : Seat → List Address → ℕ → Session S → Session S
-  redial_at_seat seat at m o = if is_seat seat o then out_for o.number o.class at m else o
+  redial_at_seat seat at m o = if is_seat seat o then out_for o.number o.class at o.login m else o
 
   abbrev pub redial : Seat → List Address → Pool S → Pool S
   redial seat at p =

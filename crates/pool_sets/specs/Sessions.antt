@@ -1,10 +1,10 @@
 -- The sessions of a pool (this project's own)
-use Rattle.std.specs.Prelude.{ℕ, Bool, true, false, ◌&&◌, ◌==◌, if◌then◌else◌, List, [], ◌∷◌, map, length, count_by, Option, None, Some, option_map}
+use Rattle.std.specs.Prelude.{ℕ, Bool, true, false, not, ◌&&◌, ◌==◌, if◌then◌else◌, List, [], ◌∷◌, map, length, count_by, filter, Option, None, Some, option_map}
 use Rattle.std.specs.List.{list_any, range_with_len}
 use Rattle.std.specs.Option.{option_or}
 use Rattle.z_types.specs.declared.key.SetKey.{SetKey}
 use Rattle.z_types.specs.declared.address.Address.{Address}
-use Rattle.z_types.specs.contracts.address.AddressPartialEq.TheImpl as address_test
+use Rattle.z_types.specs.Logins.{same_address, same_login, inner, login_of}
 use Rattle.load_balance.specs.Least.{least_place}
 use Rattle.pool_sets.specs.declared.pooled.Parts.{Parts}
 use Rattle.pool_sets.specs.declared.sessions.Open.{Open}
@@ -12,13 +12,10 @@ use Rattle.pool_sets.specs.declared.sessions.Stand.{Stand}
 use Rattle.pool_sets.specs.declared.sessions.Stand.TheVariants.{Idle, Out}
 use Rattle.pool_sets.specs.Table.{Entry, Table, set_of}
 
--- an open session: its number, its class, the member that it counts for, and where it is
+-- an open session: its number, its class, its login, the member that it counts for, and where it
+-- is; the address of one that is out is its target's alone
 abbrev pub Session : Type 0 → Type 0
 Session S = Open (Parts S) Address
-
--- whether two addresses are one
-abbrev pub same_address : Address → Address → Bool
-same_address = (address_test.ghosts).eq
 
 -- one of these addresses
 abbrev pub is_among : List Address → Address → Bool
@@ -43,19 +40,33 @@ module _ {S : Type 0} where
   -- a session that is elsewhere
   abbrev pub with_stand : Stand (Parts S) Address → Session S → Session S
   with_stand stand o =
-      record { number = o.number; class = o.class; member = o.member; stand = stand }
+      record {
+        number = o.number;
+        class = o.class;
+        login = o.login;
+        member = o.member;
+        stand = stand;
+      }
 
-  -- where a session was dialled, or where its parts say
-  abbrev pub stand_address : Stand (Parts S) Address → Address
-  stand_address (Idle parts since) = parts.address
-  stand_address (Out address) = address
+  -- the address that its parts say, or at which it was dialled, without a login
+  abbrev pub stand_target : Stand (Parts S) Address → Address
+  stand_target (Idle parts since) = inner parts.address
+  stand_target (Out address) = inner address
 
-  abbrev pub address_of : Session S → Address
-  address_of o = stand_address o.stand
-
-  -- the session is one of the class: it was dialled for its number, at one of its addresses
+  -- the session is one of the class: it was dialled for its number, at one of its addresses, by
+  -- itself or inside a login
   abbrev pub in_class : ℕ → List Address → Session S → Bool
-  in_class class at o = (o.class == class) && is_among at (address_of o)
+  in_class class at o = (o.class == class) && is_among at (stand_target o.stand)
+
+  -- the login that the address of its parts is inside, or for which it was dialled
+  abbrev pub stand_login : Option (List ℕ) → Stand (Parts S) Address → Option (List ℕ)
+  stand_login login (Idle parts since) = login_of parts.address
+  stand_login login (Out address) = login
+
+  -- it is one of the login: it was dialled for it, and its address is inside it, or by itself where
+  -- there is none
+  abbrev pub is_for : Option (List ℕ) → Session S → Bool
+  is_for login o = same_login login o.login && same_login login (stand_login o.login o.stand)
 
   abbrev pub idle_parts : Stand (Parts S) Address → Option (Parts S)
   idle_parts (Idle parts since) = Some parts
@@ -69,14 +80,19 @@ module _ {S : Type 0} where
   abbrev pub idle_in : ℕ → List Address → Session S → Option (Idler S)
   idle_in class at o = if in_class class at o then idler o.number o.stand else None
 
+  -- the session, where it is idle and of the class and login
+  abbrev pub idle_for : ℕ → List Address → Option (List ℕ) → Session S → Option (Idler S)
+  idle_for class at login o = if is_for login o then idle_in class at o else None
+
   -- an idle session, and its set of the key, where it holds that
   abbrev pub with_set : SetKey → Option (Idler S) → Option (Idler S × Entry)
   with_set key None = None
   with_set key (Some i) = option_map (λ e. (i, e)) (set_of key i.parts.table)
 
-  -- the same, where it holds the key too
-  abbrev pub idle_with : ℕ → List Address → SetKey → Session S → Option (Idler S × Entry)
-  idle_with class at key o = with_set key (idle_in class at o)
+  -- the session, where it is idle, of the class and login, and holds the key, with its set
+  abbrev pub idle_with : ℕ → List Address → Option (List ℕ) → SetKey → Session S
+      → Option (Idler S × Entry)
+  idle_with class at login key o = with_set key (idle_for class at login o)
 
   -- whether the session is out
   abbrev pub is_out : Stand (Parts S) Address → Bool
@@ -87,6 +103,10 @@ module _ {S : Type 0} where
   abbrev pub stands_at : ℕ → Stand (Parts S) Address → List (Session S) → List (Session S)
   stands_at number stand os = map (λ o. if o.number == number then with_stand stand o else o) os
 
+  -- the sessions but that of the number
+  abbrev pub without_number : ℕ → List (Session S) → List (Session S)
+  without_number number os = filter (λ o. not (o.number == number)) os
+
   -- the session is one of the class and counts for the member
   abbrev pub is_of_member : ℕ → List Address → ℕ → Session S → Bool
   is_of_member class at m o = in_class class at o && (o.member == m)
@@ -96,7 +116,7 @@ module _ {S : Type 0} where
   loads class at os =
       map (λ m. count_by (is_of_member class at m) os) (range_with_len 0 (length at))
 
-  -- how many sessions of the class are open
+  -- how many sessions of the class are open, whatever their logins
   abbrev pub open_of : ℕ → List Address → List (Session S) → ℕ
   open_of class at os = count_by (in_class class at) os
 

@@ -12,7 +12,7 @@ ghost use Rattle.pool_sets.specs.Kept.{TableKept};
 
 use crate::Parts;
 use std::alloc::Global;
-use z_types::{Address, SetKey, Sitting, World};
+use z_types::{Address, SetKey, Sitting, Text, World};
 
 /// What stands for one session that is out: made by a take, and spent by `put` or `lost`.
 #[derive(Debug, Drop)]
@@ -51,7 +51,7 @@ pub enum Taken<S> {
         /// The place of the address among those that were named, counted from 0.
         member: u32,
     },
-    /// As many sessions as there may be are out.
+    /// As many sessions of the class as there may be are out, whatever their logins.
     Full {
         /// How many sessions of a class may be open.
         open: u32,
@@ -74,21 +74,25 @@ pub trait Door<W: World, S: Sitting<W>> {
     /// dial, and gave a session that holds no set wanted, where one was wanted.
     ghost counts: { Self → DoorCounts };
 
-    /// Takes a session of a class, one that holds the set wanted where there is one. `at` has the
-    /// addresses of the class's 1 to 16 members.
+    /// Takes a session of a class and a login, one that holds the set wanted where there is one; no
+    /// login is one of its own. `at` has the addresses of the class's 1 to 16 members. Where no more
+    /// of the class may be open and none of the login is idle, an idle one of another makes room: that
+    /// of the least number is dropped.
     fn take(
         &mut self,
         alloc: Global,
         class: u32,
         at: &[Address],
+        login: Option<&Text>,
         want: Option<&SetKey>,
         now: u64,
     ) -> Taken<S>
         requires members { AreMembers at.now }
         ensures plain { Takes (pool self.old) (pool self.new)
-            class at.now (option_copied want.entry) now result }
+            class at.now (option_copied login.entry) (option_copied want.entry) now result }
         ensures fits { TakenFits W.World S.Sitting
-            at.now (option_copied want.entry) (counts self.old).most result }
+            class at.now (option_copied login.entry) (option_copied want.entry)
+            (counts self.old).most result }
         ensures bound { IsBounded (pool self.new) (counts self.new).opens }
         ensures counts { counts self.new
             ≡ after_take (option_copied want.entry) result (counts self.old) };
@@ -105,8 +109,9 @@ pub trait Door<W: World, S: Sitting<W>> {
         ensures plain { pool self.new ≡ option_map (lost seat) (pool self.old) }
         ensures counts { counts self.new ≡ counts self.old };
 
-    /// Gives a session up and names the place of the address to dial in its place. It takes no
-    /// memory, so the hosts must fit the room that each session has for one.
+    /// Gives a session up and names the place of the address to dial in its place, for the login it
+    /// was dialled for. It takes no memory, so the hosts must fit the room that each session has for
+    /// one.
     fn redial(&mut self, seat: &mut Seat, at: &[Address]) -> u32
         requires members { AreMembers at.now }
         ensures plain { Redials (pool self.old) (pool self.new) seat.old at.now result }

@@ -9,7 +9,7 @@ mod sessions;
 mod table;
 
 pub use doors::{Door, Seat, Taken};
-pub use laws::{full_exactly, out_once, put_is_reused};
+pub use laws::{full_exactly, gives_own, out_once, put_is_reused};
 pub use pooled::{Parts, Pooled};
 pub use sessions::{Open, Stand};
 pub use table::{HeldSet, SetTable};

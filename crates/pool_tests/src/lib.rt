@@ -3,6 +3,8 @@
 #![tactic(auto)]
 
 #[cfg(test)]
+mod logins;
+#[cfg(test)]
 mod members;
 mod sessions;
 #[cfg(test)]

@@ -3,8 +3,10 @@
 ghost use Rattle.std.specs.Prelude.{◌≡◌, ℕ, Some, true, false};
 ghost use Rattle.z_types.specs.declared.key.SetKey.{SetKey};
 ghost use Rattle.z_types.specs.Counts.{one_more};
+ghost use Rattle.unit_forms.specs.Logins.{HasLogin, IsLoginIf};
 ghost use Rattle.pool_sets.specs.Counts.{is_booked};
 
+use crate::logins::{Who, login_of};
 use crate::sessions::{key_for, session_holding};
 use crate::targets::Steady;
 use gw_memory::{FakeBackend, FakeSession};
@@ -14,7 +16,7 @@ use pool_keys::Digest;
 use pool_sets::{Door, Seat, Taken};
 use route_config::{Members, PoolNumbers, Route, RouteParts};
 use std::alloc::Global;
-use z_types::{Address, List, Memory, SetKey};
+use z_types::{Address, List, Memory, SetKey, Site, Text};
 
 /// What a pool gave, without the session.
 #[derive(Clone, Copy, Debug, PartialEq, Eq)]
@@ -29,13 +31,16 @@ pub(crate) enum Given {
 /// What happens at a pool, and what comes of it.
 #[derive(Clone, Copy)]
 pub(crate) enum Turn {
+    /// Who asks from here on. At first it is one without a login.
+    As(Who),
     /// Any session is taken at a moment.
     TakeAny(u64, Given),
     /// A session for the key is taken at a moment.
     TakeFor(u64, Given),
     /// A session for the key is taken at a moment, and put back.
     Borrow(u64, Given),
-    /// A session of a number that holds the key's set, used at a moment, is put back at another.
+    /// A session of a number that holds the key's set, used at a moment, is put back at another, inside
+    /// the login of who asks.
     Put(u64, u64, u64),
     /// The session of a number is given up, by a seat of a class.
     Lose(u32, u64),
@@ -64,18 +69,19 @@ struct Seven {}
 impl Digest for Seven {
     ghost digest = { λ _ _. 7 };
 
-    fn digest(_: u32, _: &SetKey) -> u64 {
+    fn digest(_: u32, _: Option<&Text>, _: &SetKey) -> u64 {
         7
     }
 }
 
-/// A pool, the addresses of its class's two members, and the key of a search.
+/// A pool, the addresses of its class's two members, the key of a search, and who asks.
 #[derive(Drop)]
 struct Trial<P> {
     pool: P,
     backend: FakeBackend<Steady>,
     members: Members,
     key: SetKey,
+    who: Who,
 }
 
 /// The smallest route, with at most `max_sessions` sessions of a class.
@@ -107,6 +113,7 @@ fn trial_of<P: Door<Steady, FakeSession> + Drop>(
         backend: FakeBackend::new(Steady, List::new(alloc)),
         members: two(alloc, 0, second)?,
         key: key_for(alloc, 3)?,
+        who: Who::Nobody,
     })
 }
 
@@ -130,16 +137,18 @@ fn what_was_given(taken: &Taken<FakeSession>) -> Given
 fn take_any<P: Door<Steady, FakeSession> + Drop>(
     alloc: Global,
     trial: &mut Trial<P>,
+    login: Option<&Text>,
     now: u64,
 ) -> Given {
     let at = trial.members.as_slice();
-    what_was_given(&trial.pool.take(alloc, 0, at, None, now))
+    what_was_given(&trial.pool.take(alloc, 0, at, login, None, now))
 }
 
 /// Takes a session for the key. The pool counts where it gives one that has no set of it.
 fn take_for<P: Door<Steady, FakeSession> + Drop>(
     alloc: Global,
     trial: &mut Trial<P>,
+    login: Option<&Text>,
     now: u64,
 ) -> Given
     ensures reused { (number : ℕ) → result ≡ Given.Reused number
@@ -149,17 +158,18 @@ fn take_for<P: Door<Steady, FakeSession> + Drop>(
         ≡ one_more true (P.counts trial.old.pool).booked }
 {
     let at = trial.members.as_slice();
-    what_was_given(&trial.pool.take(alloc, 0, at, Some(&trial.key), now))
+    what_was_given(&trial.pool.take(alloc, 0, at, login, Some(&trial.key), now))
 }
 
 /// Takes a session for the key and puts it back.
 fn borrow_for<P: Door<Steady, FakeSession> + Drop>(
     alloc: Global,
     trial: &mut Trial<P>,
+    login: Option<&Text>,
     now: u64,
 ) -> Given {
     let at = trial.members.as_slice();
-    let taken = trial.pool.take(alloc, 0, at, Some(&trial.key), now);
+    let taken = trial.pool.take(alloc, 0, at, login, Some(&trial.key), now);
     let given = what_was_given(&taken);
     match taken {
         Taken::Reuse { seat, parts, .. } | Taken::Fresh { seat, parts } => {
@@ -168,6 +178,17 @@ fn borrow_for<P: Door<Steady, FakeSession> + Drop>(
         _ => {}
     }
     given
+}
+
+/// The address of the first member inside a login, where there is one.
+fn first_inside(login: Option<Text>) -> Address
+    requires { IsLoginIf login }
+    ensures { HasLogin result }
+{
+    match login {
+        Some(login) => Address::Login(Site::Test(0), login),
+        None => Address::Test(0),
+    }
 }
 
 /// Puts a session that holds the key's set, used at a moment, back at another.
@@ -179,7 +200,7 @@ fn put_back<P: Door<Steady, FakeSession> + Drop>(
     now: u64,
 ) -> Result<(), Memory> {
     let key = key_for(alloc, 3)?;
-    let address = Address::Test(0);
+    let address = first_inside(login_of(alloc, trial.who)?);
     let parts = session_holding(alloc, &mut trial.backend, &address, &key, used)?.apart();
     trial.pool.put(Seat { class: 0, number }, parts, now);
     Ok(())
@@ -202,10 +223,16 @@ fn goes<P: Door<Steady, FakeSession> + Drop>(
     trial: &mut Trial<P>,
     turn: Turn,
 ) -> Result<bool, Memory> {
+    let login = login_of(alloc, trial.who)?;
+    let login = login.as_ref();
     match turn {
-        Turn::TakeAny(now, given) => Ok(take_any(alloc, trial, now) == given),
-        Turn::TakeFor(now, given) => Ok(take_for(alloc, trial, now) == given),
-        Turn::Borrow(now, given) => Ok(borrow_for(alloc, trial, now) == given),
+        Turn::As(who) => {
+            trial.who = who;
+            Ok(true)
+        }
+        Turn::TakeAny(now, given) => Ok(take_any(alloc, trial, login, now) == given),
+        Turn::TakeFor(now, given) => Ok(take_for(alloc, trial, login, now) == given),
+        Turn::Borrow(now, given) => Ok(borrow_for(alloc, trial, login, now) == given),
         Turn::Put(number, used, now) => {
             put_back(alloc, trial, number, used, now)?;
             Ok(true)
@@ -336,10 +363,10 @@ fn dials_a_thousand<P: Door<Steady, FakeSession> + Drop>(
     trial: &mut Trial<P>,
 ) -> bool {
     for _ in 0..999 {
-        take_any(alloc, trial, 0);
+        take_any(alloc, trial, None, 0);
     }
-    take_any(alloc, trial, 0) == Given::Dialled(1000, 1)
-        && take_any(alloc, trial, 0) == Given::Full(1000)
+    take_any(alloc, trial, None, 0) == Given::Dialled(1000, 1)
+        && take_any(alloc, trial, None, 0) == Given::Full(1000)
 }
 
 /// Whether a thousand sessions that are put back are lent again from the first.
@@ -350,5 +377,8 @@ fn lends_again<P: Door<Steady, FakeSession> + Drop>(
     for number in 1..=1000 {
         put_back(alloc, trial, 1001 - number, 0, 0)?;
     }
-    Ok(take_for(alloc, trial, 0) == Given::Reused(1) && take_any(alloc, trial, 0) == Given::Idle(2))
+    Ok(
+        take_for(alloc, trial, None, 0) == Given::Reused(1)
+            && take_any(alloc, trial, None, 0) == Given::Idle(2),
+    )
 }

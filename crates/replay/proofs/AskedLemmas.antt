@@ -56,23 +56,23 @@ few-spans legs places =
     let count = length-range_with_len 0 legs in
     omega (arith, all, few, count)
 
-few-records : (route : Route) (legs : List ℕ) (query : RpnQuery) (syntax element : Option (List ℕ)) (places : List Place)
-    → length (all_records_asked route legs query syntax element places) ≤ length legs
-few-records route legs query syntax element places =
-    let all = length-map (spans_of (length legs) places) (records_asked route legs query syntax element) in
+few-records : (route : Route) (login : Option (List ℕ)) (legs : List ℕ) (query : RpnQuery) (syntax element : Option (List ℕ)) (places : List Place)
+    → length (all_records_asked route login legs query syntax element places) ≤ length legs
+few-records route login legs query syntax element places =
+    let all = length-map (spans_of (length legs) places) (records_asked route login legs query syntax element) in
     let spans = few-spans (length legs) places in
     omega (arith, all, spans)
 
 pub first-named : (route : Route) (job : Work) → length (first_asked route job) ≤ length (legs_named job)
 first-named route (work.Search login legs query small large medium small_element medium_element syntax room) =
-    let all = length-map legs (hits_asked route query) in omega (arith, all)
+    let all = length-map legs (hits_asked route login query) in omega (arith, all)
 first-named route (work.Fetch login legs query hits first count syntax element) =
-    few-records route legs query syntax element (places_from hits first count)
+    few-records route login legs query syntax element (places_from hits first count)
 first-named route (work.Scan login leg ask) = omega arith
 
 few-then : (route : Route) (job : Work) (hits : List ℕ) → length (then_asked route job hits) ≤ length (legs_named job)
 few-then route (work.Search login legs query small large medium small_element medium_element syntax room) hits =
-    few-records route legs query syntax (element_shown small small_element medium_element hits) (places_shown small large medium room hits)
+    few-records route login legs query syntax (element_shown small small_element medium_element hits) (places_shown small large medium room hits)
 few-then route (work.Fetch login legs query hits first count syntax element) found = omega arith
 few-then route (work.Scan login leg ask) found = omega arith
 

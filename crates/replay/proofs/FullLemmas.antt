@@ -6,14 +6,15 @@ use Rattle.std.proofs.lemmas.List.{length-append, length-map}
 use Rattle.std.proofs.lemmas.List.Sums.{count_by-le-length, length-filter}
 use Rattle.z_types.specs.Bounds.{within64}
 use Rattle.z_types.specs.Counts.{one_more}
+use Rattle.z_types.specs.Logins.{inner}
 use Rattle.z_types.specs.declared.address.Address.{Address}
 use Rattle.z_types.specs.declared.key.SetKey.{SetKey}
 use Rattle.z_types.specs.declared.sitting.Sitting as sitting
 use Rattle.z_types.specs.declared.world.World as world
 use Rattle.pool_sets.specs.Counts.{DoorCounts, after_redial, after_take, is_dial, is_full}
 use Rattle.pool_sets.specs.Doors.{Redials, Takes}
-use Rattle.pool_sets.specs.Plain.{Pool, any_idle, choice, dial_for, expire, has_number, idle_again, is_seat, lend_of, lost, one_idle, open_one, put, redial, redial_at_seat, redial_member, stays_open, take_of, with_fresh_sets, with_sessions, out_for}
-use Rattle.pool_sets.specs.Sessions.{Idler, Session, idle_in, idle_with, first_some, in_class, member_for, open_of, with_stand}
+use Rattle.pool_sets.specs.Plain.{Pool, any_idle, choice, dial_for, dial_in, expire, has_number, idle_again, is_seat, lend_of, lost, one_idle, open_one, put, redial, redial_at_seat, redial_member, stays_open, take_of, with_fresh_sets, with_sessions, without_idle, out_for}
+use Rattle.pool_sets.specs.Sessions.{Idler, Session, idle_for, idle_in, idle_with, first_some, in_class, member_for, open_of, with_stand}
 use Rattle.pool_sets.specs.Table.{Entry}
 use Rattle.pool_sets.specs.declared.doors.Seat.{Seat}
 use Rattle.pool_sets.specs.declared.doors.Taken.{Taken}
@@ -49,52 +50,80 @@ module _ {S : Type 0} where
   if_gives p true x y f g = f
   if_gives p false x y f g = g
 
-  dial_gives : (class : ℕ) (at : List Address) (member : ℕ) (p : Pool S) → GivesFew p (dial_for class at member p)
-  dial_gives class at member p = record {
+  dial_gives : (class : ℕ) (at : List Address) (login : Option (List ℕ)) (member : ℕ) (p : Pool S) → GivesFew p (dial_for class at login member p)
+  dial_gives class at login member p = record {
     most = refl;
-    few = (let all = length-append p.sessions (out_for (p.given + 1) class at member ∷ []) in omega (arith, all));
+    few = (let all = length-append p.sessions (out_for (p.given + 1) class at login member ∷ []) in omega (arith, all));
     full = λ is. absurd cc;
   }
 
-  open_by : (class : ℕ) (at : List Address) (p : Pool S) (b : Bool) → nat_lt (open_of class at p.sessions) p.max_sessions ≡ b
-      → GivesFew p (if b then (if has_number p then dial_for class at (member_for class at p.sessions) p else (taken.Memory, p)) else (taken.Full p.max_sessions, p))
-  open_by class at p true e =
-      if_gives p (has_number p) (dial_for class at (member_for class at p.sessions) p) (taken.Memory, p)
-      (dial_gives class at (member_for class at p.sessions) p) (record { most = refl; few = omega arith; full = λ is. absurd cc })
-  open_by class at p false e = record {
-    most = refl;
-    few = omega arith;
-    full = λ is. (let much = ltb-false (open_of class at p.sessions) p.max_sessions e in
-        let few = count_by-le-length (in_class class at) p.sessions in omega (arith, much, few));
+  -- without an idle session it has no more
+  dropped_gives : (p q : Pool S) (given : Taken S × Pool S) → q.max_sessions ≡ p.max_sessions → length q.sessions ≤ length p.sessions → GivesFew q given
+      → (is_full given.0 ≡ true → ⊥) → GivesFew p given
+  dropped_gives p q given most few h never = record {
+    most = h.most ∙ most;
+    few = (let own = h.few in omega (arith, own, few));
+    full = λ is. absurd (never is);
   }
 
-  open_gives : (class : ℕ) (at : List Address) (p : Pool S) → GivesFew p (open_one class at p)
-  open_gives class at p = open_by class at p (nat_lt (open_of class at p.sessions) p.max_sessions) refl
+  dial_never : (class : ℕ) (at : List Address) (login : Option (List ℕ)) (p q : Pool S) → is_full (dial_in class at login p (Some q)).0 ≡ true → ⊥
+  dial_never class at login p q =
+      (elim (has_number q) as (λ (b : Bool). is_full (if b then dial_for class at login (member_for class at q.sessions) q else (taken.Memory, p)).0 ≡ true → ⊥) [
+        | true ↦ λ is. cc
+        | false ↦ λ is. cc
+      ])
+
+  -- one is dialled in a pool that has no more sessions
+  dial_few : (class : ℕ) (at : List Address) (login : Option (List ℕ)) (p q : Pool S) → q.max_sessions ≡ p.max_sessions → length q.sessions ≤ length p.sessions
+      → GivesFew p (dial_in class at login p (Some q))
+  dial_few class at login p q most few =
+      if_gives p (has_number q) (dial_for class at login (member_for class at q.sessions) q) (taken.Memory, p)
+      (dropped_gives p q (dial_for class at login (member_for class at q.sessions) q) most few (dial_gives class at login (member_for class at q.sessions) q) (λ is. cc))
+      (record { most = refl; few = omega arith; full = λ is. absurd cc })
+
+  room_by : (class : ℕ) (at : List Address) (login : Option (List ℕ)) (p : Pool S) (idle : Option (Idler S)) → p.max_sessions ≤ open_of class at p.sessions
+      → GivesFew p (dial_in class at login p (option_map (without_idle p) idle))
+  room_by class at login p None much = record {
+    most = refl;
+    few = omega arith;
+    full = λ is. (let few = count_by-le-length (in_class class at) p.sessions in omega (arith, much, few));
+  }
+  room_by class at login p (Some i) much =
+      dial_few class at login p (without_idle p i) refl (fewer (λ o. not (o.number == i.number)) p.sessions)
+
+  open_by : (class : ℕ) (at : List Address) (login : Option (List ℕ)) (p : Pool S) (b : Bool) → nat_lt (open_of class at p.sessions) p.max_sessions ≡ b
+      → GivesFew p (dial_in class at login p (if b then Some p else option_map (without_idle p) (first_some (idle_in class at) p.sessions)))
+  open_by class at login p true e = dial_few class at login p p refl (omega arith)
+  open_by class at login p false e =
+      room_by class at login p (first_some (idle_in class at) p.sessions) (let much = ltb-false (open_of class at p.sessions) p.max_sessions e in omega (arith, much))
+
+  open_gives : (class : ℕ) (at : List Address) (login : Option (List ℕ)) (p : Pool S) → GivesFew p (open_one class at login p)
+  open_gives class at login p = open_by class at login p (nat_lt (open_of class at p.sessions) p.max_sessions) refl
 
   lend_few : (i : Idler S) (p : Pool S) → length (lend_of i p).sessions ≤ length p.sessions
   lend_few i p =
-      let all = length-map p.sessions (λ (o : Session S). if o.number == i.number then with_stand (Out i.parts.address) o else o) in omega (arith, all)
+      let all = length-map p.sessions (λ (o : Session S). if o.number == i.number then with_stand (Out (inner i.parts.address)) o else o) in omega (arith, all)
 
-  any_gives : (class : ℕ) (at : List Address) (p : Pool S) (idle : Option (Idler S)) → GivesFew p (any_idle class at p idle)
-  any_gives class at p (Some i) = record {
+  any_gives : (class : ℕ) (at : List Address) (login : Option (List ℕ)) (p : Pool S) (idle : Option (Idler S)) → GivesFew p (any_idle class at login p idle)
+  any_gives class at login p (Some i) = record {
     most = refl;
     few = (let few = lend_few i p in omega (arith, few));
     full = λ is. absurd cc;
   }
-  any_gives class at p None = open_gives class at p
+  any_gives class at login p None = open_gives class at login p
 
-  one_gives : (class : ℕ) (at : List Address) (key : SetKey) (now : ℕ) (p : Pool S) (idle : Option (Idler S × Entry))
-      → GivesFew p (one_idle class at key now p idle)
-  one_gives class at key now p (Some h) = record {
+  one_gives : (class : ℕ) (at : List Address) (login : Option (List ℕ)) (key : SetKey) (now : ℕ) (p : Pool S) (idle : Option (Idler S × Entry))
+      → GivesFew p (one_idle class at login key now p idle)
+  one_gives class at login key now p (Some h) = record {
     most = refl;
     few = (let few = lend_few h.0 p in omega (arith, few));
     full = λ is. absurd cc;
   }
-  one_gives class at key now p None = any_gives class at p (first_some (idle_in class at) p.sessions)
+  one_gives class at login key now p None = any_gives class at login p (first_some (idle_for class at login) p.sessions)
 
-  choice_gives : (class : ℕ) (at : List Address) (want : Option SetKey) (now : ℕ) (p : Pool S) → GivesFew p (choice class at want now p)
-  choice_gives class at None now p = any_gives class at p (first_some (idle_in class at) p.sessions)
-  choice_gives class at (Some key) now p = one_gives class at key now p (first_some (idle_with class at key) p.sessions)
+  choice_gives : (class : ℕ) (at : List Address) (login : Option (List ℕ)) (want : Option SetKey) (now : ℕ) (p : Pool S) → GivesFew p (choice class at login want now p)
+  choice_gives class at login None now p = any_gives class at login p (first_some (idle_for class at login) p.sessions)
+  choice_gives class at login (Some key) now p = one_gives class at login key now p (first_some (idle_with class at login key) p.sessions)
 
   expire_few : (now : ℕ) (p : Pool S) → length (expire now p).sessions ≤ length p.sessions
   expire_few now p =
@@ -102,9 +131,9 @@ module _ {S : Type 0} where
       let few = fewer (stays_open now p.session_ttl) p.sessions in
       omega (arith, all, few)
 
-  take_gives : (class : ℕ) (at : List Address) (want : Option SetKey) (now : ℕ) (p : Pool S) → GivesFew p (take_of class at want now p)
-  take_gives class at want now p =
-      let h = choice_gives class at want now (expire now p) in
+  take_gives : (class : ℕ) (at : List Address) (login : Option (List ℕ)) (want : Option SetKey) (now : ℕ) (p : Pool S) → GivesFew p (take_of class at login want now p)
+  take_gives class at login want now p =
+      let h = choice_gives class at login want now (expire now p) in
       let few = expire_few now p in record {
         most = h.most;
         few = (let own = h.few in omega (arith, own, few));
@@ -161,23 +190,23 @@ module _ {S : Type 0} where
   given_kept want taken.Memory p q c h k =
       fewer_kept p q c (after_take {S = S} want taken.Memory c) h.most (let few = h.few in omega (arith, few)) refl refl (omega arith) k
 
-  gives_as : (said : Taken S) (p q : Pool S) (class : ℕ) (at : List Address) (want : Option SetKey) (now : ℕ)
-      → (said, q) ≡ take_of class at want now p → GivesFew p (said, q)
-  gives_as said p q class at want now e = subst (λ (r : Taken S × Pool S). GivesFew p r) (sym e) (take_gives class at want now p)
+  gives_as : (said : Taken S) (p q : Pool S) (class : ℕ) (at : List Address) (login : Option (List ℕ)) (want : Option SetKey) (now : ℕ)
+      → (said, q) ≡ take_of class at login want now p → GivesFew p (said, q)
+  gives_as said p q class at login want now e = subst (λ (r : Taken S × Pool S). GivesFew p r) (sym e) (take_gives class at login want now p)
 
-  took_kept : (said : Taken S) (p q : Option (Pool S)) (class : ℕ) (at : List Address) (want : Option SetKey) (now : ℕ) (c : DoorCounts)
-      → Takes p q class at want now said → IsToldFull p c → IsToldFull q (after_take {S = S} want said c)
-  took_kept said None q class at want now c h k = absurd k
-  took_kept said (Some p) None class at want now c h k = absurd h
-  took_kept (taken.Reuse seat parts slot hits) (Some p) (Some q) class at want now c h k =
-      given_kept want (taken.Reuse seat parts slot hits) p q c (gives_as _ p q class at want now h) k
-  took_kept (taken.Fresh seat parts) (Some p) (Some q) class at want now c h k =
-      given_kept want (taken.Fresh seat parts) p q c (gives_as _ p q class at want now h) k
-  took_kept (taken.Dial seat member) (Some p) (Some q) class at want now c h k =
-      given_kept want (taken.Dial seat member) p q c (gives_as _ p q class at want now h) k
-  took_kept (taken.Full open_) (Some p) (Some q) class at want now c h k =
-      given_kept want (taken.Full open_) p q c (gives_as _ p q class at want now h) k
-  took_kept taken.Memory (Some p) (Some q) class at want now c h k =
+  took_kept : (said : Taken S) (p q : Option (Pool S)) (class : ℕ) (at : List Address) (login : Option (List ℕ)) (want : Option SetKey) (now : ℕ) (c : DoorCounts)
+      → Takes p q class at login want now said → IsToldFull p c → IsToldFull q (after_take {S = S} want said c)
+  took_kept said None q class at login want now c h k = absurd k
+  took_kept said (Some p) None class at login want now c h k = absurd h
+  took_kept (taken.Reuse seat parts slot hits) (Some p) (Some q) class at login want now c h k =
+      given_kept want (taken.Reuse seat parts slot hits) p q c (gives_as _ p q class at login want now h) k
+  took_kept (taken.Fresh seat parts) (Some p) (Some q) class at login want now c h k =
+      given_kept want (taken.Fresh seat parts) p q c (gives_as _ p q class at login want now h) k
+  took_kept (taken.Dial seat member) (Some p) (Some q) class at login want now c h k =
+      given_kept want (taken.Dial seat member) p q c (gives_as _ p q class at login want now h) k
+  took_kept (taken.Full open_) (Some p) (Some q) class at login want now c h k =
+      given_kept want (taken.Full open_) p q c (gives_as _ p q class at login want now h) k
+  took_kept taken.Memory (Some p) (Some q) class at login want now c h k =
       subst (λ (r : Pool S). IsFullKept r (after_take {S = S} want taken.Memory c)) (sym h)
       (fewer_kept p (expire now p) c (after_take {S = S} want taken.Memory c) refl (expire_few now p) refl refl (omega arith) k)
 
@@ -269,7 +298,7 @@ module _ {S : Type 0} (terms : Terms) (task : Task) (now : ℕ) where
 
   moves_kept : (phase : Phase S) (deed : Deed S) (p q : Option (Pool S)) (c : DoorCounts) → PoolMoves terms task now phase deed p q → IsToldFull p c
       → IsToldFull q (door_counts (want_of task) deed c)
-  moves_kept phase (took said) p q c h k = took_kept said p q terms.class terms.at (want_of task) now c h k
+  moves_kept phase (took said) p q c h k = took_kept said p q terms.class terms.at terms.login (want_of task) now c h k
   moves_kept phase (opened made) p q c h k = still_kept p q c h k
   moves_kept phase (began asked said session) p q c h k = still_kept p q c h k
   moves_kept phase (heard reply session) p q c h k = still_kept p q c h k

@@ -79,7 +79,7 @@ module _ {W S : Type 0} (w : world.Ghosts W) (t : sitting.Ghosts S W) (route : R
   first-fits leg legs (Some (answer.Scanned entries)) e is rest = rest
   first-fits leg legs (Some (answer.Marked m)) e is rest =
       caused-mark route.pool most leg.account m
-      (said-caused w t (terms_of route leg.leg) most leg.task leg.phase leg.account (answer.Marked m) e is.stands)
+      (said-caused w t (terms_of route leg.login leg.leg) most leg.task leg.phase leg.account (answer.Marked m) e is.stands)
 
   legs-fit : (legs : List (LegView S)) → All (IsLegOf w t route most) legs → CauseFits (answers_of legs)
   legs-fit [] are = tt

@@ -1,11 +1,8 @@
 -- what a whole replay leaves: by which reference a wire is lent, and where all targets tell what they answer, the breaches
-use Rattle.std.proofs.Common.{◌≡◌, ◌≢◌, ◌∙◌, ◌<◌, ◌≤◌, ℕ, Bool, true, List, [], Option, None, Some, Result, Ok, Err, slice_get, refl, sym, ap, subst, arith}
+use Rattle.std.proofs.Common.{◌≡◌, ◌≢◌, ◌∙◌, ◌<◌, ◌≤◌, ℕ, Bool, true, List, [], Option, None, Some, Result, Ok, Err, refl, sym, ap, subst, arith}
 use Rattle.std.specs.List.{AllByRecursion}
-use Rattle.std.specs.Option.{option_map_or}
-use Rattle.std.specs.Prelude.{Contains, IfOk, OnOk}
-use Rattle.std.proofs.lemmas.Option.{get_or_from_slice_get, slice_get_within}
+use Rattle.std.specs.Prelude.{IfOk, OnOk}
 use Rattle.z_types.specs.Bounds.{within64}
-use Rattle.z_types.specs.declared.address.Address.{Address}
 use Rattle.z_types.specs.declared.marks.End.{End as Ending}
 use Rattle.z_types.specs.declared.sitting.Sitting as sitting
 use Rattle.z_types.specs.declared.world.World as world
@@ -14,14 +11,14 @@ use Rattle.z_client.specs.Counts.{counts_over}
 use Rattle.z_client.specs.declared.own.Own.{Own}
 use Rattle.pool_core.specs.PoolView.{PoolView, counts_of, new_pool}
 use Rattle.route_config.specs.Sound.{ArePoolNumbers}
-use Rattle.route_config.specs.declared.route.Class.{Class}
 use Rattle.route_config.specs.declared.route.Route.{Route}
 use Rattle.front_conn_costs.specs.steps.Growth.{last64}
 use Rattle.pool_sets.specs.Counts.{DoorCounts}
 use Rattle.pool_sets.specs.Plain.{Pool}
 use Rattle.package_quiet.specs.leg.Deeds.{BackendView}
 use Rattle.package_quiet.specs.leg.LegView.{LegView}
-use Rattle.package_quiet.specs.leg.Terms.{class_of, terms_of}
+use Rattle.package_quiet.proofs.PackageLemmas.{leg-told}
+use Rattle.package_quiet.specs.leg.Terms.{Terms, sites, terms_of}
 use Rattle.package_quiet.specs.leg.Turns.{DoorView}
 use Rattle.package_quiet.specs.leg.declared.answers.Turned.{Turned}
 use Rattle.package_quiet.specs.leg.declared.answers.Turned.TheVariants as turned
@@ -78,19 +75,6 @@ befallen-so exact route (End client) old new h = same-so old new h
 befallen-so exact route (Step client) old new h = same-so old new h
 befallen-so exact route (Run client) old new h = same-so old new h
 befallen-so exact route (Tick seconds) old new h = same-so old new h
-
--- ---- the addresses of a route
-
-module _ {W : Type 0} (w : world.Ghosts W) (route : Route) (told : AreTold w route) where
-  class-told : (place : ℕ) (class : Option Class) → slice_get route.classes place ≡ class → (address : Address)
-      → Contains (option_map_or (λ (c : Class). c.addresses) class []) address → w.told address
-  class-told place None e address (k, inside, is) = absurd (omega (arith, inside))
-  class-told place (Some class) e address is =
-      told class (place, slice_get_within route.classes place class e, get_or_from_slice_get route.classes place class class e) address is
-
-  -- each address of a leg
-  leg-told : (leg : ℕ) (address : Address) → Contains (terms_of route leg).at address → w.told address
-  leg-told leg address is = class-told (class_of route leg) (slice_get route.classes (class_of route leg)) refl address is
 
 -- ---- a whole replay
 
@@ -155,20 +139,20 @@ module _ {W S : Type 0} (w : world.Ghosts W) (t : sitting.Ghosts S W) (exact : B
       legs-move (λ leg. Unit {0}) (λ door after backend moved. moved.happened.lent ≡ backend.happened.lent) (λ door backend. refl)
       (λ door mid after backend amid moved f g. g ∙ f) (λ asked. tt)
       (λ now old new answer door after backend moved is g.
-      (tt, turn-lent w t exact (terms_of route old.leg) old.task now old.phase new.phase old.account new.account answer door after backend moved g.law))
+      (tt, turn-lent w t exact (terms_of route old.login old.leg) old.task now old.phase new.phase old.account new.account answer door after backend moved g.law))
       (λ event door old new g. (befallen-so exact route event old new g).1) events before behind report h
 
   -- the breaches, where each target tells what it answers
   pub run-breaches : AreTold w route → (events : List Event) (before behind : Outside S) (report : Report)
       → IsRunOf w t exact route events before behind report → behind.backend.counts.breaches ≡ before.backend.counts.breaches
   run-breaches told events before behind report h =
-      legs-move (λ leg. SitsAt w t (terms_of route leg.leg).at leg.phase) (λ door after backend moved. moved.counts.breaches ≡ backend.counts.breaches)
+      legs-move (λ leg. SitsAt w t (sites (terms_of route leg.login leg.leg)) leg.phase) (λ door after backend moved. moved.counts.breaches ≡ backend.counts.breaches)
       (λ door backend. refl) (λ door mid after backend amid moved f g. g ∙ f) (λ asked. tt)
       (λ now old new answer door after backend moved is g. (
-        subst (λ (n : ℕ). SitsAt w t (terms_of route n).at new.phase) (sym g.leg)
-            (turn-sits w t exact (terms_of route old.leg) old.task now old.phase new.phase old.account new.account answer door after backend moved g.law is),
-        turn-breaches w t exact (terms_of route old.leg) old.task now old.phase new.phase old.account new.account answer door after backend moved g.law is
-            (leg-told w route told old.leg),
+        subst (λ (terms : Terms). SitsAt w t (sites terms) new.phase) (λ i. terms_of route (sym g.login i) (sym g.leg i))
+            (turn-sits w t exact (terms_of route old.login old.leg) old.task now old.phase new.phase old.account new.account answer door after backend moved g.law is),
+        turn-breaches w t exact (terms_of route old.login old.leg) old.task now old.phase new.phase old.account new.account answer door after backend moved g.law is
+            (leg-told w route old.login old.leg told),
       ))
       (λ event door old new g. (befallen-so exact route event old new g).0) events before behind report h
 
@@ -179,7 +163,7 @@ module _ {W S : Type 0} (w : world.Ghosts W) (t : sitting.Ghosts S W) (exact : B
       legs-move (λ leg. Unit {0}) (λ door after backend moved. IsToldFull door.pool door.counts → IsToldFull after.pool after.counts)
       (λ door backend kept. kept) (λ door mid after backend amid moved f g kept. g (f kept)) (λ asked. tt)
       (λ now old new answer door after backend moved is g.
-      (tt, turn_full w t exact (terms_of route old.leg) old.task now old.phase new.phase old.account new.account answer door after backend moved g.law))
+      (tt, turn_full w t exact (terms_of route old.login old.leg) old.task now old.phase new.phase old.account new.account answer door after backend moved g.law))
       (λ event door old new g kept. kept) events before behind report h
 
 -- a pool that is told, where it was full

@@ -47,19 +47,19 @@ use Rattle.replay.proofs.RoomLemmas.{AtMost, held-outs, legs-most, most-both, mo
 
 -- ---- a take
 
-module _ {S : Type 0} (class : ℕ) (at : List Address) (want : Option SetKey) (now : ℕ) where
-  not-full : (p q : Pool S) (said : Taken S) (n : ℕ) → Takes (Some p) (Some q) class at want now said → outs p.sessions ≤ n → n < p.max_sessions
+module _ {S : Type 0} (class : ℕ) (at : List Address) (login : Option (List ℕ)) (want : Option SetKey) (now : ℕ) where
+  not-full : (p q : Pool S) (said : Taken S) (n : ℕ) → Takes (Some p) (Some q) class at login want now said → outs p.sessions ≤ n → n < p.max_sessions
       → is_full said ≡ false
   not-full p q (taken.Reuse seat parts slot hits) n h few less = refl
   not-full p q (taken.Fresh seat parts) n h few less = refl
   not-full p q (taken.Dial seat member) n h few less = refl
   not-full p q taken.Memory n h few less = refl
   not-full p q (taken.Full open_) n h few less =
-      let is : is_full (take_of class at want now p).0 ≡ true = ap (λ (r : Taken S × Pool S). is_full r.0) (sym h) in
-      let much = take-out class at want now p is in
+      let is : is_full (take_of class at login want now p).0 ≡ true = ap (λ (r : Taken S × Pool S). is_full r.0) (sym h) in
+      let much = take-out class at login want now p is in
       absurd (omega (arith, few, less, much))
 
-  took-room : (p q : Option (Pool S)) (said : Taken S) (c : DoorCounts) (held others : Seat → ℕ) (n : ℕ) → Takes p q class at want now said
+  took-room : (p q : Option (Pool S)) (said : Taken S) (c : DoorCounts) (held others : Seat → ℕ) (n : ℕ) → Takes p q class at login want now said
       → AreOutOf held others p → ((seat : Seat) → held seat ≡ 0) → IsToldFull p c → AtMost others n → n < c.most
       → one_more (is_full said) c.fulls ≡ c.fulls
   took-room None q said c held others n h out none told most less = absurd out
@@ -93,7 +93,7 @@ module _ {W S : Type 0} (w : world.Ghosts W) (t : sitting.Ghosts S W) (terms : T
       → IsDue w t terms c.most task old deed → PoolMoves terms task now old deed p q → IsHeld old task others p → IsToldFull p c
       → AtMost others n → n < c.most → (door_counts (want_of task) deed c).fulls ≡ c.fulls
   deed-room old (took said) p q c others n due moves held told most less =
-      took-room terms.class terms.at (want_of task) now p q said c (held_at (seat_of old)) others n moves held.out
+      took-room terms.class terms.at terms.login (want_of task) now p q said c (held_at (seat_of old)) others n moves held.out
       (λ seat. ap (λ (own : Option Seat). held_at own seat) (took-none c.most old said due)) told most less
   deed-room old (opened made) p q c others n due moves held told most less = refl
   deed-room old (began asked said session) p q c others n due moves held told most less = refl
@@ -164,14 +164,14 @@ module _ {W S : Type 0} (w : world.Ghosts W) (t : sitting.Ghosts S W) (exact : B
       → FoundRoom door after × IsHeld new.phase new.task others after.pool
   leg-room old new answer door after backend moved others n h held told most less = (
     record {
-      fulls = turn-room w t (terms_of route old.leg) old.task now exact old.phase new.phase old.account new.account answer door after backend moved
+      fulls = turn-room w t (terms_of route old.login old.leg) old.task now exact old.phase new.phase old.account new.account answer door after backend moved
           others n h.law held told most less;
       most = ap (λ (c : DoorCounts). c.most) h.law.door_counts ∙ same-most h.law.deed;
-      told = turn_full w t exact (terms_of route old.leg) old.task now old.phase new.phase old.account new.account answer door after backend moved
+      told = turn_full w t exact (terms_of route old.login old.leg) old.task now old.phase new.phase old.account new.account answer door after backend moved
           h.law told;
     },
     subst (λ (task : Task). IsHeld new.phase task others after.pool) (sym h.task)
-        (law exact (terms_of route old.leg) old.task now old.phase new.phase old.account new.account answer door after backend moved others h.law held),
+        (law exact (terms_of route old.login old.leg) old.task now old.phase new.phase old.account new.account answer door after backend moved others h.law held),
   )
     where
       same-most : (deed : Deed S) → (door_counts (want_of old.task) deed door.counts).most ≡ door.counts.most

@@ -1,5 +1,5 @@
 -- a door is full only where as many sessions are out as there may be of a class; and no more are out than legs hold
-use Rattle.std.proofs.Common.{◌≡◌, ℕ, ◌+◌, ◌<◌, ◌≤◌, ◌==◌, ◌&&◌, Bool, true, false, nat_lt, if◌then◌else◌, cond, List, [], ◌∷◌, ◌++◌, length, map, filter, Option, None, Some, refl, ap, subst, arith}
+use Rattle.std.proofs.Common.{◌≡◌, ℕ, ◌+◌, ◌<◌, ◌≤◌, ◌==◌, ◌&&◌, Bool, true, false, nat_lt, if◌then◌else◌, cond, List, [], ◌∷◌, ◌++◌, length, map, filter, Option, None, Some, option_map, refl, ap, subst, arith}
 use Rattle.std.specs.Prelude.{count_by}
 use Rattle.std.specs.List.{sum_by}
 use Rattle.std.specs.Option.{option_or}
@@ -8,8 +8,8 @@ use Rattle.std.proofs.lemmas.List.Sums.{sum_by-append, sum_by-cons}
 use Rattle.z_types.specs.declared.address.Address.{Address}
 use Rattle.z_types.specs.declared.key.SetKey.{SetKey}
 use Rattle.pool_sets.specs.Counts.{is_full}
-use Rattle.pool_sets.specs.Plain.{Ascends, Pool, any_idle, choice, dial_for, expire, has_number, is_seat, one_idle, out_of, stays_open, take_of, with_fresh_sets, without_old_sets}
-use Rattle.pool_sets.specs.Sessions.{Idler, Session, first_some, idle_in, idle_with, idler, in_class, is_out, member_for, open_of}
+use Rattle.pool_sets.specs.Plain.{Ascends, Pool, any_idle, choice, dial_for, dial_in, expire, has_number, is_seat, one_idle, out_of, stays_open, take_of, with_fresh_sets, without_idle, without_old_sets}
+use Rattle.pool_sets.specs.Sessions.{Idler, Session, first_some, idle_for, idle_in, idle_with, idler, in_class, is_out, member_for, open_of}
 use Rattle.pool_sets.specs.Table.{Entry}
 use Rattle.pool_sets.specs.declared.doors.Seat.{Seat}
 use Rattle.pool_sets.specs.declared.doors.Taken.{Taken}
@@ -56,29 +56,37 @@ module _ {S : Type 0} where
   abbrev FullOut : Pool S → Taken S → Type 0
   FullOut p said = is_full said ≡ true → p.max_sessions ≤ outs p.sessions
 
-  open-out : (class : ℕ) (at : List Address) (p : Pool S) (b : Bool) → nat_lt (open_of class at p.sessions) p.max_sessions ≡ b
-      → open_of class at p.sessions ≤ outs p.sessions
-      → FullOut p (if b then (if has_number p then dial_for class at (member_for class at p.sessions) p else (taken.Memory, p)) else (taken.Full p.max_sessions, p)).0
-  open-out class at p true e few = dialled (has_number p)
-    where
-      dialled : (b : Bool) → FullOut p (if b then dial_for class at (member_for class at p.sessions) p else (taken.Memory, p)).0
-      dialled true = λ is. absurd cc
-      dialled false = λ is. absurd cc
-  open-out class at p false e few = λ is. (let much = ltb-false (open_of class at p.sessions) p.max_sessions e in omega (arith, much, few))
+  dialled-out : (class : ℕ) (at : List Address) (login : Option (List ℕ)) (p q : Pool S) → FullOut p (dial_in class at login p (Some q)).0
+  dialled-out class at login p q =
+      (elim (has_number q) as (λ (b : Bool). FullOut p (if b then dial_for class at login (member_for class at q.sessions) q else (taken.Memory, p)).0) [
+        | true ↦ λ is. absurd cc
+        | false ↦ λ is. absurd cc
+      ])
 
-  any-out : (class : ℕ) (at : List Address) (p : Pool S) (idle : Option (Idler S)) → first_some (idle_in class at) p.sessions ≡ idle
-      → FullOut p (any_idle class at p idle).0
-  any-out class at p (Some i) e = λ is. absurd cc
-  any-out class at p None e = open-out class at p (nat_lt (open_of class at p.sessions) p.max_sessions) refl (all-out class at p.sessions e)
+  room-out : (class : ℕ) (at : List Address) (login : Option (List ℕ)) (p : Pool S) (idle : Option (Idler S)) → first_some (idle_in class at) p.sessions ≡ idle
+      → p.max_sessions ≤ open_of class at p.sessions → FullOut p (dial_in class at login p (option_map (without_idle p) idle)).0
+  room-out class at login p None e much = λ is. (let few = all-out class at p.sessions e in omega (arith, much, few))
+  room-out class at login p (Some i) e much = dialled-out class at login p (without_idle p i)
 
-  one-out : (class : ℕ) (at : List Address) (key : SetKey) (now : ℕ) (p : Pool S) (idle : Option (Idler S × Entry))
-      → FullOut p (one_idle class at key now p idle).0
-  one-out class at key now p (Some h) = λ is. absurd cc
-  one-out class at key now p None = any-out class at p (first_some (idle_in class at) p.sessions) refl
+  open-out : (class : ℕ) (at : List Address) (login : Option (List ℕ)) (p : Pool S) (b : Bool) → nat_lt (open_of class at p.sessions) p.max_sessions ≡ b
+      → FullOut p (dial_in class at login p (if b then Some p else option_map (without_idle p) (first_some (idle_in class at) p.sessions))).0
+  open-out class at login p true e = dialled-out class at login p p
+  open-out class at login p false e =
+      room-out class at login p (first_some (idle_in class at) p.sessions) refl
+      (let much = ltb-false (open_of class at p.sessions) p.max_sessions e in omega (arith, much))
 
-  choice-out : (class : ℕ) (at : List Address) (want : Option SetKey) (now : ℕ) (p : Pool S) → FullOut p (choice class at want now p).0
-  choice-out class at None now p = any-out class at p (first_some (idle_in class at) p.sessions) refl
-  choice-out class at (Some key) now p = one-out class at key now p (first_some (idle_with class at key) p.sessions)
+  any-out : (class : ℕ) (at : List Address) (login : Option (List ℕ)) (p : Pool S) (idle : Option (Idler S)) → FullOut p (any_idle class at login p idle).0
+  any-out class at login p (Some i) = λ is. absurd cc
+  any-out class at login p None = open-out class at login p (nat_lt (open_of class at p.sessions) p.max_sessions) refl
+
+  one-out : (class : ℕ) (at : List Address) (login : Option (List ℕ)) (key : SetKey) (now : ℕ) (p : Pool S) (idle : Option (Idler S × Entry))
+      → FullOut p (one_idle class at login key now p idle).0
+  one-out class at login key now p (Some h) = λ is. absurd cc
+  one-out class at login key now p None = any-out class at login p (first_some (idle_for class at login) p.sessions)
+
+  choice-out : (class : ℕ) (at : List Address) (login : Option (List ℕ)) (want : Option SetKey) (now : ℕ) (p : Pool S) → FullOut p (choice class at login want now p).0
+  choice-out class at login None now p = any-out class at login p (first_some (idle_for class at login) p.sessions)
+  choice-out class at login (Some key) now p = one-out class at login key now p (first_some (idle_with class at login key) p.sessions)
 
   same-out : (now ttl : ℕ) (stand : Stand (Parts S) Address) → is_out (without_old_sets now ttl stand) ≡ is_out stand
   same-out now ttl (Idle parts since) = refl
@@ -98,9 +106,9 @@ module _ {S : Type 0} where
         | false ↦ omega (arith, rest, all)
       ])
 
-  pub take-out : (class : ℕ) (at : List Address) (want : Option SetKey) (now : ℕ) (p : Pool S) → FullOut p (take_of class at want now p).0
-  take-out class at want now p = λ is.
-      (let much = choice-out class at want now (expire now p) is in
+  pub take-out : (class : ℕ) (at : List Address) (login : Option (List ℕ)) (want : Option SetKey) (now : ℕ) (p : Pool S) → FullOut p (take_of class at login want now p).0
+  take-out class at login want now p = λ is.
+      (let much = choice-out class at login want now (expire now p) is in
       let few = fresh-outs now p.set_ttl (stays_open now p.session_ttl) p.sessions in omega (arith, much, few))
 
 -- ---- seats that are held

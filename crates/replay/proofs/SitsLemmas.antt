@@ -1,7 +1,10 @@
 -- a leg holds sessions at the addresses of its class alone
 use Rattle.std.proofs.Common.{◌≡◌, ℕ, ◌+◌, ◌-◌, ◌<◌, Bool, true, false, nat_le, nat_lt, if◌then◌else◌, List, [], ◌++◌, length, Option, None, Some, sym, subst}
 use Rattle.std.specs.Prelude.{Contains}
+use Rattle.std.proofs.lemmas.List.{length-map}
 use Rattle.std.proofs.lemmas.List.Elements.{Contains-get_or}
+use Rattle.z_types.specs.Logins.{inside}
+use Rattle.z_types.proofs.LoginLemmas.{inside_contains}
 use Rattle.z_types.specs.declared.address.Address.{Address}
 use Rattle.z_types.specs.declared.address.Address.TheVariants.{Test}
 use Rattle.z_types.specs.declared.ask.Ask.{Ask}
@@ -29,12 +32,18 @@ use Rattle.package_quiet.specs.leg.Deeds.{Deed, took, opened, began, heard, put_
 use Rattle.package_quiet.specs.leg.Phases.{hold, replied, with_session, with_sets}
 use Rattle.package_quiet.specs.leg.Rules.{Ends, Lack, after_fault, after_first, always, gone_again, left_by, never, next, next_ask, perhaps, recorded, unless_silent, with_items, with_set}
 use Rattle.package_quiet.specs.leg.Tasks.{want_of}
-use Rattle.package_quiet.specs.leg.Terms.{Terms}
+use Rattle.package_quiet.specs.leg.Terms.{Terms, opened_at, sites}
 use Rattle.package_quiet.specs.leg.Turns.{IsAskedIf, IsDue}
 
--- a place of a list has one of its addresses
-address-in : (at : List Address) (place : ℕ) → place < length at → Contains at (address_at at place)
-address-in at place inside = Contains-get_or at place (Test 0) inside
+-- a place of the members is one of their sites
+site-place : (terms : Terms) (place : ℕ) → place < length terms.at → place < length (sites terms)
+site-place terms place there = subst (λ (n : ℕ). place < n) (sym (length-map terms.at (inside terms.login))) there
+
+-- where the address that is opened for a member is
+site-in : (terms : Terms) (place : ℕ) → place < length (sites terms) → Contains (sites terms) (opened_at terms place)
+site-in terms place there =
+    let within : place < length terms.at = subst (λ (n : ℕ). place < n) (length-map terms.at (inside terms.login)) there in
+    inside_contains terms.login terms.at (address_at terms.at place) (Contains-get_or terms.at place (Test 0) within)
 
 module _ {W S : Type 0} (w : world.Ghosts W) (t : sitting.Ghosts S W) (at : List Address) where
   -- a session is at one of them
@@ -149,11 +158,11 @@ module _ {W S : Type 0} (w : world.Ghosts W) (t : sitting.Ghosts S W) (at : List
 
 module _ {W S : Type 0} (w : world.Ghosts W) (t : sitting.Ghosts S W) (terms : Terms) (most : ℕ) (task : Task) (now gone_ : ℕ) where
   -- where it goes by the rules
-  pub goes-sits : (old : Phase S) (deed : Deed S) → SitsAt w t terms.at old → IsDue w t terms most task old deed
-      → SitsAt w t terms.at (next terms task now gone_ old deed) × LooksAt w t terms.at deed
-  goes-sits Begin (took (taken.Reuse seat parts slot hits)) is h = (with_set-sits w t terms.at task (hold seat parts true) [] slot hits (subst (λ (a : Address). Contains terms.at a) (sym h.0.kept.same_address) h.0.among), tt)
-  goes-sits Begin (took (taken.Fresh seat parts)) is h = (subst (λ (a : Address). Contains terms.at a) (sym h.0.kept.same_address) h.0.among, tt)
-  goes-sits Begin (took (taken.Dial seat member)) is h = (h, tt)
+  pub goes-sits : (old : Phase S) (deed : Deed S) → SitsAt w t (sites terms) old → IsDue w t terms most task old deed
+      → SitsAt w t (sites terms) (next terms task now gone_ old deed) × LooksAt w t (sites terms) deed
+  goes-sits Begin (took (taken.Reuse seat parts slot hits)) is h = (with_set-sits w t (sites terms) task (hold seat parts true) [] slot hits (subst (λ (a : Address). Contains (sites terms) a) (sym h.0.kept.same_address) h.0.among), tt)
+  goes-sits Begin (took (taken.Fresh seat parts)) is h = (subst (λ (a : Address). Contains (sites terms) a) (sym h.0.kept.same_address) h.0.among, tt)
+  goes-sits Begin (took (taken.Dial seat member)) is h = (site-place terms member h.1, tt)
   goes-sits Begin (took (taken.Full open_)) is h = (tt, tt)
   goes-sits Begin (took taken.Memory) is h = (tt, tt)
   goes-sits Begin (opened made) is h = absurd h
@@ -165,7 +174,7 @@ module _ {W S : Type 0} (w : world.Ghosts W) (t : sitting.Ghosts S W) (terms : T
   goes-sits Begin no_memory is h = absurd h
   goes-sits Begin nothing is h = absurd h
   goes-sits (Dialling seat member) (took taken_) is h = absurd h
-  goes-sits (Dialling seat member) (opened (opening.Session session)) is h = (subst (λ (a : Address). Contains terms.at a) (sym h.same_address) (address-in terms.at member is), tt)
+  goes-sits (Dialling seat member) (opened (opening.Session session)) is h = (subst (λ (a : Address). Contains (sites terms) a) (sym h.same_address) (site-in terms member is), tt)
   goes-sits (Dialling seat member) (opened (opening.Failed linked)) is h = (tt, tt)
   goes-sits (Dialling seat member) (opened opening.Memory) is h = (tt, tt)
   goes-sits (Dialling seat member) (began asked answer session) is h = absurd h
@@ -178,15 +187,15 @@ module _ {W S : Type 0} (w : world.Ghosts W) (t : sitting.Ghosts S W) (terms : T
   goes-sits (Dialled held looks) (took taken_) is h = absurd h
   goes-sits (Dialled held looks) (opened made) is h = absurd h
   goes-sits (Dialled held looks) (began asked answer session) is h = absurd h
-  goes-sits (Dialled held looks) (heard look.Opened session) is h = let at = moved w t terms.at held.parts.session session h.address is in (at, at)
-  goes-sits (Dialled held looks) (heard (look.Hits found) session) is h = let at = moved w t terms.at held.parts.session session h.address is in (tt, at)
-  goes-sits (Dialled held looks) (heard (look.Refused diag) session) is h = let at = moved w t terms.at held.parts.session session h.address is in (tt, at)
-  goes-sits (Dialled held looks) (heard (look.Items others) session) is h = let at = moved w t terms.at held.parts.session session h.address is in (tt, at)
-  goes-sits (Dialled held looks) (heard look.Gone session) is h = let at = moved w t terms.at held.parts.session session h.address is in (tt, at)
-  goes-sits (Dialled held looks) (heard (look.Scanned entries) session) is h = let at = moved w t terms.at held.parts.session session h.address is in (tt, at)
-  goes-sits (Dialled held looks) (heard look.NotYet session) is h = let at = moved w t terms.at held.parts.session session h.address is in (silent-sits w t terms.at terms.pool.patience held (looks + 1) (Dialled (with_session session held) (looks + 1)) at, at)
-  goes-sits (Dialled held looks) (heard look.Failed session) is h = let at = moved w t terms.at held.parts.session session h.address is in (fault-sits w t terms.at held, at)
-  goes-sits (Dialled held looks) (heard look.Memory session) is h = let at = moved w t terms.at held.parts.session session h.address is in (tt, at)
+  goes-sits (Dialled held looks) (heard look.Opened session) is h = let at = moved w t (sites terms) held.parts.session session h.address is in (at, at)
+  goes-sits (Dialled held looks) (heard (look.Hits found) session) is h = let at = moved w t (sites terms) held.parts.session session h.address is in (tt, at)
+  goes-sits (Dialled held looks) (heard (look.Refused diag) session) is h = let at = moved w t (sites terms) held.parts.session session h.address is in (tt, at)
+  goes-sits (Dialled held looks) (heard (look.Items others) session) is h = let at = moved w t (sites terms) held.parts.session session h.address is in (tt, at)
+  goes-sits (Dialled held looks) (heard look.Gone session) is h = let at = moved w t (sites terms) held.parts.session session h.address is in (tt, at)
+  goes-sits (Dialled held looks) (heard (look.Scanned entries) session) is h = let at = moved w t (sites terms) held.parts.session session h.address is in (tt, at)
+  goes-sits (Dialled held looks) (heard look.NotYet session) is h = let at = moved w t (sites terms) held.parts.session session h.address is in (silent-sits w t (sites terms) terms.pool.patience held (looks + 1) (Dialled (with_session session held) (looks + 1)) at, at)
+  goes-sits (Dialled held looks) (heard look.Failed session) is h = let at = moved w t (sites terms) held.parts.session session h.address is in (fault-sits w t (sites terms) held, at)
+  goes-sits (Dialled held looks) (heard look.Memory session) is h = let at = moved w t (sites terms) held.parts.session session h.address is in (tt, at)
   goes-sits (Dialled held looks) put_back is h = absurd h
   goes-sits (Dialled held looks) gave_up is h = absurd h
   goes-sits (Dialled held looks) (redialled member_) is h = absurd h
@@ -194,8 +203,8 @@ module _ {W S : Type 0} (w : world.Ghosts W) (t : sitting.Ghosts S W) (terms : T
   goes-sits (Dialled held looks) nothing is h = absurd h
   goes-sits (Ready held items) (took taken_) is h = absurd h
   goes-sits (Ready held items) (opened made) is h = absurd h
-  goes-sits (Ready held items) (began asked start.Started session) is h = (first-sits w t terms.at task held items session (moved w t terms.at held.parts.session session h.address is), tt)
-  goes-sits (Ready held items) (began asked start.Failed session) is h = (fault-sits w t terms.at held, tt)
+  goes-sits (Ready held items) (began asked start.Started session) is h = (first-sits w t (sites terms) task held items session (moved w t (sites terms) held.parts.session session h.address is), tt)
+  goes-sits (Ready held items) (began asked start.Failed session) is h = (fault-sits w t (sites terms) held, tt)
   goes-sits (Ready held items) (began asked start.Memory session) is h = (tt, tt)
   goes-sits (Ready held items) (heard reply session) is h = absurd h
   goes-sits (Ready held items) put_back is h = absurd h
@@ -206,15 +215,15 @@ module _ {W S : Type 0} (w : world.Ghosts W) (t : sitting.Ghosts S W) (terms : T
   goes-sits (Searching held items slot looks) (took taken_) is h = absurd h
   goes-sits (Searching held items slot looks) (opened made) is h = absurd h
   goes-sits (Searching held items slot looks) (began asked answer session) is h = absurd h
-  goes-sits (Searching held items slot looks) (heard look.Opened session) is h = let at = moved w t terms.at held.parts.session session h.address is in (tt, at)
-  goes-sits (Searching held items slot looks) (heard (look.Hits found) session) is h = let at = moved w t terms.at held.parts.session session h.address is in (with_set-sits w t terms.at task (recorded (want_of task) slot found now (replied session held)) items slot found (recorded-sits w t terms.at (want_of task) slot found now (replied session held) at), at)
-  goes-sits (Searching held items slot looks) (heard (look.Refused diag) session) is h = let at = moved w t terms.at held.parts.session session h.address is in (tt, at)
-  goes-sits (Searching held items slot looks) (heard (look.Items others) session) is h = let at = moved w t terms.at held.parts.session session h.address is in (tt, at)
-  goes-sits (Searching held items slot looks) (heard look.Gone session) is h = let at = moved w t terms.at held.parts.session session h.address is in (tt, at)
-  goes-sits (Searching held items slot looks) (heard (look.Scanned entries) session) is h = let at = moved w t terms.at held.parts.session session h.address is in (tt, at)
-  goes-sits (Searching held items slot looks) (heard look.NotYet session) is h = let at = moved w t terms.at held.parts.session session h.address is in (silent-sits w t terms.at terms.pool.patience held (looks + 1) (Searching (with_session session held) items slot (looks + 1)) at, at)
-  goes-sits (Searching held items slot looks) (heard look.Failed session) is h = let at = moved w t terms.at held.parts.session session h.address is in (fault-sits w t terms.at held, at)
-  goes-sits (Searching held items slot looks) (heard look.Memory session) is h = let at = moved w t terms.at held.parts.session session h.address is in (tt, at)
+  goes-sits (Searching held items slot looks) (heard look.Opened session) is h = let at = moved w t (sites terms) held.parts.session session h.address is in (tt, at)
+  goes-sits (Searching held items slot looks) (heard (look.Hits found) session) is h = let at = moved w t (sites terms) held.parts.session session h.address is in (with_set-sits w t (sites terms) task (recorded (want_of task) slot found now (replied session held)) items slot found (recorded-sits w t (sites terms) (want_of task) slot found now (replied session held) at), at)
+  goes-sits (Searching held items slot looks) (heard (look.Refused diag) session) is h = let at = moved w t (sites terms) held.parts.session session h.address is in (tt, at)
+  goes-sits (Searching held items slot looks) (heard (look.Items others) session) is h = let at = moved w t (sites terms) held.parts.session session h.address is in (tt, at)
+  goes-sits (Searching held items slot looks) (heard look.Gone session) is h = let at = moved w t (sites terms) held.parts.session session h.address is in (tt, at)
+  goes-sits (Searching held items slot looks) (heard (look.Scanned entries) session) is h = let at = moved w t (sites terms) held.parts.session session h.address is in (tt, at)
+  goes-sits (Searching held items slot looks) (heard look.NotYet session) is h = let at = moved w t (sites terms) held.parts.session session h.address is in (silent-sits w t (sites terms) terms.pool.patience held (looks + 1) (Searching (with_session session held) items slot (looks + 1)) at, at)
+  goes-sits (Searching held items slot looks) (heard look.Failed session) is h = let at = moved w t (sites terms) held.parts.session session h.address is in (fault-sits w t (sites terms) held, at)
+  goes-sits (Searching held items slot looks) (heard look.Memory session) is h = let at = moved w t (sites terms) held.parts.session session h.address is in (tt, at)
   goes-sits (Searching held items slot looks) put_back is h = absurd h
   goes-sits (Searching held items slot looks) gave_up is h = absurd h
   goes-sits (Searching held items slot looks) (redialled member_) is h = absurd h
@@ -222,8 +231,8 @@ module _ {W S : Type 0} (w : world.Ghosts W) (t : sitting.Ghosts S W) (terms : T
   goes-sits (Searching held items slot looks) nothing is h = absurd h
   goes-sits (Presenting held items slot hits) (took taken_) is h = absurd h
   goes-sits (Presenting held items slot hits) (opened made) is h = absurd h
-  goes-sits (Presenting held items slot hits) (began asked start.Started session) is h = (moved w t terms.at held.parts.session session (next-asked w t terms.at (next_ask task items slot) asked held.parts.session session start.Started h) is, tt)
-  goes-sits (Presenting held items slot hits) (began asked start.Failed session) is h = (fault-sits w t terms.at held, tt)
+  goes-sits (Presenting held items slot hits) (began asked start.Started session) is h = (moved w t (sites terms) held.parts.session session (next-asked w t (sites terms) (next_ask task items slot) asked held.parts.session session start.Started h) is, tt)
+  goes-sits (Presenting held items slot hits) (began asked start.Failed session) is h = (fault-sits w t (sites terms) held, tt)
   goes-sits (Presenting held items slot hits) (began asked start.Memory session) is h = (tt, tt)
   goes-sits (Presenting held items slot hits) (heard reply session) is h = absurd h
   goes-sits (Presenting held items slot hits) put_back is h = absurd h
@@ -234,15 +243,15 @@ module _ {W S : Type 0} (w : world.Ghosts W) (t : sitting.Ghosts S W) (terms : T
   goes-sits (Fetching held items slot hits looks) (took taken_) is h = absurd h
   goes-sits (Fetching held items slot hits looks) (opened made) is h = absurd h
   goes-sits (Fetching held items slot hits looks) (began asked answer session) is h = absurd h
-  goes-sits (Fetching held items slot hits looks) (heard look.Opened session) is h = let at = moved w t terms.at held.parts.session session h.address is in (tt, at)
-  goes-sits (Fetching held items slot hits looks) (heard (look.Hits found) session) is h = let at = moved w t terms.at held.parts.session session h.address is in (tt, at)
-  goes-sits (Fetching held items slot hits looks) (heard (look.Refused diag) session) is h = let at = moved w t terms.at held.parts.session session h.address is in (tt, at)
-  goes-sits (Fetching held items slot hits looks) (heard (look.Items others) session) is h = let at = moved w t terms.at held.parts.session session h.address is in (with_items-sits w t terms.at task (replied session held) (items ++ others) slot hits at, at)
-  goes-sits (Fetching held items slot hits looks) (heard look.Gone session) is h = let at = moved w t terms.at held.parts.session session h.address is in (gone-sits w t terms.at terms.pool.repeats gone_ (with_sets (after_forget slot held.parts.table) (replied session held)) items at, at)
-  goes-sits (Fetching held items slot hits looks) (heard (look.Scanned entries) session) is h = let at = moved w t terms.at held.parts.session session h.address is in (tt, at)
-  goes-sits (Fetching held items slot hits looks) (heard look.NotYet session) is h = let at = moved w t terms.at held.parts.session session h.address is in (silent-sits w t terms.at terms.pool.patience held (looks + 1) (Fetching (with_session session held) items slot hits (looks + 1)) at, at)
-  goes-sits (Fetching held items slot hits looks) (heard look.Failed session) is h = let at = moved w t terms.at held.parts.session session h.address is in (fault-sits w t terms.at held, at)
-  goes-sits (Fetching held items slot hits looks) (heard look.Memory session) is h = let at = moved w t terms.at held.parts.session session h.address is in (tt, at)
+  goes-sits (Fetching held items slot hits looks) (heard look.Opened session) is h = let at = moved w t (sites terms) held.parts.session session h.address is in (tt, at)
+  goes-sits (Fetching held items slot hits looks) (heard (look.Hits found) session) is h = let at = moved w t (sites terms) held.parts.session session h.address is in (tt, at)
+  goes-sits (Fetching held items slot hits looks) (heard (look.Refused diag) session) is h = let at = moved w t (sites terms) held.parts.session session h.address is in (tt, at)
+  goes-sits (Fetching held items slot hits looks) (heard (look.Items others) session) is h = let at = moved w t (sites terms) held.parts.session session h.address is in (with_items-sits w t (sites terms) task (replied session held) (items ++ others) slot hits at, at)
+  goes-sits (Fetching held items slot hits looks) (heard look.Gone session) is h = let at = moved w t (sites terms) held.parts.session session h.address is in (gone-sits w t (sites terms) terms.pool.repeats gone_ (with_sets (after_forget slot held.parts.table) (replied session held)) items at, at)
+  goes-sits (Fetching held items slot hits looks) (heard (look.Scanned entries) session) is h = let at = moved w t (sites terms) held.parts.session session h.address is in (tt, at)
+  goes-sits (Fetching held items slot hits looks) (heard look.NotYet session) is h = let at = moved w t (sites terms) held.parts.session session h.address is in (silent-sits w t (sites terms) terms.pool.patience held (looks + 1) (Fetching (with_session session held) items slot hits (looks + 1)) at, at)
+  goes-sits (Fetching held items slot hits looks) (heard look.Failed session) is h = let at = moved w t (sites terms) held.parts.session session h.address is in (fault-sits w t (sites terms) held, at)
+  goes-sits (Fetching held items slot hits looks) (heard look.Memory session) is h = let at = moved w t (sites terms) held.parts.session session h.address is in (tt, at)
   goes-sits (Fetching held items slot hits looks) put_back is h = absurd h
   goes-sits (Fetching held items slot hits looks) gave_up is h = absurd h
   goes-sits (Fetching held items slot hits looks) (redialled member_) is h = absurd h
@@ -251,15 +260,15 @@ module _ {W S : Type 0} (w : world.Ghosts W) (t : sitting.Ghosts S W) (terms : T
   goes-sits (Scanning held looks) (took taken_) is h = absurd h
   goes-sits (Scanning held looks) (opened made) is h = absurd h
   goes-sits (Scanning held looks) (began asked answer session) is h = absurd h
-  goes-sits (Scanning held looks) (heard look.Opened session) is h = let at = moved w t terms.at held.parts.session session h.address is in (tt, at)
-  goes-sits (Scanning held looks) (heard (look.Hits found) session) is h = let at = moved w t terms.at held.parts.session session h.address is in (tt, at)
-  goes-sits (Scanning held looks) (heard (look.Refused diag) session) is h = let at = moved w t terms.at held.parts.session session h.address is in (tt, at)
-  goes-sits (Scanning held looks) (heard (look.Items others) session) is h = let at = moved w t terms.at held.parts.session session h.address is in (tt, at)
-  goes-sits (Scanning held looks) (heard look.Gone session) is h = let at = moved w t terms.at held.parts.session session h.address is in (tt, at)
-  goes-sits (Scanning held looks) (heard (look.Scanned entries) session) is h = let at = moved w t terms.at held.parts.session session h.address is in (tt, at)
-  goes-sits (Scanning held looks) (heard look.NotYet session) is h = let at = moved w t terms.at held.parts.session session h.address is in (silent-sits w t terms.at terms.pool.patience held (looks + 1) (Scanning (with_session session held) (looks + 1)) at, at)
-  goes-sits (Scanning held looks) (heard look.Failed session) is h = let at = moved w t terms.at held.parts.session session h.address is in (fault-sits w t terms.at held, at)
-  goes-sits (Scanning held looks) (heard look.Memory session) is h = let at = moved w t terms.at held.parts.session session h.address is in (tt, at)
+  goes-sits (Scanning held looks) (heard look.Opened session) is h = let at = moved w t (sites terms) held.parts.session session h.address is in (tt, at)
+  goes-sits (Scanning held looks) (heard (look.Hits found) session) is h = let at = moved w t (sites terms) held.parts.session session h.address is in (tt, at)
+  goes-sits (Scanning held looks) (heard (look.Refused diag) session) is h = let at = moved w t (sites terms) held.parts.session session h.address is in (tt, at)
+  goes-sits (Scanning held looks) (heard (look.Items others) session) is h = let at = moved w t (sites terms) held.parts.session session h.address is in (tt, at)
+  goes-sits (Scanning held looks) (heard look.Gone session) is h = let at = moved w t (sites terms) held.parts.session session h.address is in (tt, at)
+  goes-sits (Scanning held looks) (heard (look.Scanned entries) session) is h = let at = moved w t (sites terms) held.parts.session session h.address is in (tt, at)
+  goes-sits (Scanning held looks) (heard look.NotYet session) is h = let at = moved w t (sites terms) held.parts.session session h.address is in (silent-sits w t (sites terms) terms.pool.patience held (looks + 1) (Scanning (with_session session held) (looks + 1)) at, at)
+  goes-sits (Scanning held looks) (heard look.Failed session) is h = let at = moved w t (sites terms) held.parts.session session h.address is in (fault-sits w t (sites terms) held, at)
+  goes-sits (Scanning held looks) (heard look.Memory session) is h = let at = moved w t (sites terms) held.parts.session session h.address is in (tt, at)
   goes-sits (Scanning held looks) put_back is h = absurd h
   goes-sits (Scanning held looks) gave_up is h = absurd h
   goes-sits (Scanning held looks) (redialled member_) is h = absurd h
@@ -289,7 +298,7 @@ module _ {W S : Type 0} (w : world.Ghosts W) (t : sitting.Ghosts S W) (terms : T
   goes-sits (Redialling seat) (heard reply session) is h = absurd h
   goes-sits (Redialling seat) put_back is h = absurd h
   goes-sits (Redialling seat) gave_up is h = absurd h
-  goes-sits (Redialling seat) (redialled member_) is h = (h, tt)
+  goes-sits (Redialling seat) (redialled member_) is h = (site-place terms member_ h, tt)
   goes-sits (Redialling seat) no_memory is h = absurd h
   goes-sits (Redialling seat) nothing is h = absurd h
   goes-sits (Spoiled seat) (took taken_) is h = absurd h

@@ -13,7 +13,7 @@ use Rattle.gw_outside.specs.declared.backends.Opening.{Opening}
 use Rattle.gw_outside.specs.declared.backends.Opening.TheVariants as opening
 use Rattle.package_quiet.specs.leg.Deeds.{Deed, BackendView, CountsMove, HappensThen, took, opened, began, heard, put_back, gave_up, redialled, no_memory, nothing}
 use Rattle.package_quiet.specs.leg.Rules.{answer_of, lack_of, left_by, next}
-use Rattle.package_quiet.specs.leg.Terms.{Terms}
+use Rattle.package_quiet.specs.leg.Terms.{Terms, sites}
 use Rattle.package_quiet.specs.leg.Turns.{DoorView, IsTurn}
 use Rattle.package_quiet.specs.leg.declared.accounts.Account.{Account}
 use Rattle.package_quiet.specs.leg.declared.answers.Turned.{Turned}
@@ -80,13 +80,13 @@ module _ {W S : Type 0} (w : world.Ghosts W) (t : sitting.Ghosts S W) (exact : B
   pub turn-lent : moved.happened.lent ≡ backend.happened.lent
   turn-lent = deed-lent w t exact h.deed backend.happened moved.happened h.backend_moves.happened
 
-  pub turn-sits : SitsAt w t terms.at old → SitsAt w t terms.at new
+  pub turn-sits : SitsAt w t (sites terms) old → SitsAt w t (sites terms) new
   turn-sits is =
-      ends-sits w t terms.at (lack_of h.deed) (next terms task now b.gones old h.deed) (left_by old h.deed) (answer_of h.deed new) answer new
-      (goes-sits w t terms door.counts.most task now b.gones old h.deed is h.due).0 (left-by-sits w t terms.at old h.deed) h.goes
+      ends-sits w t (sites terms) (lack_of h.deed) (next terms task now b.gones old h.deed) (left_by old h.deed) (answer_of h.deed new) answer new
+      (goes-sits w t terms door.counts.most task now b.gones old h.deed is h.due).0 (left-by-sits w t (sites terms) old h.deed) h.goes
 
-  pub turn-breaches : SitsAt w t terms.at old → ((address : Address) → Contains terms.at address → w.told address)
+  pub turn-breaches : SitsAt w t (sites terms) old → ((address : Address) → Contains (sites terms) address → w.told address)
       → moved.counts.breaches ≡ backend.counts.breaches
   turn-breaches is told =
-      deed-breaches w t exact terms.at told h.deed backend.counts moved.counts
+      deed-breaches w t exact (sites terms) told h.deed backend.counts moved.counts
       (goes-sits w t terms door.counts.most task now b.gones old h.deed is h.due).1 h.backend_moves.counts

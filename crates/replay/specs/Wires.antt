@@ -1,7 +1,8 @@
 -- What the sums of a report count, and what its marks come of, where it was played over a wire
 -- (this project's own)
-use Rattle.std.specs.Prelude.{◌≡◌, ℕ, ◌+◌, ◌≤◌, ◌<◌, Bool, true, Contains}
+use Rattle.std.specs.Prelude.{◌≡◌, ℕ, ◌+◌, ◌≤◌, ◌<◌, Bool, true, List, Option, Contains}
 use Rattle.z_types.specs.Bounds.{within64}
+use Rattle.z_types.specs.Logins.{inside}
 use Rattle.z_types.specs.declared.address.Address.{Address}
 use Rattle.z_types.specs.declared.world.World as world
 use Rattle.gw_outside.specs.Counts.{Counts}
@@ -49,11 +50,11 @@ IsFullCaused pool report breaches behind =
     1 ≤ met_for pool full report.clients → behind.dials < last64 → behind.faults + breaches < last64
     → pool.max_sessions ≤ in_classes dials report.classes + in_classes faults report.classes
 
--- each target of the route tells what it answers
+-- each target of the route tells what it answers, by itself and inside every login
 abbrev pub AreTold : {W : Type 0} → world.Ghosts W → Route → Type 0
 AreTold w route =
-    (class : Class) → Contains route.classes class → (address : Address)
-    → Contains class.addresses address → w.told address
+    (login : Option (List ℕ)) (class : Class) → Contains route.classes class → (address : Address)
+    → Contains class.addresses address → w.told (inside login address)
 
 -- A wire counted what is reported, and a new pool was played with: so do the sums where each of the
 -- wire's counts is exact, each mark has its cause, and says as many looks, or sessions, as the

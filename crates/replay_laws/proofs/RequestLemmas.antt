@@ -90,7 +90,7 @@ module _ {W S : Type 0} (w : world.Ghosts W) (t : sitting.Ghosts S W) (route : R
   first-so leg others (Some (answer.Broken items diag)) e is has so = so
   first-so leg others (Some (answer.Scanned entries)) e is has so = so
   first-so leg others (Some (answer.Marked m)) e is has so =
-      caused leg.account m has (said-so w t (terms_of route leg.leg) most leg.task leg.phase leg.account (answer.Marked m) e is.stands)
+      caused leg.account m has (said-so w t (terms_of route leg.login leg.leg) most leg.task leg.phase leg.account (answer.Marked m) e is.stands)
 
   -- behind more answers
   cons-behind : (said : Option Answered) (others rest : List Answered) → cons_option said others ++ rest ≡ cons_option said (others ++ rest)

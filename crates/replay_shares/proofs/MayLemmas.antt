@@ -11,7 +11,7 @@ use Rattle.route_config.specs.declared.route.Route.{Route}
 use Rattle.route_config.specs.declared.route.RouteLeg.{RouteLeg}
 use Rattle.package_shares.specs.leg.Terms.{class_of}
 use Rattle.package_shares.specs.package_rules.Planned.{AreThere, legs_named}
-use Rattle.sharing_rules.specs.Orderly.{keys_used}
+use Rattle.sharing_rules.specs.Orderly.{keys_used, logins_used}
 use Rattle.sharing_rules.specs.Uses.{Use, uses_by}
 use Rattle.sharing_rules.specs.steps.Shared.{AreInOrder}
 use Rattle.package_shares.specs.steps.Requests.{MayWork, behind}
@@ -51,7 +51,10 @@ module _ (route : Route) where
     apart = subst (λ (cs : List ℕ). IsDistinct nat_eq cs)
         (ap (classes_at route) (named-legs asked) ∙ same-classes (legs_named asked) there) may.apart.0;
     falls = falls;
-    few = λ class.
-        subst (λ (us : List Use). keys_used class (behind before us) ≤ route.pool.sets_max) (append-nil (uses_by route (dated now asked)))
-        (may.few class);
+    few = λ who.
+        subst (λ (us : List Use). keys_used who (behind before us) ≤ route.pool.sets_max) (append-nil (uses_by route (dated now asked)))
+        (may.few who);
+    own = λ class.
+        subst (λ (us : List Use). logins_used class (behind before us) ≤ route.pool.max_sessions) (append-nil (uses_by route (dated now asked)))
+        (may.own class);
   }

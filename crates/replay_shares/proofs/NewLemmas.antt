@@ -1,5 +1,5 @@
 -- A new pool over a quiet backend is kept behind no use; and a replay over a wire shares, where it is orderly
-use Rattle.std.proofs.Common.{◌≡◌, ℕ, Bool, List, [], Option, Some, Result, Ok, Err, refl, sym, subst}
+use Rattle.std.proofs.Common.{◌≡◌, ℕ, Bool, List, [], Option, None, Some, Result, Ok, Err, refl, sym, subst}
 use Rattle.std.specs.Prelude.{IfOk}
 use Rattle.z_types.specs.declared.sitting.Sitting as sitting
 use Rattle.z_types.specs.declared.world.World as world
@@ -26,8 +26,8 @@ new_kept {S = S} w t route given before is quiet = record {
   pool = pool_of route given [];
   told = is;
   kept = record {
-    of = record { numbers = refl; numbered = record { class_of = λ number. 0; each = tt } };
-    each = λ class. refl;
+    of = record { numbers = refl; numbered = record { theirs = λ number. record { class = 0; login = None }; each = tt } };
+    each = λ who. refl;
   };
   calm = record { quiet = quiet; sessions = subst (λ (p : Option (Pool S)). IsWholePool w t p) (sym is) tt };
 }

@@ -23,7 +23,7 @@ use Rattle.script.specs.declared.event.Event.TheVariants.{Feed, End, Step, Run, 
 use Rattle.script.specs.Events.{AreEvents, IsClient, client_of, fed, has_ended, most_clients}
 use Rattle.sharing_rules.specs.Needed.{count_after}
 use Rattle.sharing_rules.specs.Uses.{DatedWork, Use, uses_of}
-use Rattle.sharing_rules.specs.steps.Shared.{AreInOrder, of_class}
+use Rattle.sharing_rules.specs.steps.Shared.{AreInOrder, shared_by}
 use Rattle.sharing_rules.proofs.PoolUses.{kept_later}
 use Rattle.replay.specs.front_conn_costs.steps.Numbers.{Number, dials, searches}
 use Rattle.package_shares.specs.package_quiet.steps.Quiet.{IsCalm}
@@ -41,7 +41,7 @@ use Rattle.replay_shares.specs.Orderly.{AreClientRuns, IsOrderly, IsClientRun, C
 use Rattle.replay_shares.specs.steps.Costs.{cost_at, cost_of_all, cost_on, is_needed}
 use Rattle.replay_shares.specs.steps.Laws.{ClientLaws, RunsOfScriptsShare, RunsShare, works_now}
 use Rattle.replay_shares.specs.steps.Resting.{IsKeptOver, IsResting, MayDo, StandBehind}
-use Rattle.replay_shares.proofs.CountLemmas.{count-both, keys-turned, later-order, may-first, may-rest, order-behind, uses-both, works-at}
+use Rattle.replay_shares.proofs.CountLemmas.{count-both, keys-turned, logins-turned, later-order, may-first, may-rest, order-behind, uses-both, works-at}
 use Rattle.replay_shares.proofs.EventLemmas.{AllCanCome, CanCome, all-come, closings-come, come-both, played-both}
 use Rattle.replay_shares.proofs.FeedLemmas.{rests-ended, rests-fed, rests-first}
 use Rattle.replay_shares.proofs.ReportLemmas.{class-reported, lines-are, plain-reported}
@@ -320,7 +320,7 @@ module _ {W S : Type 0} (w : world.Ghosts W) (t : sitting.Ghosts S W) (exact : B
       told = ap (λ d. d.pool) played.door ∙ h.kept.told;
       kept = record {
         of = h.kept.kept.of;
-        each = λ class. kept_later w route class (members_of route class) now (now + seconds) uses (of_class class h.kept.pool.sessions) (omega arith) (h.kept.kept.each class);
+        each = λ who. kept_later w route who (members_of route who.class) now (now + seconds) uses (shared_by who h.kept.pool.sessions) (omega arith) (h.kept.kept.each who);
       };
       calm = subst (λ d. IsCalm w t d.pool new.outside.backend) (sym played.door)
           (subst (λ b. IsCalm w t old.outside.door.pool b) (sym played.backend) h.kept.calm);
@@ -429,9 +429,12 @@ module _ {W S : Type 0} (w : world.Ghosts W) (t : sitting.Ghosts S W) (exact : B
   uses-fit : (runs : List ClientRun) (events : List Event) → IsOrderly w route events runs → MayDo route [] (dated_works runs)
   uses-fit runs events orderly = record {
     apart = orderly.apart;
-    few = λ class.
-        let room = orderly.room class in
-        let less = keys-turned class (uses_of route (dated_works runs)) in omega (arith, room, less);
+    few = λ who.
+        let room = orderly.room who in
+        let less = keys-turned who (uses_of route (dated_works runs)) in omega (arith, room, less);
+    own = λ class.
+        let room = orderly.own class in
+        let less = logins-turned class (uses_of route (dated_works runs)) in omega (arith, room, less);
   }
 
   pub script-ends : (events : List Event) (targets : ℕ) (runs : List ClientRun) (before after : Outside S) (report : Report)

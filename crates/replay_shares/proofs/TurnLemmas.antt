@@ -125,7 +125,7 @@ module _ {W S : Type 0} (w : world.Ghosts W) (t : sitting.Ghosts S W) (exact : B
           → (h : IsInWork w t exact route now before start view works totals marks outside)
           → HasShared w t route now (behind before (uses_now route now h.earlier)) view.work (At view outside)
       shared view works totals marks outside over h =
-          law exact route now (behind before (uses_now route now h.earlier)) view.work h.first (At view outside) h.mids is fair sound.pool h.may
+          law exact route now (behind before (uses_now route now h.earlier)) view.work h.first (At view outside) h.mids is fair sound h.may
           h.begins h.kept h.turns over
 
       -- once it is over its work is done: what its legs counted is added, and its mark is Plain

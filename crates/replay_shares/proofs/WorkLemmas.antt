@@ -121,7 +121,7 @@ module _ {W S : Type 0} (w : world.Ghosts W) (t : sitting.Ghosts S W) (route : R
       → leg.account.class < length route.classes
   leg-inside leg None is fits of = absurd fits
   leg-inside leg (Some said) is fits of =
-      let stands = subst (λ (x : Phase S). StandsAt w t (terms_of route leg.leg) most leg.task x leg.account) (done-is leg.phase said is) of.stands in
+      let stands = subst (λ (x : Phase S). StandsAt w t (terms_of route leg.login leg.leg) most leg.task x leg.account) (done-is leg.phase said is) of.stands in
       subst (λ (c : ℕ). c < length route.classes) (sym stands.2) (class-inside route leg.leg sound of.place)
 
   legs-inside : (legs : List (LegView S)) → AllByRecursion (λ (leg : LegView S). HasFitting leg.task (answered leg.phase)) legs

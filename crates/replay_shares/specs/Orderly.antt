@@ -1,6 +1,7 @@
 -- Orderly scripts (this project's own): no two requests are in work at once, nothing befalls a
--- link, and the sets of a class find room in one session. Of such a script it is known which works
--- are asked, and when: its events and what the targets answer say so
+-- link, the sets of a class and a login find room in one session, and each login of a class in a
+-- session of its own. Of such a script it is known which works are asked, and when: its events and
+-- what the targets answer say so
 use Rattle.std.specs.Prelude.{◌≡◌, ℕ, ◌+◌, ◌≤◌, ◌==◌, ◌&&◌, nat_eq, Bool, true, false, List, [], ◌∷◌, ◌++◌, length, map, drop, filter_map, slice_get, if◌then◌else◌, Option, None, Some, is_none}
 use Rattle.std.specs.List.{AllByRecursion, IsDistinct, list_all}
 use Rattle.z_types.specs.declared.work.Work.{Work}
@@ -10,7 +11,8 @@ use Rattle.route_config.specs.declared.route.Route.{Route}
 use Rattle.script.specs.declared.event.Event.{Event}
 use Rattle.script.specs.declared.event.Event.TheVariants.{Feed, End, Run, Tick}
 use Rattle.script.specs.Events.{fed, is_of, seconds_of}
-use Rattle.sharing_rules.specs.Orderly.{keys_used}
+use Rattle.sharing_rules.specs.Orderly.{keys_used, logins_used}
+use Rattle.sharing_rules.specs.Sharers.{Sharers}
 use Rattle.sharing_rules.specs.Uses.{DatedWork, uses_of}
 use Rattle.replay.specs.Trace.{closings}
 use Rattle.replay_shares.specs.Works.{Ask}
@@ -117,12 +119,16 @@ IsApart route done = IsDistinct nat_eq (classes_at route (legs_in done.work))
 
 -- Events are orderly, with these runs: they feed clients, end their inputs, run clients and let
 -- time pass; no other client and no tick comes between what is fed and its run; what was fed up to
--- a run ends between units or heads; and works are of legs of different classes, and use no more
--- keys of a class than a session may hold.
+-- a run ends between units or heads; and works are of legs of different classes, use no more keys
+-- of a class under one login than a session may hold, and no more logins of a class than it may
+-- have sessions.
 pub record IsOrderly {W : Type 0} (w : world.Ghosts W) (route : Route) (events : List Event)
     (runs : List ClientRun) : Type 0 where
   pub calm : list_all is_calm events ≡ true
   pub one_at_a_time : are_run None (closed events) ≡ true
   pub whole : AreClientRuns w route [] 0 (closed events) runs
   pub apart : AllByRecursion (IsApart route) (dated_works runs)
-  pub room : (class : ℕ) → keys_used class (uses_of route (dated_works runs)) ≤ route.pool.sets_max
+  pub room : (who : Sharers)
+      → keys_used who (uses_of route (dated_works runs)) ≤ route.pool.sets_max
+  pub own : (class : ℕ)
+      → logins_used class (uses_of route (dated_works runs)) ≤ route.pool.max_sessions

@@ -1,3 +1,4 @@
+pub mod SharerFacts
 pub mod TableUses
 pub mod RoomUses
 pub mod SearchUses
@@ -5,6 +6,7 @@ pub mod PoolUses
 pub mod TakeUses
 pub mod PutUses
 mod PoolFacts
+pub mod LoginRoom
 pub mod TakenUses
 pub mod NumberUses
 mod NeededFacts

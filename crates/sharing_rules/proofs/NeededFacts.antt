@@ -1,5 +1,5 @@
 -- What works need, by computation: the searches and the dials. A set is kept for 60 seconds, a session for 300.
-use Rattle.std.specs.Prelude.{◌≡◌, ℕ, List, [], ◌∷◌, None, refl}
+use Rattle.std.specs.Prelude.{◌≡◌, ℕ, List, [], ◌∷◌, Option, None, Some, refl}
 use Rattle.z_types.specs.Tree.{leaf}
 use Rattle.z_types.specs.declared.query.RpnQuery.{RpnQuery}
 use Rattle.z_types.specs.declared.query.Term.TheVariants.{General}
@@ -10,7 +10,7 @@ use Rattle.test_target.specs.declared.worlds.TestWorld.{TestWorld}
 use Rattle.test_target.specs.contracts.worlds.TestWorldWorld.TheImpl as test_world
 use Rattle.sharing_rules.specs.Uses.{DatedWork, uses_of}
 use Rattle.sharing_rules.specs.Needed.{needed, dials_needed}
-use Rattle.sharing_rules.specs.Orderly.{keys_used}
+use Rattle.sharing_rules.specs.Orderly.{keys_used, logins_used}
 
 abbrev tests : world.Ghosts TestWorld
 tests = test_world.ghosts
@@ -23,8 +23,11 @@ by number letter = record {
 }
 
 -- a Search that shows no record, a fetch of the first of three, and a scan, of the one leg
+abbrev search_by : Option (List ℕ) → ℕ → RpnQuery → DatedWork
+search_by login at query = record { at = at; work = work.Search login (0 ∷ []) query 0 1 0 None None None 100 }
+
 abbrev search : ℕ → RpnQuery → DatedWork
-search at query = record { at = at; work = work.Search None (0 ∷ []) query 0 1 0 None None None 100 }
+search at query = search_by None at query
 
 abbrev fetch : ℕ → RpnQuery → DatedWork
 fetch at query = record { at = at; work = work.Fetch None (0 ∷ []) query (3 ∷ []) 1 1 None None }
@@ -82,5 +85,12 @@ kept_by_scan = refl
 refused_twice : costs (search 0 (by 5 97) ∷ search 0 (by 5 97) ∷ []) ≡ (2, 1)
 refused_twice = refl
 
-keys_of_two : keys_used 0 (uses_of smallest_route (search 0 (title 97) ∷ search 0 (title 98) ∷ fetch 0 (title 97) ∷ [])) ≡ 2
+-- each login has sessions and sets of its own
+two_logins : costs (search 0 (title 97) ∷ search_by (Some (97 ∷ [])) 0 (title 97) ∷ search_by (Some []) 0 (title 97) ∷ search 0 (title 97) ∷ []) ≡ (3, 3)
+two_logins = refl
+
+logins_of_three : logins_used 0 (uses_of smallest_route (search 0 (title 97) ∷ search_by (Some (97 ∷ [])) 0 (title 97) ∷ search_by (Some []) 0 (title 97) ∷ search 0 (title 98) ∷ [])) ≡ 3
+logins_of_three = refl
+
+keys_of_two : keys_used (record { class = 0; login = None }) (uses_of smallest_route (search 0 (title 97) ∷ search 0 (title 98) ∷ fetch 0 (title 97) ∷ [])) ≡ 2
 keys_of_two = refl

@@ -1,4 +1,4 @@
--- Each number of a pool is of one class, through all that is done to it
+-- Each number of a pool is of one session's sharers, through all that is done to it
 use Rattle.std.proofs.Common.{◌≡◌, ◌==◌, ◌∙◌, ◌+◌, ◌≤◌, ℕ, Bool, true, false, cond, List, [], ◌∷◌, ◌++◌, map, filter, refl, sym, ap, subst, arith}
 use Rattle.std.specs.List.{AllByRecursion}
 use Rattle.std.specs.Cmp.{nat_eq_equiv}
@@ -8,14 +8,15 @@ use Rattle.pool_sets.specs.declared.pooled.Parts.{Parts}
 use Rattle.pool_sets.specs.declared.sessions.Stand.{Stand}
 use Rattle.pool_sets.specs.Sessions.{Session, with_stand, stands_at}
 use Rattle.pool_sets.specs.Plain.{stays_open, with_fresh_sets, out_for}
-use Rattle.sharing_rules.specs.steps.Shared.{AreNumbered, of_class}
+use Rattle.sharing_rules.specs.Sharers.{Sharers, same_sharers}
+use Rattle.sharing_rules.specs.steps.Shared.{AreNumbered, is_of, shared_by, sharers_of}
 use Rattle.sharing_rules.proofs.PoolUses.{afresh}
 use Rattle.sharing_rules.proofs.PutUses.{IsNumberOf}
 
 -- the next number is of no session yet
-later_class : (given class n : ℕ) (f : ℕ → ℕ) → n ≤ given → f n ≡ cond (n == given + 1) class (f n)
-later_class given class n f le =
-    (elim (n == given + 1) as (λ b. (n == given + 1) ≡ b → f n ≡ cond b class (f n)) [
+later_theirs : (given : ℕ) (who : Sharers) (n : ℕ) (f : ℕ → Sharers) → n ≤ given → f n ≡ cond (n == given + 1) who (f n)
+later_theirs given who n f le =
+    (elim (n == given + 1) as (λ b. (n == given + 1) ≡ b → f n ≡ cond b who (f n)) [
       | true ↦ λ e. let same = eqb-true n (given + 1) e in absurd (omega (arith, le, same))
       | false ↦ λ e. refl
     ]) refl
@@ -36,19 +37,19 @@ module _ {S : Type 0} where
   all_append P Q [] o k a q = (q, tt)
   all_append P Q (p ∷ os) o k a q = (k p a.0, all_append P Q os o k a.1 q)
 
-  -- what leaves each session its number and its class
-  pub numbered_map : (given : ℕ) (g : Session S → Session S) (os : List (Session S)) → ((o : Session S) → (g o).number ≡ o.number) → ((o : Session S) → (g o).class ≡ o.class)
+  -- what leaves each session its number and its sharers
+  pub numbered_map : (given : ℕ) (g : Session S → Session S) (os : List (Session S)) → ((o : Session S) → (g o).number ≡ o.number) → ((o : Session S) → sharers_of (g o) ≡ sharers_of o)
       → AreNumbered given os → AreNumbered given (map g os)
   numbered_map given g os n c a = record {
-    class_of = a.class_of;
-    each = all_map (λ o. (o.class ≡ a.class_of o.number) × (o.number ≤ given)) g os
-        (λ o h. (c o ∙ h.0 ∙ ap a.class_of (sym (n o)), subst (λ m. m ≤ given) (sym (n o)) h.1)) a.each;
+    theirs = a.theirs;
+    each = all_map (λ o. (sharers_of o ≡ a.theirs o.number) × (o.number ≤ given)) g os
+        (λ o h. (c o ∙ h.0 ∙ ap a.theirs (sym (n o)), subst (λ m. m ≤ given) (sym (n o)) h.1)) a.each;
   }
 
   pub numbered_filter : (given : ℕ) (p : Session S → Bool) (os : List (Session S)) → AreNumbered given os → AreNumbered given (filter p os)
   numbered_filter given p os a = record {
-    class_of = a.class_of;
-    each = all_filter (λ o. (o.class ≡ a.class_of o.number) × (o.number ≤ given)) p os a.each;
+    theirs = a.theirs;
+    each = all_filter (λ o. (sharers_of o ≡ a.theirs o.number) × (o.number ≤ given)) p os a.each;
   }
 
   pub numbered_afresh : (given now a b : ℕ) (os : List (Session S)) → AreNumbered given os → AreNumbered given (afresh now a b os)
@@ -61,38 +62,38 @@ module _ {S : Type 0} where
     | false ↦ refl
   ])
 
-  class_stays : (number : ℕ) (stand : Stand (Parts S) Address) (o : Session S) → (cond (o.number == number) (with_stand stand o) o).class ≡ o.class
-  class_stays number stand o = (elim (o.number == number) as (λ b. (cond b (with_stand stand o) o).class ≡ o.class) [
+  theirs_stay : (number : ℕ) (stand : Stand (Parts S) Address) (o : Session S) → sharers_of (cond (o.number == number) (with_stand stand o) o) ≡ sharers_of o
+  theirs_stay number stand o = (elim (o.number == number) as (λ b. sharers_of (cond b (with_stand stand o) o) ≡ sharers_of o) [
     | true ↦ refl
     | false ↦ refl
   ])
 
   pub numbered_moved : (given number : ℕ) (stand : Stand (Parts S) Address) (os : List (Session S)) → AreNumbered given os → AreNumbered given (stands_at number stand os)
   numbered_moved given number stand os a =
-      numbered_map given (λ o. cond (o.number == number) (with_stand stand o) o) os (number_stays number stand) (class_stays number stand) a
+      numbered_map given (λ o. cond (o.number == number) (with_stand stand o) o) os (number_stays number stand) (theirs_stay number stand) a
 
-  pub numbered_dialled : (given class : ℕ) (at : List Address) (m : ℕ) (os : List (Session S)) → AreNumbered given os
-      → AreNumbered (given + 1) (os ++ out_for (given + 1) class at m ∷ [])
-  numbered_dialled given class at m os a = record {
-    class_of = λ n. cond (n == given + 1) class (a.class_of n);
-    each = all_append (λ o. (o.class ≡ a.class_of o.number) × (o.number ≤ given))
-        (λ o. (o.class ≡ cond (o.number == given + 1) class (a.class_of o.number)) × (o.number ≤ given + 1)) os (out_for (given + 1) class at m)
-        (λ o h. (h.0 ∙ later_class given class o.number a.class_of h.1, (let le = h.1 in omega (arith, le)))) a.each
+  pub numbered_dialled : (given : ℕ) (who : Sharers) (at : List Address) (m : ℕ) (os : List (Session S)) → AreNumbered given os
+      → AreNumbered (given + 1) (os ++ out_for (given + 1) who.class at who.login m ∷ [])
+  numbered_dialled given who at m os a = record {
+    theirs = λ n. cond (n == given + 1) who (a.theirs n);
+    each = all_append (λ o. (sharers_of o ≡ a.theirs o.number) × (o.number ≤ given))
+        (λ o. (sharers_of o ≡ cond (o.number == given + 1) who (a.theirs o.number)) × (o.number ≤ given + 1)) os (out_for (given + 1) who.class at who.login m)
+        (λ o h. (h.0 ∙ later_theirs given who o.number a.theirs h.1, (let le = h.1 in omega (arith, le)))) a.each
         (rw (nat_eq_equiv.refl (given + 1)) refl, omega arith);
   }
 
-  -- a session of a class, and so its number, is of no other class
-  its_class : (P : Session S → Type 0) (class : ℕ) (os : List (Session S)) (o : Session S) → of_class class os ≡ o ∷ [] → AllByRecursion P os → P o
-  its_class P class os o e a =
-      let all = all_filter P (λ p. p.class == class) os a in
+  -- a session of some sharers, and so its number, is of no others
+  its_own : (P : Session S → Type 0) (who : Sharers) (os : List (Session S)) (o : Session S) → shared_by who os ≡ o ∷ [] → AllByRecursion P os → P o
+  its_own P who os o e a =
+      let all = all_filter P (is_of who) os a in
       let own : AllByRecursion P (o ∷ []) = subst (λ ps. AllByRecursion P ps) e all in own.0
 
-  number_apart : (class : ℕ) (f : ℕ → ℕ) (o p : Session S) → (o.class == class) ≡ true → o.class ≡ f o.number → p.class ≡ f p.number → (p.class == class) ≡ false
+  number_apart : (who : Sharers) (f : ℕ → Sharers) (o p : Session S) → is_of who o ≡ true → sharers_of o ≡ f o.number → sharers_of p ≡ f p.number → is_of who p ≡ false
       → (p.number == o.number) ≡ false
-  number_apart class f o p c e g n = (elim (p.number == o.number) as (λ b. (p.number == o.number) ≡ b → b ≡ false) [
+  number_apart who f o p c e g n = (elim (p.number == o.number) as (λ b. (p.number == o.number) ≡ b → b ≡ false) [
     | true ↦ λ k.
         let same = eqb-true p.number o.number k in
-        let bad : true ≡ false = sym c ∙ ap (λ m. m == class) (e ∙ ap f (sym same) ∙ sym g) ∙ n in absurd cc
+        let bad : true ≡ false = sym c ∙ ap (λ m. same_sharers m who) (e ∙ ap f (sym same) ∙ sym g) ∙ n in absurd cc
     | false ↦ λ k. refl
   ]) refl
 
@@ -100,9 +101,9 @@ module _ {S : Type 0} where
   all_imply P Q [] k a = tt
   all_imply P Q (o ∷ os) k a = (k o a.0, all_imply P Q os k a.1)
 
-  pub own_number : (given class : ℕ) (os : List (Session S)) (o : Session S) → of_class class os ≡ o ∷ [] → (o.class == class) ≡ true → AreNumbered given os
-      → IsNumberOf o.number class os
-  own_number given class os o e c a =
-      let own = its_class (λ p. (p.class ≡ a.class_of p.number) × (p.number ≤ given)) class os o e a.each in
-      all_imply (λ p. (p.class ≡ a.class_of p.number) × (p.number ≤ given)) (λ p. (p.class == class) ≡ false → (p.number == o.number) ≡ false) os
-      (λ p h n. number_apart class a.class_of o p c own.0 h.0 n) a.each
+  pub own_number : (given : ℕ) (who : Sharers) (os : List (Session S)) (o : Session S) → shared_by who os ≡ o ∷ [] → is_of who o ≡ true → AreNumbered given os
+      → IsNumberOf o.number who os
+  own_number given who os o e c a =
+      let own = its_own (λ p. (sharers_of p ≡ a.theirs p.number) × (p.number ≤ given)) who os o e a.each in
+      all_imply (λ p. (sharers_of p ≡ a.theirs p.number) × (p.number ≤ given)) (λ p. is_of who p ≡ false → (p.number == o.number) ≡ false) os
+      (λ p h n. number_apart who a.theirs o p c own.0 h.0 n) a.each

@@ -29,22 +29,25 @@ at = Test 0 ∷ []
 abbrev behind_search : Pool ℕ
 behind_search =
     put (record { class = 0; number = 1 }) (record { session = 7; table = after_record 0 (key 97) 3 0 (empty_table 10); address = Test 0 }) 0
-    (take_of 0 at (Some (key 97)) 0 (pool_of smallest_route 0 [])).1
+    (take_of 0 at None (Some (key 97)) 0 (pool_of smallest_route 0 [])).1
 
-first_dials : asks_dial (take_of {S = ℕ} 0 at (Some (key 97)) 0 (pool_of smallest_route 0 [])).0 ≡ true
+first_dials : asks_dial (take_of {S = ℕ} 0 at None (Some (key 97)) 0 (pool_of smallest_route 0 [])).0 ≡ true
 first_dials = refl
 
-reused_at_59 : is_reuse (take_of 0 at (Some (key 97)) 59 behind_search).0 ≡ true
+reused_at_59 : is_reuse (take_of 0 at None (Some (key 97)) 59 behind_search).0 ≡ true
 reused_at_59 = refl
 
-not_reused_at_60 : is_reuse (take_of 0 at (Some (key 97)) 60 behind_search).0 ≡ false
+not_reused_at_60 : is_reuse (take_of 0 at None (Some (key 97)) 60 behind_search).0 ≡ false
 not_reused_at_60 = refl
 
-no_other_key : is_reuse (take_of 0 at (Some (key 98)) 0 behind_search).0 ≡ false
+no_other_key : is_reuse (take_of 0 at None (Some (key 98)) 0 behind_search).0 ≡ false
 no_other_key = refl
 
-open_at_299 : asks_dial (take_of 0 at None 299 behind_search).0 ≡ false
+no_other_login : is_reuse (take_of 0 at (Some (97 ∷ [])) (Some (key 97)) 0 behind_search).0 ≡ false
+no_other_login = refl
+
+open_at_299 : asks_dial (take_of 0 at None None 299 behind_search).0 ≡ false
 open_at_299 = refl
 
-dials_at_300 : asks_dial (take_of 0 at None 300 behind_search).0 ≡ true
+dials_at_300 : asks_dial (take_of 0 at None None 300 behind_search).0 ≡ true
 dials_at_300 = refl

@@ -1,81 +1,83 @@
 -- A table of a class has a free slot for a set that it does not hold, while no more keys are used than it may hold
-use Rattle.std.proofs.Common.{◌≡◌, ◌==◌, ◌||◌, ◌∙◌, ◌+◌, ◌<◌, ◌≤◌, ℕ, zero, suc, Bool, true, false, cond, List, [], ◌∷◌, map, find, length, is_some, Option, None, Some, refl, sym, subst, nat_eq, arith}
+use Rattle.std.proofs.Common.{◌≡◌, ◌||◌, ◌∙◌, ◌+◌, ◌<◌, ◌≤◌, ℕ, zero, suc, Bool, true, false, cond, List, [], ◌∷◌, map, find, length, is_some, Option, None, Some, refl, sym, subst, nat_eq, arith}
 use Rattle.std.specs.Prelude.{filter_map, unwrap_or, if◌then◌else◌}
 use Rattle.std.specs.List.{AllByRecursion, IsDistinct, list_any, range_with_len}
 use Rattle.std.specs.Set.{unique_keys, is_member}
-use Rattle.std.specs.Cmp.{nat_eq_equiv}
 use Rattle.std.proofs.lemmas.Bool.{eqb-true}
 use Rattle.std.proofs.lemmas.List.{length-map}
 use Rattle.std.proofs.lemmas.Map.Made.{length-le_from_is_member}
 use Rattle.std.proofs.lemmas.Map.Steps.{le-length_from_below}
 use Rattle.std.proofs.Math.Bool.{or-true}
 use Rattle.z_types.specs.declared.key.SetKey.{SetKey}
+use Rattle.z_types.specs.Exact.{EqIsExact}
 use Rattle.z_types.specs.equality.Key as keys
 use Rattle.z_types.specs.contracts.key.SetKeyEq.TheImpl.Laws as key_law
 use Rattle.z_types.specs.declared.world.World as world
 use Rattle.route_config.specs.declared.route.Route.{Route}
 use Rattle.pool_sets.specs.Entries.{slots_of}
 use Rattle.pool_sets.specs.Table.{Entry, Table, same_key, set_of, is_free, free_slot, room, last_slot}
+use Rattle.sharing_rules.specs.Sharers.{Sharers}
 use Rattle.sharing_rules.specs.Uses.{Use}
-use Rattle.sharing_rules.specs.Needed.{is_set_in, last_at}
+use Rattle.sharing_rules.specs.Needed.{is_by, is_set_by, last_at}
 use Rattle.sharing_rules.specs.Orderly.{keys_used}
 use Rattle.sharing_rules.specs.steps.Shared.{IsUsedLast, HoldsUsed}
+use Rattle.sharing_rules.proofs.SharerFacts.{sharers_itself}
 use Rattle.sharing_rules.proofs.TableUses.{used_now}
 
 -- ---- keys that are used
 
-abbrev key_in : ℕ → Use → Option SetKey
-key_in class one = if one.class == class then one.key else None
+abbrev key_by : Sharers → Use → Option SetKey
+key_by who one = if is_by who one then one.key else None
 
-abbrev keys_in : ℕ → List Use → List SetKey
-keys_in class before = filter_map (key_in class) before
+abbrev keys_by : Sharers → List Use → List SetKey
+keys_by who before = filter_map (key_by who) before
 
 -- a use of a key puts it among the keys
-is_its_key : (class : ℕ) (key : SetKey) (one : Use) (k : Option SetKey) → one.key ≡ k → is_set_in class key one ≡ true → (rest : List Use)
-    → is_member same_key (keys_in class (one ∷ rest)) key ≡ true
-is_its_key class key one k e h rest = (elim (one.class == class) as (λ b. (one.class == class) ≡ b → is_member same_key (keys_in class (one ∷ rest)) key ≡ true) [
+is_its_key : (who : Sharers) (key : SetKey) (one : Use) (k : Option SetKey) → one.key ≡ k → is_set_by who key one ≡ true → (rest : List Use)
+    → is_member same_key (keys_by who (one ∷ rest)) key ≡ true
+is_its_key who key one k e h rest = (elim (is_by who one) as (λ b. is_by who one ≡ b → is_member same_key (keys_by who (one ∷ rest)) key ≡ true) [
   | true ↦ λ c. by_key k e c
   | false ↦ λ c. let bad = rw c at h in cc
 ]) refl
   where
-    by_key : (k : Option SetKey) → one.key ≡ k → (one.class == class) ≡ true → is_member same_key (keys_in class (one ∷ rest)) key ≡ true
+    by_key : (k : Option SetKey) → one.key ≡ k → is_by who one ≡ true → is_member same_key (keys_by who (one ∷ rest)) key ≡ true
     by_key None e c = let bad = rw (c, e) at h in cc
     by_key (Some own) e c = let same = rw (c, e) at h in rw (c, e) (rw same refl)
 
-member_more : (class : ℕ) (key : SetKey) (one : Use) (rest : List Use) → is_member same_key (keys_in class rest) key ≡ true → is_member same_key (keys_in class (one ∷ rest)) key ≡ true
-member_more class key one rest h = by_key (key_in class one) refl
+member_more : (who : Sharers) (key : SetKey) (one : Use) (rest : List Use) → is_member same_key (keys_by who rest) key ≡ true → is_member same_key (keys_by who (one ∷ rest)) key ≡ true
+member_more who key one rest h = by_key (key_by who one) refl
   where
-    by_key : (k : Option SetKey) → key_in class one ≡ k → is_member same_key (keys_in class (one ∷ rest)) key ≡ true
+    by_key : (k : Option SetKey) → key_by who one ≡ k → is_member same_key (keys_by who (one ∷ rest)) key ≡ true
     by_key None e = rw e h
     by_key (Some own) e = rw (e, h) (or-true (same_key key own))
 
-used_is_member : (class : ℕ) (key : SetKey) (before : List Use) (at : ℕ) → last_at (is_set_in class key) before ≡ Some at → is_member same_key (keys_in class before) key ≡ true
-used_is_member class key [] at h = cc
-used_is_member class key (one ∷ before) at h = (elim (is_set_in class key one) as (λ b. is_set_in class key one ≡ b → is_member same_key (keys_in class (one ∷ before)) key ≡ true) [
-  | true ↦ λ t. is_its_key class key one one.key refl t before
-  | false ↦ λ t. member_more class key one before (used_is_member class key before at (rw t at h))
+used_is_member : (who : Sharers) (key : SetKey) (before : List Use) (at : ℕ) → last_at (is_set_by who key) before ≡ Some at → is_member same_key (keys_by who before) key ≡ true
+used_is_member who key [] at h = cc
+used_is_member who key (one ∷ before) at h = (elim (is_set_by who key one) as (λ b. is_set_by who key one ≡ b → is_member same_key (keys_by who (one ∷ before)) key ≡ true) [
+  | true ↦ λ t. is_its_key who key one one.key refl t before
+  | false ↦ λ t. member_more who key one before (used_is_member who key before at (rw t at h))
 ]) refl
 
 -- each of the keys of a table is used
-entries_used : (class : ℕ) (before : List Use) (q : SetKey) (es : List Entry) → AllByRecursion (IsUsedLast class before) es → is_member same_key (map (λ e. e.key) es) q ≡ true
-    → is_member same_key (keys_in class before) q ≡ true
-entries_used class before q [] a h = cc
-entries_used class before q (e ∷ es) a h = (elim (same_key q e.key) as (λ b. same_key q e.key ≡ b → is_member same_key (keys_in class before) q ≡ true) [
-  | true ↦ λ t. subst (λ k. is_member same_key (keys_in class before) k ≡ true) (sym (keys.key.eq_is_exact q e.key t)) (used_is_member class e.key before e.used a.0)
-  | false ↦ λ t. entries_used class before q es a.1 (rw t at h)
+entries_used : (who : Sharers) (before : List Use) (q : SetKey) (es : List Entry) → AllByRecursion (IsUsedLast who before) es → is_member same_key (map (λ e. e.key) es) q ≡ true
+    → is_member same_key (keys_by who before) q ≡ true
+entries_used who before q [] a h = cc
+entries_used who before q (e ∷ es) a h = (elim (same_key q e.key) as (λ b. same_key q e.key ≡ b → is_member same_key (keys_by who before) q ≡ true) [
+  | true ↦ λ t. subst (λ k. is_member same_key (keys_by who before) k ≡ true) (sym (keys.key.eq_is_exact q e.key t)) (used_is_member who e.key before e.used a.0)
+  | false ↦ λ t. entries_used who before q es a.1 (rw t at h)
 ]) refl
 
--- keys that are left once each have the same members
-unique_member : (q : SetKey) (ks : List SetKey) → is_member same_key ks q ≡ true → is_member same_key (unique_keys same_key ks) q ≡ true
-unique_member q [] h = h
-unique_member q (k ∷ ks) h = (elim (is_member same_key ks k) as (λ b. is_member same_key ks k ≡ b → is_member same_key (cond b (unique_keys same_key ks) (k ∷ unique_keys same_key ks)) q ≡ true) [
-  | true ↦ λ m. (elim (same_key q k) as (λ b. same_key q k ≡ b → is_member same_key (unique_keys same_key ks) q ≡ true) [
-    | true ↦ λ t. unique_member q ks (subst (λ z. is_member same_key ks z ≡ true) (sym (keys.key.eq_is_exact q k t)) m)
-    | false ↦ λ t. unique_member q ks (rw t at h)
+-- what is left once each has the same members
+pub unique_member : {K : Type 0} {eq : K → K → Bool} → EqIsExact eq → (q : K) (ks : List K) → is_member eq ks q ≡ true → is_member eq (unique_keys eq ks) q ≡ true
+unique_member exact q [] h = h
+unique_member {K} {eq} exact q (k ∷ ks) h = (elim (is_member eq ks k) as (λ b. is_member eq ks k ≡ b → is_member eq (cond b (unique_keys eq ks) (k ∷ unique_keys eq ks)) q ≡ true) [
+  | true ↦ λ m. (elim (eq q k) as (λ b. eq q k ≡ b → is_member eq (unique_keys eq ks) q ≡ true) [
+    | true ↦ λ t. unique_member exact q ks (subst (λ z. is_member eq ks z ≡ true) (sym (exact q k t)) m)
+    | false ↦ λ t. unique_member exact q ks (rw t at h)
   ]) refl
-  | false ↦ λ m. (elim (same_key q k) as (λ b. same_key q k ≡ b → (b || is_member same_key (unique_keys same_key ks) q) ≡ true) [
+  | false ↦ λ m. (elim (eq q k) as (λ b. eq q k ≡ b → (b || is_member eq (unique_keys eq ks) q) ≡ true) [
     | true ↦ λ t. refl
-    | false ↦ λ t. unique_member q ks (rw t at h)
+    | false ↦ λ t. unique_member exact q ks (rw t at h)
   ]) refl
 ]) refl
 
@@ -86,25 +88,25 @@ none_has key (x ∷ es) h = (elim (same_key x.key key) as (λ b. same_key x.key 
   | false ↦ λ t. (key_law.laws-law.symm key x.key ∙ t, none_has key es (rw t at h))
 ]) refl
 
-module _ {W : Type 0} (w : world.Ghosts W) (route : Route) (class now : ℕ) (before : List Use) (t : Table) (key : SetKey)
-    (h : HoldsUsed w route class now before t) (f : set_of key t ≡ None) where
+module _ {W : Type 0} (w : world.Ghosts W) (route : Route) (who : Sharers) (now : ℕ) (before : List Use) (t : Table) (key : SetKey)
+    (h : HoldsUsed w route who now before t) (f : set_of key t ≡ None) where
   all_used : (q : SetKey) → is_member same_key (key ∷ map (λ e. e.key) t.entries) q ≡ true
-      → is_member same_key (unique_keys same_key (keys_in class (used_now class (Some key) now ∷ before))) q ≡ true
-  all_used q m = (elim (same_key q key) as (λ b. same_key q key ≡ b → is_member same_key (unique_keys same_key (keys_in class (used_now class (Some key) now ∷ before))) q ≡ true) [
+      → is_member same_key (unique_keys same_key (keys_by who (used_now who (Some key) now ∷ before))) q ≡ true
+  all_used q m = (elim (same_key q key) as (λ b. same_key q key ≡ b → is_member same_key (unique_keys same_key (keys_by who (used_now who (Some key) now ∷ before))) q ≡ true) [
     | true ↦ λ k.
         let same = keys.key.eq_is_exact q key k in
-        unique_member q (keys_in class (used_now class (Some key) now ∷ before))
-        (subst (λ z. is_member same_key (keys_in class (used_now class (Some key) now ∷ before)) z ≡ true) (sym same)
-        (is_its_key class key (used_now class (Some key) now) (Some key) refl (rw (nat_eq_equiv.refl class, key_law.laws-law.refl key) refl) before))
-    | false ↦ λ k. unique_member q (keys_in class (used_now class (Some key) now ∷ before))
-        (member_more class q (used_now class (Some key) now) before (entries_used class before q t.entries h.used (rw k at m)))
+        unique_member keys.key.eq_is_exact q (keys_by who (used_now who (Some key) now ∷ before))
+        (subst (λ z. is_member same_key (keys_by who (used_now who (Some key) now ∷ before)) z ≡ true) (sym same)
+        (is_its_key who key (used_now who (Some key) now) (Some key) refl (rw (sharers_itself who, key_law.laws-law.refl key) refl) before))
+    | false ↦ λ k. unique_member keys.key.eq_is_exact q (keys_by who (used_now who (Some key) now ∷ before))
+        (member_more who q (used_now who (Some key) now) before (entries_used who before q t.entries h.used (rw k at m)))
   ]) refl
 
   -- fewer sets are held than there may be
-  pub fewer_held : keys_used class (used_now class (Some key) now ∷ before) ≤ route.pool.sets_max → length t.entries < t.most
+  pub fewer_held : keys_used who (used_now who (Some key) now ∷ before) ≤ route.pool.sets_max → length t.entries < t.most
   unfolding IsDistinct
   fewer_held room =
-      let most = length-le_from_is_member key_law.laws-law (key ∷ map (λ e. e.key) t.entries) (unique_keys same_key (keys_in class (used_now class (Some key) now ∷ before)))
+      let most = length-le_from_is_member key_law.laws-law (key ∷ map (λ e. e.key) t.entries) (unique_keys same_key (keys_by who (used_now who (Some key) now ∷ before)))
       (none_has key t.entries f, h.distinct) all_used in
       let same = length-map t.entries (λ (e : Entry). e.key) in
       rw h.most (omega (arith, most, same, room))

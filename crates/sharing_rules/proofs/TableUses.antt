@@ -1,5 +1,5 @@
 -- A table of a class behind uses of it: what expiry, a use, a search and a refusal leave of it
-use Rattle.std.proofs.Common.{◌≡◌, ◌==◌, ◌||◌, ◌∙◌, ◌-◌, ◌≤◌, ℕ, max, Bool, true, false, not, cond, List, [], ◌∷◌, map, filter, find, is_some, Option, None, Some, refl, sym, ap, subst, nat_eq, nat_lt, nat_le, arith}
+use Rattle.std.proofs.Common.{◌≡◌, ◌||◌, ◌∙◌, ◌-◌, ◌≤◌, ℕ, max, Bool, true, false, not, cond, List, [], ◌∷◌, map, filter, find, is_some, Option, None, Some, refl, sym, ap, subst, nat_eq, nat_lt, nat_le, arith}
 use Rattle.std.specs.List.{AllByRecursion, IsDistinct}
 use Rattle.std.specs.Option.{option_map, option_map_or}
 use Rattle.std.specs.Cmp.{nat_eq_equiv}
@@ -11,9 +11,11 @@ use Rattle.z_types.specs.declared.world.World as world
 use Rattle.route_config.specs.declared.route.Route.{Route}
 use Rattle.pool_sets.specs.Entries.{slots_of}
 use Rattle.pool_sets.specs.Table.{Entry, Table, same_key, set_of, moment_of, after_record, empty_table, without, is_free, after_expire, after_find}
+use Rattle.sharing_rules.specs.Sharers.{Sharers, same_sharers}
 use Rattle.sharing_rules.specs.Uses.{Use}
-use Rattle.sharing_rules.specs.Needed.{is_in, is_set_in, last_at, is_late, is_refused}
+use Rattle.sharing_rules.specs.Needed.{is_by, is_set_by, last_at, is_late, is_refused}
 use Rattle.sharing_rules.specs.steps.Shared.{AreInOrder, IsUsedLast, HoldsUsed}
+use Rattle.sharing_rules.proofs.SharerFacts.{sharers_itself}
 
 -- ---- moments
 
@@ -129,24 +131,24 @@ free_differs slot (x ∷ es) f = (elim (nat_eq slot x.slot) as (λ b. nat_eq slo
 found_key : (key : SetKey) (es : List Entry) (e : Entry) → find (λ f. same_key f.key key) es ≡ Some e → e.key ≡ key
 found_key key es e h = keys.key.eq_is_exact e.key key (found_passes (λ f. same_key f.key key) es e h)
 
-module _ {W : Type 0} (w : world.Ghosts W) (route : Route) (class : ℕ) where
+module _ {W : Type 0} (w : world.Ghosts W) (route : Route) (who : Sharers) where
   -- the uses of a key so far, by the last of them
   abbrev pub last_of : SetKey → List Use → Option ℕ
-  last_of key before = last_at (is_set_in class key) before
+  last_of key before = last_at (is_set_by who key) before
 
   -- what is found was last used when the table says
-  found_used : (key : SetKey) (before : List Use) (es : List Entry) (e : Entry) → AllByRecursion (IsUsedLast class before) es
+  found_used : (key : SetKey) (before : List Use) (es : List Entry) (e : Entry) → AllByRecursion (IsUsedLast who before) es
       → find (λ f. same_key f.key key) es ≡ Some e → last_of key before ≡ Some e.used
   found_used key before es e a h =
-      subst (λ k. last_at (is_set_in class k) before ≡ Some e.used) (found_key key es e h)
-      (found_has (IsUsedLast class before) (λ f. same_key f.key key) es e a h)
+      subst (λ k. last_at (is_set_by who k) before ≡ Some e.used) (found_key key es e h)
+      (found_has (IsUsedLast who before) (λ f. same_key f.key key) es e a h)
 
   -- a set that is not late is held still, once a table has expired
-  held_still : (now later : ℕ) (before : List Use) (t : Table) (key : SetKey) → HoldsUsed w route class now before t → now ≤ later
-      → is_refused w route class key ≡ false → is_late route.pool.set_ttl later (last_of key before) ≡ false
+  held_still : (now later : ℕ) (before : List Use) (t : Table) (key : SetKey) → HoldsUsed w route who now before t → now ≤ later
+      → is_refused w route who key ≡ false → is_late route.pool.set_ttl later (last_of key before) ≡ false
       → is_some (set_of key (after_expire later route.pool.set_ttl t)) ≡ true
   held_still now later before t key h le r k =
-      let held = h.held key r (keeps_early route.pool.set_ttl now later (last_at (is_set_in class key) before) le k) in
+      let held = h.held key r (keeps_early route.pool.set_ttl now later (last_at (is_set_by who key) before) le k) in
       (elim (set_of key t) as (λ o. set_of key t ≡ o → is_some (set_of key (after_expire later route.pool.set_ttl t)) ≡ true) [
         | None ↦ λ f. let bad = rw f at held in cc
         | Some e ↦ λ f.
@@ -157,8 +159,8 @@ module _ {W : Type 0} (w : world.Ghosts W) (route : Route) (class : ℕ) where
       ]) refl
 
   -- time passes, and a table expires or not
-  pub expired : (now later : ℕ) (before : List Use) (t : Table) → HoldsUsed w route class now before t → now ≤ later
-      → HoldsUsed w route class later before (after_expire later route.pool.set_ttl t)
+  pub expired : (now later : ℕ) (before : List Use) (t : Table) → HoldsUsed w route who now before t → now ≤ later
+      → HoldsUsed w route who later before (after_expire later route.pool.set_ttl t)
   unfolding keys_of
   expired now later before t h le =
       let p = λ (x : Entry). nat_lt (moment_of later t - x.used) route.pool.set_ttl in
@@ -167,13 +169,13 @@ module _ {W : Type 0} (w : world.Ghosts W) (route : Route) (class : ℕ) where
         latest = omega (arith, h.latest, le);
         distinct = distinct_stay p t.entries h.distinct;
         slots = slots_stay p t.entries h.slots;
-        good = all_stay (λ e. is_refused w route class e.key ≡ false) p t.entries h.good;
-        used = all_stay (IsUsedLast class before) p t.entries h.used;
+        good = all_stay (λ e. is_refused w route who e.key ≡ false) p t.entries h.good;
+        used = all_stay (IsUsedLast who before) p t.entries h.used;
         held = λ key r k. held_still now later before t key h le r k;
       }
 
-  pub passed : (now later : ℕ) (before : List Use) (t : Table) → HoldsUsed w route class now before t → now ≤ later
-      → HoldsUsed w route class later before t
+  pub passed : (now later : ℕ) (before : List Use) (t : Table) → HoldsUsed w route who now before t → now ≤ later
+      → HoldsUsed w route who later before t
   passed now later before t h le = record {
     most = h.most;
     latest = omega (arith, h.latest, le);
@@ -181,11 +183,11 @@ module _ {W : Type 0} (w : world.Ghosts W) (route : Route) (class : ℕ) where
     slots = h.slots;
     good = h.good;
     used = h.used;
-    held = λ key r k. h.held key r (keeps_early route.pool.set_ttl now later (last_at (is_set_in class key) before) le k);
+    held = λ key r k. h.held key r (keeps_early route.pool.set_ttl now later (last_at (is_set_by who key) before) le k);
   }
 
   -- nothing that is late is found once a table has expired
-  none_late : (now : ℕ) (before : List Use) (latest : ℕ) (key : SetKey) (es : List Entry) → AllByRecursion (IsUsedLast class before) es → latest ≤ now
+  none_late : (now : ℕ) (before : List Use) (latest : ℕ) (key : SetKey) (es : List Entry) → AllByRecursion (IsUsedLast who before) es → latest ≤ now
       → is_late route.pool.set_ttl now (last_of key before) ≡ true
       → find (λ x. same_key x.key key) (filter (λ x. nat_lt (max latest now - x.used) route.pool.set_ttl) es) ≡ None
   none_late now before latest key [] a le k = refl
@@ -195,7 +197,7 @@ module _ {W : Type 0} (w : world.Ghosts W) (route : Route) (class : ℕ) where
       (elim (same_key x.key key) as (λ b. same_key x.key key ≡ b → find (λ y. same_key y.key key) (cond (p x) (x ∷ filter p es) (filter p es)) ≡ None) [
         | true ↦ λ t.
             let same : x.key ≡ key = keys.key.eq_is_exact x.key key t in
-            let at : last_at (is_set_in class key) before ≡ Some x.used = subst (λ k. last_at (is_set_in class k) before ≡ Some x.used) same a.0 in
+            let at : last_at (is_set_by who key) before ≡ Some x.used = subst (λ k. last_at (is_set_by who k) before ≡ Some x.used) same a.0 in
             rw (stale_if_late route.pool.set_ttl now latest x.used le (rw at at k)) rest
         | false ↦ λ t. (elim (p x) as (λ b. find (λ y. same_key y.key key) (cond b (x ∷ filter p es) (filter p es)) ≡ None) [
           | true ↦ rw t rest
@@ -204,27 +206,27 @@ module _ {W : Type 0} (w : world.Ghosts W) (route : Route) (class : ℕ) where
       ]) refl
 
   -- nor what the target refuses
-  none_refused : (key : SetKey) (es : List Entry) → AllByRecursion (λ e. is_refused w route class e.key ≡ false) es
-      → is_refused w route class key ≡ true → find (λ x. same_key x.key key) es ≡ None
+  none_refused : (key : SetKey) (es : List Entry) → AllByRecursion (λ e. is_refused w route who e.key ≡ false) es
+      → is_refused w route who key ≡ true → find (λ x. same_key x.key key) es ≡ None
   none_refused key [] a r = refl
   none_refused key (x ∷ es) a r = (elim (same_key x.key key) as (λ b. same_key x.key key ≡ b → cond b (Some x) (find (λ y. same_key y.key key) es) ≡ None) [
-    | true ↦ λ t. let bad = subst (λ k. is_refused w route class k ≡ false) (keys.key.eq_is_exact x.key key t) a.0 in cc
+    | true ↦ λ t. let bad = subst (λ k. is_refused w route who k ≡ false) (keys.key.eq_is_exact x.key key t) a.0 in cc
     | false ↦ λ t. none_refused key es a.1 r
   ]) refl
 
   -- a set is searched for exactly where a table that has expired does not hold it
-  pub searched_if_not_held : (now : ℕ) (before : List Use) (t : Table) (key : SetKey) → HoldsUsed w route class now before t
+  pub searched_if_not_held : (now : ℕ) (before : List Use) (t : Table) (key : SetKey) → HoldsUsed w route who now before t
       → not (is_some (set_of key (after_expire now route.pool.set_ttl t)))
-      ≡ (is_refused w route class key || is_late route.pool.set_ttl now (last_of key before))
+      ≡ (is_refused w route who key || is_late route.pool.set_ttl now (last_of key before))
   searched_if_not_held now before t key h =
       let ttl = route.pool.set_ttl in
       let p = λ (x : Entry). nat_lt (moment_of now t - x.used) ttl in
       let is_its = λ (x : Entry). same_key x.key key in
-      (elim (is_refused w route class key) as (λ b. is_refused w route class key ≡ b → not (is_some (set_of key (after_expire now ttl t))) ≡ (b || is_late ttl now (last_at (is_set_in class key) before))) [
+      (elim (is_refused w route who key) as (λ b. is_refused w route who key ≡ b → not (is_some (set_of key (after_expire now ttl t))) ≡ (b || is_late ttl now (last_at (is_set_by who key) before))) [
         | true ↦ λ r.
-            let good = all_stay (λ e. is_refused w route class e.key ≡ false) p t.entries h.good in
+            let good = all_stay (λ e. is_refused w route who e.key ≡ false) p t.entries h.good in
             rw (none_refused key (filter p t.entries) good r) refl
-        | false ↦ λ r. (elim (is_late ttl now (last_at (is_set_in class key) before)) as (λ b. is_late ttl now (last_at (is_set_in class key) before) ≡ b → not (is_some (set_of key (after_expire now ttl t))) ≡ (false || b)) [
+        | false ↦ λ r. (elim (is_late ttl now (last_at (is_set_by who key) before)) as (λ b. is_late ttl now (last_at (is_set_by who key) before) ≡ b → not (is_some (set_of key (after_expire now ttl t))) ≡ (false || b)) [
           | true ↦ λ l. rw (none_late now before t.latest key t.entries h.used h.latest l) refl
           | false ↦ λ l. let le : now ≤ now = omega arith in rw (held_still now now before t key h le r l) refl
         ]) refl
@@ -239,29 +241,26 @@ turned : (a b : SetKey) → same_key a b ≡ same_key b a
 turned a b = key_law.laws-law.symm a b
 
 -- a use of the key of a class now
-abbrev pub used_now : ℕ → Option SetKey → ℕ → Use
-used_now class key now = record { class = class; key = key; at = now }
-
-class_itself : (class : ℕ) → (class == class) ≡ true
-class_itself class = nat_eq_equiv.refl class
+abbrev pub used_now : Sharers → Option SetKey → ℕ → Use
+used_now who key now = record { by = who; key = key; at = now }
 
 -- the last use of that key is now
-now_last : (class now : ℕ) (key : SetKey) (before : List Use) → last_at (is_set_in class key) (used_now class (Some key) now ∷ before) ≡ Some now
-now_last class now key before = rw (class_itself class, itself key) refl
+now_last : (who : Sharers) (now : ℕ) (key : SetKey) (before : List Use) → last_at (is_set_by who key) (used_now who (Some key) now ∷ before) ≡ Some now
+now_last who now key before = rw (sharers_itself who, itself key) refl
 
 -- and that of another key is what it was
-other_last : (class now : ℕ) (key other : SetKey) (before : List Use) → same_key other key ≡ false
-    → last_at (is_set_in class other) (used_now class (Some key) now ∷ before) ≡ last_at (is_set_in class other) before
-other_last class now key other before h = rw (class_itself class, h) refl
+other_last : (who : Sharers) (now : ℕ) (key other : SetKey) (before : List Use) → same_key other key ≡ false
+    → last_at (is_set_by who other) (used_now who (Some key) now ∷ before) ≡ last_at (is_set_by who other) before
+other_last who now key other before h = rw (sharers_itself who, h) refl
 
 -- a scan uses no key
-scan_last : (class now : ℕ) (key : SetKey) (before : List Use) → last_at (is_set_in class key) (used_now class None now ∷ before) ≡ last_at (is_set_in class key) before
-scan_last class now key before = rw (class_itself class) refl
+scan_last : (who : Sharers) (now : ℕ) (key : SetKey) (before : List Use) → last_at (is_set_by who key) (used_now who None now ∷ before) ≡ last_at (is_set_by who key) before
+scan_last who now key before = rw (sharers_itself who) refl
 
--- a use of another class is none of this one
-others_last : (class own now : ℕ) (used : Option SetKey) (key : SetKey) (before : List Use) → (own == class) ≡ false
-    → last_at (is_set_in class key) (used_now own used now ∷ before) ≡ last_at (is_set_in class key) before
-others_last class own now used key before h = rw h refl
+-- a use by others is none of theirs
+others_last : (who own : Sharers) (now : ℕ) (used : Option SetKey) (key : SetKey) (before : List Use) → same_sharers own who ≡ false
+    → last_at (is_set_by who key) (used_now own used now ∷ before) ≡ last_at (is_set_by who key) before
+others_last who own now used key before h = rw h refl
 
 -- ---- a set that is used
 
@@ -347,18 +346,18 @@ found_besides key other (x ∷ es) e d h n k = (elim (same_key x.key key) as (λ
 at_most : (latest now : ℕ) → latest ≤ now → max latest now ≡ now
 at_most latest now h = omega arith
 
-module _ {W : Type 0} (w : world.Ghosts W) (route : Route) (class now : ℕ) (before : List Use) where
+module _ {W : Type 0} (w : world.Ghosts W) (route : Route) (who : Sharers) (now : ℕ) (before : List Use) where
   -- behind a use of a key the last use of another key is what it was
-  used_apart : (key : SetKey) (es : List Entry) → AllByRecursion (λ e. same_key e.key key ≡ false) es → AllByRecursion (IsUsedLast class before) es
-      → AllByRecursion (IsUsedLast class (used_now class (Some key) now ∷ before)) es
+  used_apart : (key : SetKey) (es : List Entry) → AllByRecursion (λ e. same_key e.key key ≡ false) es → AllByRecursion (IsUsedLast who before) es
+      → AllByRecursion (IsUsedLast who (used_now who (Some key) now ∷ before)) es
   used_apart key es a b =
-      all_imply (λ e. (same_key e.key key ≡ false) × IsUsedLast class before e) (IsUsedLast class (used_now class (Some key) now ∷ before)) es
-      (λ e h. other_last class now key e.key before h.0 ∙ h.1)
-      (all_both (λ e. same_key e.key key ≡ false) (IsUsedLast class before) es a b)
+      all_imply (λ e. (same_key e.key key ≡ false) × IsUsedLast who before e) (IsUsedLast who (used_now who (Some key) now ∷ before)) es
+      (λ e h. other_last who now key e.key before h.0 ∙ h.1)
+      (all_both (λ e. same_key e.key key ≡ false) (IsUsedLast who before) es a b)
 
   -- a set that is held is used
-  pub used_again : (t : Table) (key : SetKey) (e : Entry) → HoldsUsed w route class now before t → set_of key t ≡ Some e
-      → HoldsUsed w route class now (used_now class (Some key) now ∷ before) (after_find key now t)
+  pub used_again : (t : Table) (key : SetKey) (e : Entry) → HoldsUsed w route who now before t → set_of key t ≡ Some e
+      → HoldsUsed w route who now (used_now who (Some key) now ∷ before) (after_find key now t)
   unfolding keys_of IsDistinct
   used_again t key e h f =
       let is_key = found_key key t.entries e f in
@@ -376,19 +375,19 @@ module _ {W : Type 0} (w : world.Ghosts W) (route : Route) (class now : ℕ) (be
         );
         slots = (slots_differ e.slot t.entries, slots_stay stay t.entries h.slots);
         good = (
-          found_has (λ x. is_refused w route class x.key ≡ false) (λ x. same_key x.key key) t.entries e h.good f,
-          all_stay (λ x. is_refused w route class x.key ≡ false) stay t.entries h.good,
+          found_has (λ x. is_refused w route who x.key ≡ false) (λ x. same_key x.key key) t.entries e h.good f,
+          all_stay (λ x. is_refused w route who x.key ≡ false) stay t.entries h.good,
         );
         used = (
-          subst (λ k. last_at (is_set_in class k) (used_now class (Some key) now ∷ before) ≡ Some (max t.latest now)) (sym is_key) (now_last class now key before ∙ ap Some (sym moment)),
-          used_apart key (without e.slot t.entries) others (all_stay (IsUsedLast class before) stay t.entries h.used),
+          subst (λ k. last_at (is_set_by who k) (used_now who (Some key) now ∷ before) ≡ Some (max t.latest now)) (sym is_key) (now_last who now key before ∙ ap Some (sym moment)),
+          used_apart key (without e.slot t.entries) others (all_stay (IsUsedLast who before) stay t.entries h.used),
         );
         held = λ other r l. (elim (same_key e.key other) as (λ b. same_key e.key other ≡ b → is_some (cond b (Some (record { slot = e.slot; key = e.key; hits = e.hits; used = max t.latest now })) (find (λ x. same_key x.key other) (without e.slot t.entries))) ≡ true) [
           | true ↦ λ o. refl
           | false ↦ λ o.
               let n : same_key other key ≡ false = turned other key ∙ subst (λ k. same_key k other ≡ false) is_key o in
               found_besides key other t.entries e h.slots f n
-              (h.held other r (subst (λ o. is_late route.pool.set_ttl now o ≡ false) (other_last class now key other before n) l))
+              (h.held other r (subst (λ o. is_late route.pool.set_ttl now o ≡ false) (other_last who now key other before n) l))
         ]) refl;
       })
 
@@ -401,9 +400,9 @@ module _ {W : Type 0} (w : world.Ghosts W) (route : Route) (class now : ℕ) (be
   ]) refl
 
   -- a search that found records is recorded
-  pub recorded : (t : Table) (slot hits : ℕ) (key : SetKey) → HoldsUsed w route class now before t → set_of key t ≡ None
-      → is_refused w route class key ≡ false → is_free t.entries slot ≡ true
-      → HoldsUsed w route class now (used_now class (Some key) now ∷ before) (after_record slot key hits now t)
+  pub recorded : (t : Table) (slot hits : ℕ) (key : SetKey) → HoldsUsed w route who now before t → set_of key t ≡ None
+      → is_refused w route who key ≡ false → is_free t.entries slot ≡ true
+      → HoldsUsed w route who now (used_now who (Some key) now ∷ before) (after_record slot key hits now t)
   unfolding keys_of IsDistinct
   recorded t slot hits key h f r free =
       let others = none_has key t.entries f in
@@ -418,22 +417,22 @@ module _ {W : Type 0} (w : world.Ghosts W) (route : Route) (class now : ℕ) (be
         );
         slots = (free_differs slot t.entries free, h.slots);
         good = (r, h.good);
-        used = (now_last class now key before ∙ ap Some (sym moment), used_apart key t.entries others h.used);
+        used = (now_last who now key before ∙ ap Some (sym moment), used_apart key t.entries others h.used);
         held = λ other r l. (elim (same_key key other) as (λ b. same_key key other ≡ b → is_some (cond b (Some (record { slot = slot; key = key; hits = hits; used = max t.latest now })) (set_of other t)) ≡ true) [
           | true ↦ λ o. refl
           | false ↦ λ o.
               let n : same_key other key ≡ false = turned other key ∙ o in
-              h.held other r (subst (λ o. is_late route.pool.set_ttl now o ≡ false) (other_last class now key other before n) l)
+              h.held other r (subst (λ o. is_late route.pool.set_ttl now o ≡ false) (other_last who now key other before n) l)
         ]) refl;
       }
 
   -- each key but this one was last used when it was
-  pub refused_again : (t : Table) (key : SetKey) → HoldsUsed w route class now before t → is_refused w route class key ≡ true
-      → HoldsUsed w route class now (used_now class (Some key) now ∷ before) t
+  pub refused_again : (t : Table) (key : SetKey) → HoldsUsed w route who now before t → is_refused w route who key ≡ true
+      → HoldsUsed w route who now (used_now who (Some key) now ∷ before) t
   refused_again t key h r =
-      let differs = λ (other : SetKey) (g : is_refused w route class other ≡ false).
+      let differs = λ (other : SetKey) (g : is_refused w route who other ≡ false).
       (elim (same_key other key) as (λ b. same_key other key ≡ b → same_key other key ≡ false) [
-        | true ↦ λ o. let bad = subst (λ k. is_refused w route class k ≡ false) (keys.key.eq_is_exact other key o) g in cc
+        | true ↦ λ o. let bad = subst (λ k. is_refused w route who k ≡ false) (keys.key.eq_is_exact other key o) g in cc
         | false ↦ λ o. o
       ]) refl in
       record {
@@ -442,32 +441,32 @@ module _ {W : Type 0} (w : world.Ghosts W) (route : Route) (class now : ℕ) (be
         distinct = h.distinct;
         slots = h.slots;
         good = h.good;
-        used = used_apart key t.entries (all_imply (λ x. is_refused w route class x.key ≡ false) (λ x. same_key x.key key ≡ false) t.entries (λ x g. differs x.key g) h.good) h.used;
-        held = λ other g l. h.held other g (subst (λ o. is_late route.pool.set_ttl now o ≡ false) (other_last class now key other before (differs other g)) l);
+        used = used_apart key t.entries (all_imply (λ x. is_refused w route who x.key ≡ false) (λ x. same_key x.key key ≡ false) t.entries (λ x g. differs x.key g) h.good) h.used;
+        held = λ other g l. h.held other g (subst (λ o. is_late route.pool.set_ttl now o ≡ false) (other_last who now key other before (differs other g)) l);
       }
 
   -- uses that leave the last use of each key of the class as it was leave its table
-  pub same_uses : (t : Table) (after : List Use) → HoldsUsed w route class now before t
-      → ((key : SetKey) → last_at (is_set_in class key) after ≡ last_at (is_set_in class key) before)
-      → HoldsUsed w route class now after t
+  pub same_uses : (t : Table) (after : List Use) → HoldsUsed w route who now before t
+      → ((key : SetKey) → last_at (is_set_by who key) after ≡ last_at (is_set_by who key) before)
+      → HoldsUsed w route who now after t
   same_uses t after h same = record {
     most = h.most;
     latest = h.latest;
     distinct = h.distinct;
     slots = h.slots;
     good = h.good;
-    used = all_imply (IsUsedLast class before) (IsUsedLast class after) t.entries (λ e u. same e.key ∙ u) h.used;
+    used = all_imply (IsUsedLast who before) (IsUsedLast who after) t.entries (λ e u. same e.key ∙ u) h.used;
     held = λ key g l. h.held key g (subst (λ o. is_late route.pool.set_ttl now o ≡ false) (same key) l);
   }
 
   -- a scan leaves the sets as they are
-  pub scanned : (t : Table) → HoldsUsed w route class now before t → HoldsUsed w route class now (used_now class None now ∷ before) t
-  scanned t h = same_uses t (used_now class None now ∷ before) h (λ key. scan_last class now key before)
+  pub scanned : (t : Table) → HoldsUsed w route who now before t → HoldsUsed w route who now (used_now who None now ∷ before) t
+  scanned t h = same_uses t (used_now who None now ∷ before) h (λ key. scan_last who now key before)
 
-  -- and so does a use of another class
-  pub used_elsewhere : (t : Table) (own : ℕ) (key : Option SetKey) → HoldsUsed w route class now before t → (own == class) ≡ false
-      → HoldsUsed w route class now (used_now own key now ∷ before) t
-  used_elsewhere t own used h n = same_uses t (used_now own used now ∷ before) h (λ key. others_last class own now used key before n)
+  -- and so does a use by others
+  pub used_elsewhere : (t : Table) (own : Sharers) (key : Option SetKey) → HoldsUsed w route who now before t → same_sharers own who ≡ false
+      → HoldsUsed w route who now (used_now own key now ∷ before) t
+  used_elsewhere t own used h n = same_uses t (used_now own used now ∷ before) h (λ key. others_last who own now used key before n)
 
 -- ---- a new table
 
@@ -478,43 +477,43 @@ late_longer : (short long n : ℕ) → short ≤ long → nat_le long n ≡ true
 late_longer short long n h k = grind (arith, leb_tells)
 
 -- a key of a class is used when the class is, or before
-used_before : (class moment : ℕ) (key : SetKey) (before : List Use) (at : ℕ) → AreInOrder moment before → last_at (is_set_in class key) before ≡ Some at → at ≤ moment
-used_before class moment key [] at o h = cc
-used_before class moment key (one ∷ before) at o h = (elim (is_set_in class key one) as (λ b. is_set_in class key one ≡ b → at ≤ moment) [
+used_before : (who : Sharers) (moment : ℕ) (key : SetKey) (before : List Use) (at : ℕ) → AreInOrder moment before → last_at (is_set_by who key) before ≡ Some at → at ≤ moment
+used_before who moment key [] at o h = cc
+used_before who moment key (one ∷ before) at o h = (elim (is_set_by who key one) as (λ b. is_set_by who key one ≡ b → at ≤ moment) [
   | true ↦ λ t. let h' = rw t at h in let same : one.at ≡ at = cc in subst (λ z. z ≤ moment) same o.0
-  | false ↦ λ t. let rest = used_before class one.at key before at o.1 (rw t at h) in omega (arith, rest, o.0)
+  | false ↦ λ t. let rest = used_before who one.at key before at o.1 (rw t at h) in omega (arith, rest, o.0)
 ]) refl
 
 -- where a use of a class was `long` seconds ago or more, so were those of its keys before it
-late_keys : (short long now moment : ℕ) (class : ℕ) (key : SetKey) (before : List Use) → short ≤ long → AreInOrder moment before → nat_le long (now - moment) ≡ true
-    → is_late short now (last_at (is_set_in class key) before) ≡ true
-late_keys short long now moment class key before le o h =
-    (elim (last_at (is_set_in class key) before) as (λ r. last_at (is_set_in class key) before ≡ r → is_late short now r ≡ true) [
+late_keys : (short long now moment : ℕ) (who : Sharers) (key : SetKey) (before : List Use) → short ≤ long → AreInOrder moment before → nat_le long (now - moment) ≡ true
+    → is_late short now (last_at (is_set_by who key) before) ≡ true
+late_keys short long now moment who key before le o h =
+    (elim (last_at (is_set_by who key) before) as (λ r. last_at (is_set_by who key) before ≡ r → is_late short now r ≡ true) [
       | None ↦ λ k. refl
-      | Some at ↦ λ k. late_before short now moment (late_longer short long (now - moment) le h) at (used_before class moment key before at o k)
+      | Some at ↦ λ k. late_before short now moment (late_longer short long (now - moment) le h) at (used_before who moment key before at o k)
     ]) refl
 
 -- where a class is late, so are its keys
-pub class_late : (short long now moment : ℕ) (class : ℕ) (key : SetKey) (before : List Use) → short ≤ long → AreInOrder moment before
-    → is_late long now (last_at (is_in class) before) ≡ true → is_late short now (last_at (is_set_in class key) before) ≡ true
-class_late short long now moment class key [] le o h = refl
-class_late short long now moment class key (one ∷ before) le o h = (elim (is_in class one) as (λ b. is_in class one ≡ b → is_late short now (last_at (is_set_in class key) (one ∷ before)) ≡ true) [
+pub class_late : (short long now moment : ℕ) (who : Sharers) (key : SetKey) (before : List Use) → short ≤ long → AreInOrder moment before
+    → is_late long now (last_at (is_by who) before) ≡ true → is_late short now (last_at (is_set_by who key) before) ≡ true
+class_late short long now moment who key [] le o h = refl
+class_late short long now moment who key (one ∷ before) le o h = (elim (is_by who one) as (λ b. is_by who one ≡ b → is_late short now (last_at (is_set_by who key) (one ∷ before)) ≡ true) [
   | true ↦ λ t.
       let late : nat_le long (now - one.at) ≡ true = rw t at h in
-      rw t ((elim (option_map_or (same_key key) one.key false) as (λ b. is_late short now (option_map (λ u. u.at) (cond b (Some one) (find (is_set_in class key) before))) ≡ true) [
+      rw t ((elim (option_map_or (same_key key) one.key false) as (λ b. is_late short now (option_map (λ u. u.at) (cond b (Some one) (find (is_set_by who key) before))) ≡ true) [
         | true ↦ late_longer short long (now - one.at) le late
-        | false ↦ late_keys short long now one.at class key before le o.1 late
+        | false ↦ late_keys short long now one.at who key before le o.1 late
       ]))
-  | false ↦ λ t. rw t (class_late short long now one.at class key before le o.1 (rw t at h))
+  | false ↦ λ t. rw t (class_late short long now one.at who key before le o.1 (rw t at h))
 ]) refl
 
 -- a session that is dialled for a class that was not used for a session's time to live needs no set
-pub dialled : {W : Type 0} (w : world.Ghosts W) (route : Route) (class now moment : ℕ) (before : List Use)
+pub dialled : {W : Type 0} (w : world.Ghosts W) (route : Route) (who : Sharers) (now moment : ℕ) (before : List Use)
     → route.pool.set_ttl ≤ route.pool.session_ttl → AreInOrder moment before
-    → is_late route.pool.session_ttl now (last_at (is_in class) before) ≡ true
-    → HoldsUsed w route class now before (empty_table route.pool.sets_max)
+    → is_late route.pool.session_ttl now (last_at (is_by who) before) ≡ true
+    → HoldsUsed w route who now before (empty_table route.pool.sets_max)
 unfolding IsDistinct
-dialled w route class now moment before le o h = record {
+dialled w route who now moment before le o h = record {
   most = refl;
   latest = omega arith;
   distinct = tt;
@@ -522,6 +521,6 @@ dialled w route class now moment before le o h = record {
   good = tt;
   used = tt;
   held = λ key g l.
-      let late = class_late route.pool.set_ttl route.pool.session_ttl now moment class key before le o h in
+      let late = class_late route.pool.set_ttl route.pool.session_ttl now moment who key before le o h in
       let bad : true ≡ false = sym late ∙ l in cc;
 }

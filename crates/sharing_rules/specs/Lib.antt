@@ -1,3 +1,4 @@
+pub mod Sharers
 pub mod Uses
 pub mod Needed
 pub mod Orderly

@@ -7,22 +7,25 @@ use Rattle.z_types.specs.declared.work.Work.{Work}
 use Rattle.z_types.specs.declared.work.Work.TheVariants as work
 use Rattle.route_config.specs.declared.route.Route.{Route}
 use Rattle.route_config.specs.declared.route.RouteLeg.{RouteLeg}
-use Rattle.gateway_rules.specs.Outcomes.{legs_asked}
+use Rattle.gateway_rules.specs.Outcomes.{legs_asked, login_asked}
+use Rattle.sharing_rules.specs.Sharers.{Sharers}
 
 -- a work, and when it is done
 pub record DatedWork : Type 0 where
   pub at : ℕ
   pub work : Work
 
--- a use of a class at a moment: of the result set of a key, or of none by a scan
+-- a use of a class by those who share its sessions, at a moment: of the result set of a key, or of
+-- none by a scan
 pub record Use : Type 0 where
-  pub class : ℕ
+  pub by : Sharers
   pub key : Option SetKey
   pub at : ℕ
 
--- a leg's use of its class
-abbrev pub use_at : ℕ → Option SetKey → RouteLeg → Use
-use_at at key leg = record { class = leg.class; key = key; at = at }
+-- a leg's use of its class under a login
+abbrev pub use_at : ℕ → (login : Option (List ℕ)) → Option SetKey → RouteLeg → Use
+use_at at login key leg =
+    record { by = record { class = leg.class; login = login }; key = key; at = at }
 
 -- a leg's key of a query
 abbrev pub key_of : RpnQuery → RouteLeg → SetKey
@@ -44,11 +47,12 @@ abbrev pub key_if : Option RpnQuery → RouteLeg → Option SetKey
 key_if None leg = None
 key_if (Some query) leg = Some (key_of query leg)
 
--- the uses of a work: a Search uses a key of each leg's class, a fetch one of each leg that has a
--- record to give, and a scan the class alone
+-- the uses of a work, under its login: a Search uses a key of each leg's class, a fetch one of each
+-- leg that has a record to give, and a scan the class alone
 abbrev pub uses_by : Route → DatedWork → List Use
 uses_by route dated =
-    map (λ leg. use_at dated.at (key_if (query_of dated.work) leg) leg) (legs_used route dated.work)
+    map (λ leg. use_at dated.at (login_asked dated.work) (key_if (query_of dated.work) leg) leg)
+    (legs_used route dated.work)
 
 -- the uses of works, in order
 abbrev pub uses_of : Route → List DatedWork → List Use

@@ -9,18 +9,18 @@ pub fn new_pool_is_kept<W: World, S: Drop>()
     ensures { StartsKept W.World S }
 {}
 
-/// A take of a class that is kept dials exactly where a dial is needed, and gives the set that is wanted
-/// exactly where no search is.
+/// A take of a class that is kept for each login dials exactly where a dial is needed, and gives the set
+/// that is wanted exactly where no search is.
 pub fn takes_as_needed<W: World, S: Drop>()
     ensures { TakesAsNeeded W.World S }
 {}
 
-/// A class that is kept is kept as time passes.
+/// What is kept for a class and a login is kept as time passes.
 pub fn time_keeps<W: World, S: Drop>()
     ensures { TimeKeeps W.World S }
 {}
 
-/// A class that is kept is kept behind a use of another class.
+/// What is kept for a class and a login is kept behind a use of another class, or under another login.
 pub fn other_uses_keep<W: World, S: Drop>()
     ensures { OthersKeep W.World S }
 {}

@@ -38,7 +38,7 @@ use Rattle.front_http.specs.front_sru.declared.begun.Begun.TheVariants as get
 use Rattle.front_http.specs.front_sru.declared.state.SruStage.{SruStage}
 use Rattle.front_http.specs.front_sru.declared.state.SruStage.TheVariants.{Idle}
 use Rattle.front_http.specs.Heads.{IsHeadBegun}
-use Rattle.front_conn.specs.steps.States.{HasMeantHits, IsOneWork}
+use Rattle.front_conn.specs.steps.States.{HaveMeantHits, IsOneWork}
 use Rattle.front_conn.specs.steps.Totals.{totals_after, totals_for}
 
 -- what answers a client: its session, where its GET stands, the request in work, what legs counted,
@@ -301,4 +301,4 @@ pub record IsAnsweredUnder {W : Type 0} (w : world.Ghosts W) (route : Route) (re
   pub accepted : new.session.accepted ≡ (old.session.accepted || accepts (Some request))
   pub units : new.session.units ≡ old.session.units + 1
   pub waits_not : new.session.waiting ≡ None
-  pub sets : AllByRecursion (HasMeantHits w route) new.session.sets
+  pub sets : HaveMeantHits w route new.session

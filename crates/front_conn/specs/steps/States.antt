@@ -8,6 +8,7 @@ use Rattle.z_types.specs.declared.requests.Request.{Request}
 use Rattle.z_types.specs.declared.sitting.Sitting as sitting
 use Rattle.z_types.specs.declared.work.Work.{Work}
 use Rattle.z_types.specs.declared.world.World as world
+use Rattle.z_types.specs.Under.{under}
 use Rattle.z_types.specs.Bounds.{within64}
 use Rattle.route_config.specs.declared.route.Route.{Route}
 use Rattle.front_z.specs.gateway_rules.Answers as kind
@@ -101,6 +102,13 @@ IsConnOf w t route most state =
 abbrev pub HasMeantHits : {W : Type 0} → world.Ghosts W → Route → KnownSet → Type 0
 HasMeantHits w route set = hits_of w route set.legs set.query ≡ Ok set.hits
 
+-- before an Init is accepted no set is kept; behind it each has the hits that the targets mean under
+-- the login that it settled
+pub record HaveMeantHits {W : Type 0} (w : world.Ghosts W) (route : Route)
+    (session : SessionState) : Type 0 where
+  pub none_before : session.accepted ≡ false → session.sets ≡ []
+  pub each : AllByRecursion (HasMeantHits (under session.agreed.login w) route) session.sets
+
 -- Units were answered under causes that these marks are of, each allowed where it stands. The
 -- replies were written, and the client is as they left it; its sets have the hits that the targets
 -- mean.
@@ -113,7 +121,7 @@ pub record HasAnswered {W : Type 0} (w : world.Ghosts W) (route : Route) (units 
   pub replies : written ≡ written_as got.replies
   pub client : got.client ≡ client_of session
   pub standing : got.stop ≡ stands_there (progress_of (length (octets_of units)) session)
-  pub sets : AllByRecursion (HasMeantHits w route) session.sets
+  pub sets : HaveMeantHits w route session
 
 -- octets that were units at first are those of a connection that begins with no letter
 abbrev pub BeginsWithUnits : List Received → List ℕ → Type 0

@@ -1,8 +1,9 @@
--- For contracts alone: where a leg stands that shares the session of its class, over a told pool
--- that uses left so (this project's own). All of it goes on at one moment, and nothing goes wrong:
--- a leg that lost its session shares none
-use Rattle.std.specs.Prelude.{◌≡◌, ◌≢◌, ℕ, ◌<◌, true, List, ◌∷◌, length, is_some, Option, Some}
+-- For contracts alone: where a leg stands that shares the session of its class and login, over a
+-- told pool that uses left so (this project's own). All of it goes on at one moment, and nothing
+-- goes wrong: a leg that lost its session shares none
+use Rattle.std.specs.Prelude.{◌≡◌, ◌≢◌, ℕ, ◌<◌, true, false, List, ◌∷◌, length, is_some, Option, Some}
 use Rattle.z_types.specs.Pending.{opening, asked}
+use Rattle.z_types.specs.Logins.{same_login}
 use Rattle.z_types.specs.declared.ask.Ask.{Ask}
 use Rattle.z_types.specs.declared.ask.Ask.TheVariants as ask
 use Rattle.z_types.specs.declared.key.SetKey.{SetKey}
@@ -24,9 +25,10 @@ use Rattle.leg.specs.declared.phases.Phase.{Phase}
 use Rattle.leg.specs.declared.phases.Phase.TheVariants.{Begin, Dialling, Dialled, Ready, Searching, Presenting, Fetching, Scanning, Returning, Done}
 use Rattle.leg.specs.declared.tasks.Task.{Task}
 use Rattle.leg.specs.declared.tasks.Task.TheVariants.{Records}
+use Rattle.sharing_rules.specs.Sharers.{Sharers}
 use Rattle.sharing_rules.specs.Uses.{Use}
 use Rattle.leg_shares.specs.steps.Pools.{IsPoolOf, LeavesRest}
-use Rattle.sharing_rules.specs.steps.Shared.{AreKept, HoldsUsed, IsLent, IsOutWith, dial_due, of_class, search_due, use_now}
+use Rattle.sharing_rules.specs.steps.Shared.{AreKept, HoldsUsed, IsLent, IsOutWith, dial_due, search_due, shared_by, use_now}
 
 -- a turn had memory, and up to it no call of the leg failed, no look was in vain and no set was
 -- gone
@@ -63,57 +65,65 @@ IsScan asks = ⊥
 -- ---- what it needs
 
 -- the uses of a class behind a leg's own
-abbrev pub with_use : (class now : ℕ) → (before : List Use) → Task → List Use
-with_use class now before task = use_now class now (want_of task) ∷ before
+abbrev pub with_use : (who : Sharers) (now : ℕ) → (before : List Use) → Task → List Use
+with_use who now before task = use_now who now (want_of task) ∷ before
 
 module _ {S : Type 0} where
   -- the dials that a leg has had: that which its use needs, once the session is dialled
-  abbrev pub dials_by : Route → (class now : ℕ) → (before : List Use) → Phase S → ℕ
-  dials_by route class now before Begin = 0
-  dials_by route class now before (Dialling seat member) = 0
-  dials_by route class now before phase = one_if (dial_due route class now before)
+  abbrev pub dials_by : Route → (who : Sharers) (now : ℕ) → (before : List Use) → Phase S → ℕ
+  dials_by route who now before Begin = 0
+  dials_by route who now before (Dialling seat member) = 0
+  dials_by route who now before phase = one_if (dial_due route who now before)
 
   -- and the searches: that which its use needs, once it is sent
-  abbrev pub searches_by : {W : Type 0} → world.Ghosts W → Route → (class now : ℕ)
+  abbrev pub searches_by : {W : Type 0} → world.Ghosts W → Route → (who : Sharers) (now : ℕ)
       → (before : List Use) → Option SetKey → Phase S → ℕ
-  searches_by w route class now before want Begin = 0
-  searches_by w route class now before want (Dialling seat member) = 0
-  searches_by w route class now before want (Dialled held looks) = 0
-  searches_by w route class now before want (Ready held items) = 0
-  searches_by w route class now before want phase =
-      one_if (search_due w route class now before want)
+  searches_by w route who now before want Begin = 0
+  searches_by w route who now before want (Dialling seat member) = 0
+  searches_by w route who now before want (Dialled held looks) = 0
+  searches_by w route who now before want (Ready held items) = 0
+  searches_by w route who now before want phase =
+      one_if (search_due w route who now before want)
 
 -- ---- where it stands
 
-module _ {W S : Type 0} (w : world.Ghosts W) (route : Route) (class now : ℕ) where
-  -- the class is kept behind these uses
+module _ {W S : Type 0} (w : world.Ghosts W) (route : Route) (who : Sharers) (now : ℕ) where
+  -- the class is kept behind these uses under the leg's login
   abbrev pub IsKeptBehind : List Use → Pool S → Type 0
   IsKeptBehind uses pool =
-      AreKept w route class (members_of route class) now uses (of_class class pool.sessions)
+      AreKept w route who (members_of route who.class) now uses (shared_by who pool.sessions)
 
-  -- the one session of the class is out for the leg, with what these uses left in its table
+  -- under each other login too
+  abbrev pub AreOthersKept : List Use → Pool S → Type 0
+  AreOthersKept uses pool =
+      (login : Option (List ℕ)) → same_login login who.login ≡ false
+      → AreKept w route (record { class = who.class; login = login })
+      (members_of route who.class) now uses
+      (shared_by (record { class = who.class; login = login }) pool.sessions)
+
+  -- their one session is out for the leg, with what these uses left in its table
   abbrev pub IsOutBehind : List Use → Held S → Pool S → Type 0
   IsOutBehind uses held pool =
-      IsOutWith w route class (members_of route class) now uses held.seat held.parts pool.sessions
+      IsOutWith w route who (members_of route who.class) now uses held.seat held.parts pool.sessions
 
-  -- the class has no session, and so one is dialled for the leg
+  -- they have no session, and so one is dialled for the leg
   pub record IsToDial (before : List Use) (want : Option SetKey) (seat : Seat) (member : ℕ)
       (pool : Pool S) : Type 0 where
-    pub own : seat.class ≡ class
-    pub out : IsLent class seat pool.sessions
-    pub place : member < length (members_of route class)
-    pub holds : HoldsUsed w route class now before (empty_table route.pool.sets_max)
-    pub dial : dial_due route class now before ≡ true
-    pub search : search_due w route class now before want ≡ is_some want
+    pub own : seat.class ≡ who.class
+    pub out : IsLent who seat pool.sessions
+    pub place : member < length (members_of route who.class)
+    pub holds : HoldsUsed w route who now before (empty_table route.pool.sets_max)
+    pub dial : dial_due route who now before ≡ true
+    pub search : search_due w route who now before want ≡ is_some want
 
 module _ {W S : Type 0} (w : world.Ghosts W) (t : sitting.Ghosts S W) (route : Route)
-    (class now : ℕ) (before : List Use) where
+    (who : Sharers) (now : ℕ) (before : List Use) where
   -- it holds no set that is wanted, which is then to be searched for
   pub record IsBeforeUse (want : Option SetKey) (held : Held S) (pool : Pool S) : Type 0 where
-    pub out : IsOutBehind w route class now before held pool
+    pub out : IsOutBehind w route who now before held pool
     pub address : t.address held.parts.session ≡ held.parts.address
     pub lacks : LacksWanted want held.parts.table
-    pub search : search_due w route class now before want ≡ is_some want
+    pub search : search_due w route who now before want ≡ is_some want
 
   -- the set is searched for under a slot that no other has
   pub record IsInSearch (want : Option SetKey) (held : Held S) (slot : ℕ)
@@ -125,14 +135,14 @@ module _ {W S : Type 0} (w : world.Ghosts W) (t : sitting.Ghosts S W) (route : R
   module _ (task : Task) where
     -- the table is as the uses left it, the leg's own too
     abbrev pub IsUsed : Held S → Pool S → Type 0
-    IsUsed held pool = IsOutBehind w route class now (with_use class now before task) held pool
+    IsUsed held pool = IsOutBehind w route who now (with_use who now before task) held pool
 
     -- before the take the class is kept, and once its session is put back it is kept with the use;
     -- in between the leg has it
     abbrev pub StandsBy : Phase S → Pool S → Type 0
-    StandsBy Begin pool = IsKeptBehind w route class now before pool
+    StandsBy Begin pool = IsKeptBehind w route who now before pool
     StandsBy (Dialling seat member) pool =
-        IsToDial w route class now before (want_of task) seat member pool
+        IsToDial w route who now before (want_of task) seat member pool
     StandsBy (Dialled held looks) pool =
         IsBeforeUse (want_of task) held pool × (t.pending held.parts.session ≡ opening)
     StandsBy (Ready held items) pool = IsBeforeUse (want_of task) held pool
@@ -143,20 +153,20 @@ module _ {W S : Type 0} (w : world.Ghosts W) (t : sitting.Ghosts S W) (route : R
     StandsBy (Scanning held looks) pool = IsUsed held pool × Awaits t IsScan held.parts.session
     StandsBy (Returning held answer) pool = IsUsed held pool
     StandsBy (Done answer) pool =
-        IsKeptBehind w route class now (with_use class now before task) pool
+        IsKeptBehind w route who now (with_use who now before task) pool
     StandsBy phase pool = ⊥
 
     -- a leg stands so, and had no more and no fewer dials and searches than its use needs
     pub record Shares (phase : Phase S) (account : Account) (pool : Pool S) : Type 0 where
       pub stands : StandsBy phase pool
-      pub dials : account.dials ≡ dials_by route class now before phase
-      pub searches : account.searches ≡ searches_by w route class now before (want_of task) phase
+      pub dials : account.dials ≡ dials_by route who now before phase
+      pub searches : account.searches ≡ searches_by w route who now before (want_of task) phase
 
-    -- so behind a turn over a pool that is told, which left the other classes
+    -- so behind a turn over a pool that is told, which left the sessions of others
     pub record SharesThen (phase : Phase S) (account : Account) (old : Pool S)
         (after : Option (Pool S)) : Type 0 where
       pub pool : Pool S
       pub told : after ≡ Some pool
       pub of : IsPoolOf route pool
       pub shares : Shares phase account pool
-      pub others : LeavesRest route class now old pool
+      pub others : LeavesRest route who now old pool

@@ -1,6 +1,6 @@
 -- For contracts alone: all that a leg goes through over a told pool at one moment, where nothing
 -- goes wrong, among others that use other classes (this project's own)
-use Rattle.std.specs.Prelude.{◌≡◌, ◌⊎◌, ℕ, Bool, Some}
+use Rattle.std.specs.Prelude.{◌≡◌, ◌⊎◌, ℕ, Bool, List, Option, Some}
 use Rattle.z_types.specs.declared.sitting.Sitting as sitting
 use Rattle.z_types.specs.declared.world.World as world
 use Rattle.route_config.specs.declared.route.Route.{Route}
@@ -14,8 +14,7 @@ use Rattle.leg.specs.declared.answers.Turned.{Turned}
 use Rattle.leg.specs.declared.phases.Phase.{Phase}
 use Rattle.leg.specs.declared.phases.Phase.TheVariants.{Begin}
 use Rattle.leg.specs.declared.tasks.Task.{Task}
-use Rattle.sharing_rules.specs.steps.Shared.{of_class}
-use Rattle.leg_shares.specs.steps.Pools.{IsPoolOf, StayOrExpire}
+use Rattle.leg_shares.specs.steps.Pools.{IsPoolOf, StaysInClass}
 use Rattle.leg_shares.specs.steps.Sharing.{WentOn}
 
 -- a leg, what it has counted, and the pool
@@ -29,7 +28,7 @@ abbrev pub at_first : {S : Type 0} → Pool S → Point S
 at_first pool = record { phase = Begin; account = no_account; pool = pool }
 
 module _ {W S : Type 0} (w : world.Ghosts W) (t : sitting.Ghosts S W) (exact : Bool) (route : Route)
-    (place : ℕ) (task : Task) (now : ℕ)
+    (login : Option (List ℕ)) (place : ℕ) (task : Task) (now : ℕ)
   where
     -- the leg of a place of the route takes a turn
     pub record TakesTurn (old new : Point S) : Type 0 where
@@ -40,8 +39,8 @@ module _ {W S : Type 0} (w : world.Ghosts W) (t : sitting.Ghosts S W) (exact : B
       pub moved : BackendView
       pub told : door.pool ≡ Some old.pool
       pub told_then : after.pool ≡ Some new.pool
-      pub turn : IsTurn w t exact (terms_of route place) task now old.phase new.phase old.account
-          new.account answer door after backend moved
+      pub turn : IsTurn w t exact (terms_of route login place) task now old.phase new.phase
+          old.account new.account answer door after backend moved
       pub well : WentOn answer new.account
 
     -- others use other classes
@@ -49,8 +48,7 @@ module _ {W S : Type 0} (w : world.Ghosts W) (t : sitting.Ghosts S W) (exact : B
       pub phase : new.phase ≡ old.phase
       pub account : new.account ≡ old.account
       pub of : IsPoolOf route new.pool
-      pub own : StayOrExpire route now (of_class (class_of route place) old.pool.sessions)
-          (of_class (class_of route place) new.pool.sessions)
+      pub own : StaysInClass route (class_of route place) now old.pool new.pool
 
     -- one of these
     abbrev pub GoesOn : (old new : Point S) → Type 0

@@ -36,10 +36,16 @@ module _ {S : Type 0} where
 
   -- a leg that is to do what is asked
   abbrev pub begun : Asked → LegView S
-  begun asked = record { leg = asked.leg; task = asked.task; phase = Begin; account = no_account }
+  begun asked = record {
+    leg = asked.leg;
+    login = asked.login;
+    task = asked.task;
+    phase = Begin;
+    account = no_account;
+  }
 
   abbrev pub asked_of : LegView S → Asked
-  asked_of leg = record { leg = leg.leg; task = leg.task }
+  asked_of leg = record { leg = leg.leg; login = leg.login; task = leg.task }
 
   -- a package that is begun
   abbrev pub new_package : Route → Work → PackageView S

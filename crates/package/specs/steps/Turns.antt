@@ -81,10 +81,11 @@ module _ {W S : Type 0} (w : world.Ghosts W) (t : sitting.Ghosts S W) (exact : B
   pub record HadTurn (old new : LegView S) (answer : Turned) (door after : DoorView S)
       (backend moved : BackendView) : Type 0 where
     pub leg : new.leg ≡ old.leg
+    pub login : new.login ≡ old.login
     pub task : new.task ≡ old.task
     pub law : IsTurn w t exact
-        (terms_of route old.leg) old.task now old.phase new.phase old.account new.account answer
-        door after backend moved
+        (terms_of route old.login old.leg) old.task now old.phase new.phase old.account new.account
+        answer door after backend moved
 
   -- a leg that is done stays as it is, and nothing is called; any other has its turn
   abbrev pub HasTurned : (done : Bool) → (old new : LegView S) → (round next : Round)

@@ -181,7 +181,7 @@ module _ {W S : Type 0} (w : world.Ghosts W) (t : sitting.Ghosts S W) where
     pub borne : HasBorne terms.pool account
 
   abbrev pub LegBears : Route → Happened → LegView S → Type 0
-  LegBears route h leg = BearsAt (terms_of route leg.leg) h leg.phase leg.account
+  LegBears route h leg = BearsAt (terms_of route leg.login leg.leg) h leg.phase leg.account
 
   -- all legs do
   abbrev pub AllBear : Route → Happened → List (LegView S) → Type 0

@@ -9,7 +9,7 @@ use Rattle.route_config.specs.declared.route.Route.{Route}
 use Rattle.gw_outside.specs.Happened.{Happened}
 use Rattle.package.specs.leg.Deeds.{BackendView}
 use Rattle.package.specs.leg.LegView.{LegView}
-use Rattle.package.specs.leg.Terms.{Terms}
+use Rattle.package.specs.leg.Terms.{Terms, sites}
 use Rattle.package.specs.leg.Turns.{DoorView, IsTurn}
 use Rattle.package.specs.leg.declared.accounts.Account.{Account}
 use Rattle.package.specs.leg.declared.answers.Turned.{Turned}
@@ -28,7 +28,7 @@ module _ {W S : Type 0} (w : world.Ghosts W) (t : sitting.Ghosts S W) where
   TurnsGoWell =
       (exact : Bool) (terms : Terms) (task : Task) (now : ℕ) (old new : Phase S) (a b : Account)
       (answer : Turned) (door after : DoorView S) (backend moved : BackendView)
-      → exact ≡ true → AreTold w terms.at
+      → exact ≡ true → AreTold w (sites terms)
       → IsTurn w t exact terms task now old new a b answer door after backend moved
       → IsCalm w t door.pool backend → IsWellAt w t terms old a
       → IsWellAt w t terms new b × WentWell w t (answer ≢ turned.Memory) after.pool backend moved
@@ -58,7 +58,7 @@ module _ {W S : Type 0} (w : world.Ghosts W) (t : sitting.Ghosts S W) where
   TurnsBear =
       (exact : Bool) (terms : Terms) (task : Task) (now : ℕ) (old new : Phase S) (a b : Account)
       (answer : Turned) (door after : DoorView S) (backend moved : BackendView)
-      → exact ≡ true → AreTold w terms.at
+      → exact ≡ true → AreTold w (sites terms)
       → IsTurn w t exact terms task now old new a b answer door after backend moved
       → DialsGoOn moved.counts → IsBorneBy w t terms.pool door.pool backend
       → BearsAt w t terms backend.happened old a

@@ -1,10 +1,11 @@
 -- For contracts alone: what it is that nothing goes wrong over a quiet backend, at addresses that
 -- are told (this project's own)
-use Rattle.std.specs.Prelude.{◌≡◌, List, Contains, Option}
+use Rattle.std.specs.Prelude.{◌≡◌, ℕ, List, Contains, Option}
 use Rattle.std.specs.List.{AllByRecursion}
 use Rattle.z_types.specs.declared.address.Address.{Address}
 use Rattle.z_types.specs.declared.sitting.Sitting as sitting
 use Rattle.z_types.specs.declared.world.World as world
+use Rattle.z_types.specs.Under.{under}
 use Rattle.gw_outside.specs.Counts.{Counts}
 use Rattle.gw_outside.specs.Happened.{AreQuiet}
 use Rattle.pool_sets.specs.Plain.{Pool}
@@ -55,11 +56,13 @@ module _ {W S : Type 0} (w : world.Ghosts W) (t : sitting.Ghosts S W) where
 
   -- all legs of a route are so
   abbrev pub IsWellLeg : Route → LegView S → Type 0
-  IsWellLeg route leg = IsWellAt (terms_of route leg.leg) leg.phase leg.account
+  IsWellLeg route leg = IsWellAt (terms_of route leg.login leg.leg) leg.phase leg.account
 
   abbrev pub AreWell : Route → List (LegView S) → Type 0
   AreWell route legs = AllByRecursion (IsWellLeg route) legs
 
--- each class of a route has told addresses alone
+-- each class of a route has addresses alone that are told, by themselves and inside every login
 abbrev pub IsToldRoute : {W : Type 0} → world.Ghosts W → Route → Type 0
-IsToldRoute w route = (class : Class) → Contains route.classes class → AreTold w class.addresses
+IsToldRoute w route =
+    (login : Option (List ℕ)) (class : Class) → Contains route.classes class
+    → AreTold (under login w) class.addresses

@@ -6,7 +6,7 @@ use Rattle.std.specs.List.{IsDistinct}
 use Rattle.z_types.specs.declared.sitting.Sitting as sitting
 use Rattle.z_types.specs.declared.work.Work.{Work}
 use Rattle.z_types.specs.declared.world.World as world
-use Rattle.route_config.specs.Sound.{ArePoolNumbers}
+use Rattle.route_config.specs.Sound.{IsSound}
 use Rattle.route_config.specs.declared.route.Route.{Route}
 use Rattle.gateway_rules.specs.Fair.{IsFair}
 use Rattle.gateway_rules.specs.Marks.{plain}
@@ -21,7 +21,8 @@ use Rattle.package_quiet.specs.package.steps.Ends.{cause_in}
 use Rattle.package_quiet.specs.package.steps.Packages.{IsOver, IsPackageOf, PackageView, all_accounts, new_package}
 use Rattle.package_quiet.specs.package.steps.Turns.{IsPackageTurn}
 use Rattle.sharing_rules.specs.Needed.{count_after, needs_dial, needs_search}
-use Rattle.sharing_rules.specs.Orderly.{keys_used}
+use Rattle.sharing_rules.specs.Orderly.{keys_used, logins_used}
+use Rattle.sharing_rules.specs.Sharers.{Sharers}
 use Rattle.sharing_rules.specs.Uses.{Use, uses_by}
 use Rattle.sharing_rules.specs.steps.Shared.{AreInOrder}
 use Rattle.package_quiet.specs.steps.Quiet.{IsCalm}
@@ -40,14 +41,16 @@ abbrev pub uses_at : Route → (now : ℕ) → Work → List Use
 uses_at route now work = uses_by route (record { at = now; work = work })
 
 -- a work may be done behind these uses: its legs are the route's and go to different classes, the
--- uses before stand in order, and the keys of each class that are used with those of the work find
--- room in one session
+-- uses before stand in order, and with the uses of the work the keys of each class and login find
+-- room in one session, and the logins of each class in one each
 pub record MayWork (route : Route) (now : ℕ) (before : List Use) (work : Work) : Type 0 where
   pub there : AreThere route work
   pub apart : IsDistinct nat_eq (map (class_of route) (legs_named work))
   pub falls : AreInOrder now before
-  pub few : (class : ℕ)
-      → keys_used class (behind before (uses_at route now work)) ≤ route.pool.sets_max
+  pub few : (who : Sharers)
+      → keys_used who (behind before (uses_at route now work)) ≤ route.pool.sets_max
+  pub own : (class : ℕ)
+      → logins_used class (behind before (uses_at route now work)) ≤ route.pool.max_sessions
 
 -- ---- what its legs count
 
@@ -102,14 +105,14 @@ module _ {W S : Type 0} (w : world.Ghosts W) (t : sitting.Ghosts S W) where
   abbrev pub BegunMayShare : Type 0
   BegunMayShare =
       (route : Route) (now : ℕ) (before : List Use) (work : Work)
-      → IsFair w route → ArePoolNumbers route.pool → MayWork route now before work
+      → IsFair w route → IsSound route → MayWork route now before work
       → MayPackageShare w route now before (new_package {S = S} route work)
 
   -- and as long as it is a package of the route: those for records too
   abbrev pub PackagesMayShare : Type 0
   PackagesMayShare =
       (route : Route) (now : ℕ) (before : List Use) (work : Work) (most : ℕ) (view : PackageView S)
-      → IsFair w route → ArePoolNumbers route.pool → MayWork route now before work
+      → IsFair w route → IsSound route → MayWork route now before work
       → view.work ≡ work → IsPackageOf w t route most view → MayPackageShare w route now before view
 
 -- a request that is begun, has its turns with memory over a quiet backend that counts exactly, on a
@@ -118,7 +121,7 @@ abbrev pub RequestsShare : {W S : Type 0} → world.Ghosts W → sitting.Ghosts 
 RequestsShare {W} {S} w t =
     (exact : Bool) (route : Route) (now : ℕ) (before : List Use) (work : Work)
     (first last : PackageAt S) (earlier : List (PackageAt S))
-    → exact ≡ true → IsFair w route → ArePoolNumbers route.pool → MayWork route now before work
+    → exact ≡ true → IsFair w route → IsSound route → MayWork route now before work
     → first.view ≡ new_package route work → IsKeptAt w t route now before first
     → AreTurns w t exact route now first earlier last → IsOver last.view
     → HasShared w t route now before work last

@@ -17,7 +17,8 @@ use Rattle.replay.specs.front_conn.steps.States.{ConnectionState, IsConnOf, IsSt
 use Rattle.replay.specs.front_conn.steps.Totals.{totals_for}
 use Rattle.script.specs.Events.{fed, has_ended, most_clients}
 use Rattle.script.specs.declared.event.Event.{Event}
-use Rattle.sharing_rules.specs.Orderly.{keys_used}
+use Rattle.sharing_rules.specs.Orderly.{keys_used, logins_used}
+use Rattle.sharing_rules.specs.Sharers.{Sharers}
 use Rattle.sharing_rules.specs.Uses.{DatedWork, Use, uses_of}
 use Rattle.sharing_rules.specs.steps.Shared.{AreInOrder}
 use Rattle.replay.specs.front_conn_costs.steps.Conns.{AreTotalsOf}
@@ -79,12 +80,14 @@ pub record IsKeptOver {W S : Type 0} (w : world.Ghosts W) (t : sitting.Ghosts S 
 
 -- ---- works
 
--- works may be done, one behind another: each is of legs of different classes, and all keys that
--- are used find room in one session
+-- works may be done, one behind another: each is of legs of different classes, all keys that are
+-- used under one login find room in one session, and all logins of a class in one each
 pub record MayDo (route : Route) (before : List Use) (works : List DatedWork) : Type 0 where
   pub apart : AllByRecursion (IsApart route) works
-  pub few : (class : ℕ)
-      → keys_used class (behind before (uses_of route works)) ≤ route.pool.sets_max
+  pub few : (who : Sharers)
+      → keys_used who (behind before (uses_of route works)) ≤ route.pool.sets_max
+  pub own : (class : ℕ)
+      → logins_used class (behind before (uses_of route works)) ≤ route.pool.max_sessions
 
 -- ---- all clients
 

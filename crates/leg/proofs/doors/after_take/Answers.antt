@@ -78,6 +78,7 @@ returns-in-Dial g c = record {
       let e = rw c.rises_of_taken.ensures at c.count.ensures in
       let r = c.in-Dial in
       let counted = rw r.is at e in
+      let given = rw r.is at fits in
       let wanted = is_some (want_of c.args.task.now) in
       let rises = record no_rises { opens = true; booked = wanted } in
       record {
@@ -90,7 +91,7 @@ returns-in-Dial g c = record {
             session = tt;
             account = account_goes ahead_first (ahead_dial wanted) 0 0 c.args.terms.now.class rises false 0 c.args.account.now c.count.new.self counted (dial_enough wanted) (omega arith) c.requires.kept.account;
           };
-          stands = rw r.is at fits;
+          stands = given.1;
           within = within_first {S = g.row.S.Denot} c.args.terms.now.pool (Dialling r.seat r.member) c.args.terms.now.class rises false c.args.account.now c.count.new.self counted refl c.requires.counts.pool c.requires.first;
         };
       };

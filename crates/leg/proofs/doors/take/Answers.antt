@@ -6,13 +6,13 @@ use Rattle.leg.proofs.AccountSteps.{looks_stay}
 use Rattle.leg.proofs.doors.take.Goals as goal
 
 pub after_take-requires-clause-fits : goal.after_take-requires-clause-fits
-after_take-requires-clause-fits g c = ((g.D.Door.counts c.args.door.now).most, rw c.want_of.ensures at c.take-taken.ensures.fits)
+after_take-requires-clause-fits g c = ((g.D.Door.counts c.args.door.now).most, rw (c.want_of.ensures, c.as_ref.ensures.value) at c.take-taken.ensures.fits)
 
 pub returns : goal.returns
 returns g c = record {
   step = λ exact backend.
       let l = c.take-taken.ensures in
-      let fits = rw c.want_of.ensures at l.fits in
+      let fits = rw (c.want_of.ensures, c.as_ref.ensures.value) at l.fits in
       let counts = rw c.want_of.ensures at l.counts in
       let same = ap (λ (n : DoorCounts). n.most) counts in
       let f = c.after_take.ensures.follows (g.D.Door.counts c.args.door.now).most c.args.now fits in
@@ -25,7 +25,7 @@ returns g c = record {
           goes = f.goes;
           account = f.account;
           looks = looks_stay c.args.terms.now.class (rises_of (want_of c.args.task.now) deed) false c.args.account.now c.after_take.new.account f.account;
-          pool = rw c.want_of.ensures at l.plain;
+          pool = rw (c.want_of.ensures, c.as_ref.ensures.value) at l.plain;
           door_counts = counts;
           backend_moves = record { counts = refl; happened = refl };
           links = tt;

@@ -30,7 +30,7 @@ returns-in-Session g c = record {
             };
             account = account_goes (ahead_dial (is_some want)) (ahead_with (one_if (is_some want)) false) 0 0 terms.class (record no_rises { dials = true }) false 0 c.args.account.now c.count.new.self counted (dialled_enough (is_some want)) (omega arith) c.requires.kept.account;
           };
-          stands = named_among terms.at.now c.args.member c.args.address c.requires.within c.requires.address;
+          stands = named_among terms.login.now terms.at.now c.args.member c.args.address c.requires.within c.requires.address;
           within = within_on {S = g.row.S.Denot} terms.pool (Dialling c.args.seat c.args.member) _ terms.class (record no_rises { dials = true }) false 0 c.args.account.now c.count.new.self counted refl refl (omega arith) c.requires.counts.within;
         };
       };

@@ -11,6 +11,6 @@ hits_leg-requires-clause-there g c =
 
 pub loop-leg-preserved : goal.loop-leg-preserved
 loop-leg-preserved g c =
-    made_more begun (hits_asked c.args.route.now c.args.query.now) c.as_slice-leg-items.result.now c.loop-leg.leg-index 0 _
+    made_more begun (hits_asked c.args.route.now c.args.login.now c.args.query.now) c.as_slice-leg-items.result.now c.loop-leg.leg-index 0 _
     c.loop-leg.made.items c.push.new.self.items c.loop-leg-test.true refl c.loop-leg.invariant
     (c.in_ok-push.ensures.items ∙ ap (λ leg. c.loop-leg.made.items ++ leg ∷ []) c.in_ok-hits_leg.ensures)

@@ -17,7 +17,7 @@ records_leg-requires-clause-span g c =
 pub loop-span-preserved : goal.loop-span-preserved
 loop-span-preserved g c =
     let w = c.args.wanted in
-    let f : Span → Asked = records_asked c.args.route.now w.legs.now w.query.now (option_copied w.syntax) (option_copied w.element) in
+    let f : Span → Asked = records_asked c.args.route.now w.login.now w.legs.now w.query.now (option_copied w.syntax) (option_copied w.element) in
     made_more begun f c.as_slice-span-items.result.now c.loop-span.span-index (record { leg = 0; first = 0; count = 0 }) _ c.loop-span.made.items c.push.new.self.items
     c.loop-span-test.true refl c.loop-span.invariant
     (c.in_ok-push.ensures.items ∙ ap (λ leg. c.loop-span.made.items ++ leg ∷ []) c.in_ok-records_leg.ensures)
@@ -25,7 +25,7 @@ loop-span-preserved g c =
 pub returns : goal.returns
 returns g c =
     let w = c.args.wanted in
-    let f : Span → Asked = records_asked c.args.route.now w.legs.now w.query.now (option_copied w.syntax) (option_copied w.element) in
+    let f : Span → Asked = records_asked c.args.route.now w.login.now w.legs.now w.query.now (option_copied w.syntax) (option_copied w.element) in
     let places = places_from c.args.hits.now c.args.first c.args.count in
     made_all begun f c.as_slice-span-items.result.now c.loop-span.span-index c.loop-span.made.items (omega arith) c.loop-span.invariant
     ∙ ap (λ (spans : List Span). map begun (map f spans)) (c.as_slice-span-items.ensures ∙ (rw c.as_slice.ensures at c.in_ok-spans.ensures.spans)

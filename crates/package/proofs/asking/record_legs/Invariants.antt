@@ -6,5 +6,5 @@ use Rattle.package.proofs.asking.record_legs.Given as goal
 
 abbrev pub invariant-loop-span : goal.invariant-loop-span
 invariant-loop-span g l = l.made.items ≡ map begun
-    (map (records_asked l.route l.wanted.legs.now l.wanted.query.now (option_copied l.wanted.syntax) (option_copied l.wanted.element))
+    (map (records_asked l.route l.wanted.login.now l.wanted.legs.now l.wanted.query.now (option_copied l.wanted.syntax) (option_copied l.wanted.element))
     (take l.span-index l.span-items))

@@ -14,7 +14,7 @@ returns-then-count-eq0 g c =
     let all : c.total-all.result ≡ total hits = c.total-all.ensures ∙ ap total c.as_slice.ensures in
     let none : shown (total hits) w.small w.large w.medium ≡ 0 =
     ap (λ (n : ℕ). shown n w.small w.large w.medium) (sym all) ∙ sym c.shown_count-count.ensures.shown ∙ c.if-count-eq0.true in
-    rw w.is (c.new.ensures.items ∙ ap (map begun) (sym (none_asked c.args.route.now w.legs w.query w.syntax
+    rw w.is (c.new.ensures.items ∙ ap (map begun) (sym (none_asked c.args.route.now w.login w.legs w.query w.syntax
     (element_shown w.small w.small_element w.medium_element hits) (places_shown w.small w.large w.medium w.room hits)
     (none_shown w.small w.large w.medium w.room hits none))))
 
@@ -26,7 +26,7 @@ returns-then-room-count g c =
     let count : c.shown_count-count.result ≡ shown (total hits) w.small w.large w.medium =
     c.shown_count-count.ensures.shown ∙ ap (λ (n : ℕ). shown n w.small w.large w.medium) all in
     let many : nat_lt w.room c.shown_count-count.result ≡ true = grind (arith, c.if-room-count.true) in
-    rw w.is (c.new-then-room-count.ensures.items ∙ ap (map begun) (sym (none_asked c.args.route.now w.legs w.query w.syntax
+    rw w.is (c.new-then-room-count.ensures.items ∙ ap (map begun) (sym (none_asked c.args.route.now w.login w.legs w.query w.syntax
     (element_shown w.small w.small_element w.medium_element hits) (places_shown w.small w.large w.medium w.room hits)
     (too_many w.small w.large w.medium w.room hits (ap (nat_lt w.room) (sym count) ∙ many)))))
 

@@ -18,7 +18,7 @@ records_said-requires-clause-each g c =
     let begin = rw w.is at c.requires.can_begin in
     let asks = rw w.is at c.requires.at_first in
     sym (length-map c.args.first.items asked_of) ∙ ap (λ (xs : List Asked). length xs) asks
-    ∙ length-map (spans_of (length w.legs) places) (records_asked c.args.route.now w.legs w.query w.syntax w.element)
+    ∙ length-map (spans_of (length w.legs) places) (records_asked c.args.route.now w.login w.legs w.query w.syntax w.element)
     ∙ ap (λ (n : ℕ). length (spans_of n places)) (sym begin.1)
 
 pub returns : goal.returns

@@ -45,7 +45,7 @@ shown-requires-clause-each g c few =
     ∙ ap (by_hits route c.args.work.now) found ∙ ap (λ (x : Work). then_asked route x hits) w.is in
     let count : c.shown_count-count.result ≡ shown (total hits) w.small w.large w.medium =
     c.shown_count-count.ensures.shown ∙ ap (λ (n : ℕ). shown n w.small w.large w.medium) (c.total.ensures ∙ ap total c.as_slice-2.ensures) in
-    rw count (asked_each route w.legs w.small w.large w.medium w.room hits c.args.later.items w.query w.syntax
+    rw count (asked_each route w.legs w.small w.large w.medium w.room hits c.args.later.items w.login w.query w.syntax
     (element_shown w.small w.small_element w.medium_element hits) same asks (rw count at few))
 
 pub returns : goal.returns

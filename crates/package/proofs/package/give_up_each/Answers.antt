@@ -22,7 +22,7 @@ loop-leg-preserved g c =
       length-set items i new ∙ c.loop-leg.invariant.0,
       λ place d above. get_or-set_other items i place new d (omega (arith, above)) ∙ c.loop-leg.invariant.1 place d (omega (arith, above)),
       given_more legs items i leg old new c.loop-leg-test.true there is
-          (given_is old new c.give_up.ensures.phase c.give_up.ensures.task c.give_up.ensures.leg c.give_up.ensures.account)
+          (given_is old new c.give_up.ensures.phase c.give_up.ensures.task c.give_up.ensures.leg c.give_up.ensures.login c.give_up.ensures.account)
           c.loop-leg.invariant.2,
       seats_more legs i leg old (g.D.Door.pool c.args.door.now) (g.D.Door.pool c.loop-leg.door) (g.D.Door.pool c.give_up.new.door)
           c.loop-leg-test.true is c.loop-leg.invariant.3 c.give_up.ensures.pool,

@@ -11,6 +11,7 @@ returns-clause-turned g c =
       c.and.ensures,
       record {
         leg = c.turn.ensures.leg;
+        login = c.turn.ensures.login;
         task = c.turn.ensures.task;
         law = c.turn.ensures.law;
       },

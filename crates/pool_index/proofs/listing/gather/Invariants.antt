@@ -8,5 +8,5 @@ abbrev pub invariant-loop-place : goal.invariant-loop-place
 invariant-loop-place g l = record {
   all : l.place-end ≡ length l.table.entries;
   gains : Gains l.initial.pairs.items l.pairs.items;
-  gathered : AllWithin (λ e. Contains l.pairs.items (pair (g.D.Digest.digest l.class e.key) l.number)) l.table.entries 0 l.place;
+  gathered : AllWithin (λ e. Contains l.pairs.items (pair (g.D.Digest.digest (l.class, l.login) e.key) l.number)) l.table.entries 0 l.place;
 }

@@ -3,7 +3,7 @@ use Rattle.std.proofs.lemmas.List.{take_all}
 use Rattle.std.proofs.lemmas.List.Elements.{All-more, All-weaker}
 use Rattle.pool_sets.specs.Table.{Entry}
 use Rattle.pool_keys.specs.Pairs.{pair}
-use Rattle.pool_index.specs.Told.{AreGathered, sets_of}
+use Rattle.pool_index.specs.Told.{sharers_of, AreGathered, sets_of}
 use Rattle.pool_index.proofs.listing.gather_all.Goals as goal
 
 pub loop-berth-preserved : goal.loop-berth-preserved
@@ -13,13 +13,13 @@ loop-berth-preserved g c =
     let i = c.loop-berth.berth-index in
     let old = c.loop-berth.pairs.items in
     let new = c.gather_from.new.pairs.items in
-    All-more (λ b. AreGathered (digest b.session.class) new b.session.number (sets_of b.session.stand)) xs i c.berth-item.result (omega arith)
-    (All-weaker (λ b. AreGathered (digest b.session.class) old b.session.number (sets_of b.session.stand)) (λ b. AreGathered (digest b.session.class) new b.session.number (sets_of b.session.stand))
-    (λ b h. All-weaker (λ (e : Entry). Contains old (pair (digest b.session.class e.key) b.session.number)) (λ e. Contains new (pair (digest b.session.class e.key) b.session.number)) (λ e k. c.in-Ok.ensures.gains (pair (digest b.session.class e.key) b.session.number) k) (sets_of b.session.stand) h)
+    All-more (λ b. AreGathered (digest (sharers_of b.session)) new b.session.number (sets_of b.session.stand)) xs i c.berth-item.result (omega arith)
+    (All-weaker (λ b. AreGathered (digest (sharers_of b.session)) old b.session.number (sets_of b.session.stand)) (λ b. AreGathered (digest (sharers_of b.session)) new b.session.number (sets_of b.session.stand))
+    (λ b h. All-weaker (λ (e : Entry). Contains old (pair (digest (sharers_of b.session) e.key) b.session.number)) (λ e. Contains new (pair (digest (sharers_of b.session) e.key) b.session.number)) (λ e k. c.in-Ok.ensures.gains (pair (digest (sharers_of b.session) e.key) b.session.number) k) (sets_of b.session.stand) h)
     (take i xs) c.loop-berth.invariant)
-    (subst (λ b. AreGathered (digest b.session.class) new b.session.number (sets_of b.session.stand)) c.berth-item.is c.in-Ok.ensures.gathered)
+    (subst (λ b. AreGathered (digest (sharers_of b.session)) new b.session.number (sets_of b.session.stand)) c.berth-item.is c.in-Ok.ensures.gathered)
 
 pub returns : goal.returns
 returns g c = record {
-  gathered = subst (All (λ b. AreGathered (g.D.Digest.digest b.session.class) c.loop-berth.pairs.items b.session.number (sets_of b.session.stand))) (take_all c.loop-berth.berth-index c.args.berths.now (omega arith)) c.loop-berth.invariant;
+  gathered = subst (All (λ b. AreGathered (g.D.Digest.digest (sharers_of b.session)) c.loop-berth.pairs.items b.session.number (sets_of b.session.stand))) (take_all c.loop-berth.berth-index c.args.berths.now (omega arith)) c.loop-berth.invariant;
 }

@@ -7,4 +7,4 @@ returns-then-not-differs-clause-has g c =
     let es = c.args.table.now.entries in
     let within : c.loop-place.place < length es = omega (arith, c.loop-place.invariant.all) in
     let e = some_item es c.loop-place.place within in
-    λ h lacks. lacks c.loop-place.place e within (one_number (g.D.Digest.digest c.args.class (get_or es c.loop-place.place e).key) c.args.digest (c.if-not-differs.ensures e))
+    λ h lacks. lacks c.loop-place.place e within (one_number (g.D.Digest.digest (c.args.class, c.args.login.now) (get_or es c.loop-place.place e).key) c.args.digest (c.if-not-differs.ensures e))

@@ -7,5 +7,5 @@ abbrev pub invariant-loop-place : goal.invariant-loop-place
 invariant-loop-place g l = record {
   all : l.place-end ≡ length l.table.entries;
   grows : Grows l.initial.index l.index;
-  listed : AllWithin (λ e. Holds l.index (pair (g.D.Digest.digest l.class e.key) l.number)) l.table.entries 0 l.place;
+  listed : AllWithin (λ e. Holds l.index (pair (g.D.Digest.digest (l.class, l.login) e.key) l.number)) l.table.entries 0 l.place;
 }

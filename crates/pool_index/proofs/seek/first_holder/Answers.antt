@@ -1,3 +1,4 @@
+use Rattle.std.specs.Prelude.{option_copied}
 use Rattle.std.proofs.Common.{◌≡◌, ◌+◌, ◌≤◌, ◌^◌, sym, subst, ◌∙◌, refl, arith, rules, All}
 use Rattle.pool_index.specs.Told.{told, IsListed}
 use Rattle.pool_index.specs.RosterView.{RiseIn, IsHolder, IsNoHolder}
@@ -16,10 +17,10 @@ loop-number-init g c = record {
 
 pub returns-in_default-clause-place : goal.returns-in_default-clause-place
 returns-in_default-clause-place g c =
-    let found = subst (AreFound c.loop-number.index c.digest-digest.result c.args.class c.args.at.now c.args.key.now) (told_same c.args.expiries c.args.ttl c.args.berths.now.items c.loop-number.berths.items c.loop-number.invariant.may)
-    (subst (λ n. AreFound c.loop-number.index n c.args.class c.args.at.now c.args.key.now (told c.args.expiries c.args.ttl c.loop-number.berths.items)) (sym c.digest-digest.ensures)
-    (are_found g.D.Digest.digest c.loop-number.index c.args.expiries c.args.ttl c.args.class c.args.at.now c.args.key.now c.loop-number.berths.items c.loop-number.invariant.whole c.loop-number.invariant.listed)) in
-    sym (none_found c.loop-number.index c.digest-digest.result c.args.class c.args.at.now c.args.key.now (told c.args.expiries c.args.ttl c.args.berths.now.items) c.requires.order found
+    let found = subst (AreFound c.loop-number.index c.digest-digest.result c.args.class c.args.at.now (option_copied c.args.login) c.args.key.now) (told_same c.args.expiries c.args.ttl c.args.berths.now.items c.loop-number.berths.items c.loop-number.invariant.may)
+    (subst (λ n. AreFound c.loop-number.index n c.args.class c.args.at.now (option_copied c.args.login) c.args.key.now (told c.args.expiries c.args.ttl c.loop-number.berths.items)) (sym c.digest-digest.ensures)
+    (are_found g.D.Digest.digest c.loop-number.index c.args.expiries c.args.ttl c.args.class c.args.at.now (option_copied c.args.login) c.args.key.now c.loop-number.berths.items c.loop-number.invariant.whole c.loop-number.invariant.listed)) in
+    sym (none_found c.loop-number.index c.digest-digest.result c.args.class c.args.at.now (option_copied c.args.login) c.args.key.now (told c.args.expiries c.args.ttl c.args.berths.now.items) c.requires.order found
     c.loop-number.from c.loop-number.invariant.none c.in_default.ensures)
 
 pub holder_of-requires : goal.holder_of-requires
@@ -29,13 +30,13 @@ holder_of-requires g c = record {
 
 pub returns-in-Some-holder_of-clause-place : goal.returns-in-Some-holder_of-clause-place
 returns-in-Some-holder_of-clause-place g c =
-    let found = subst (AreFound c.loop-number.index c.digest-digest.result c.args.class c.args.at.now c.args.key.now) (told_same c.args.expiries c.args.ttl c.args.berths.now.items c.loop-number.berths.items c.loop-number.invariant.may)
-    (subst (λ n. AreFound c.loop-number.index n c.args.class c.args.at.now c.args.key.now (told c.args.expiries c.args.ttl c.loop-number.berths.items)) (sym c.digest-digest.ensures)
-    (are_found g.D.Digest.digest c.loop-number.index c.args.expiries c.args.ttl c.args.class c.args.at.now c.args.key.now c.loop-number.berths.items c.loop-number.invariant.whole c.loop-number.invariant.listed)) in
+    let found = subst (AreFound c.loop-number.index c.digest-digest.result c.args.class c.args.at.now (option_copied c.args.login) c.args.key.now) (told_same c.args.expiries c.args.ttl c.args.berths.now.items c.loop-number.berths.items c.loop-number.invariant.may)
+    (subst (λ n. AreFound c.loop-number.index n c.args.class c.args.at.now (option_copied c.args.login) c.args.key.now (told c.args.expiries c.args.ttl c.loop-number.berths.items)) (sym c.digest-digest.ensures)
+    (are_found g.D.Digest.digest c.loop-number.index c.args.expiries c.args.ttl c.args.class c.args.at.now (option_copied c.args.login) c.args.key.now c.loop-number.berths.items c.loop-number.invariant.whole c.loop-number.invariant.listed)) in
     let same = told_same c.args.expiries c.args.ttl c.args.berths.now.items c.loop-number.berths.items c.loop-number.invariant.may in
-    sym (place_found c.loop-number.index c.digest-digest.result c.args.class c.args.at.now c.args.key.now (told c.args.expiries c.args.ttl c.args.berths.now.items) c.requires.order found
+    sym (place_found c.loop-number.index c.digest-digest.result c.args.class c.args.at.now (option_copied c.args.login) c.args.key.now (told c.args.expiries c.args.ttl c.args.berths.now.items) c.requires.order found
     c.loop-number.from c.in-Some.number c.in-Some-holder_of.place c.loop-number.invariant.none c.in-Some.ensures
-    (subst (λ os. IsHolder c.in-Some.number c.args.class c.args.at.now c.args.key.now os c.in-Some-holder_of.place) same c.in-Some-holder_of.ensures.some))
+    (subst (λ os. IsHolder c.in-Some.number c.args.class c.args.at.now (option_copied c.args.login) c.args.key.now os c.in-Some-holder_of.place) same c.in-Some-holder_of.ensures.some))
 
 pub returns-in-Some-holder_of-clause-berths : goal.returns-in-Some-holder_of-clause-berths
 returns-in-Some-holder_of-clause-berths g c =
@@ -43,15 +44,15 @@ returns-in-Some-holder_of-clause-berths g c =
 
 pub returns-in_default-checked_add-clause-place : goal.returns-in_default-checked_add-clause-place
 returns-in_default-checked_add-clause-place g c =
-    let found = subst (AreFound c.loop-number.index c.digest-digest.result c.args.class c.args.at.now c.args.key.now) (told_same c.args.expiries c.args.ttl c.args.berths.now.items c.loop-number.berths.items c.loop-number.invariant.may)
-    (subst (λ n. AreFound c.loop-number.index n c.args.class c.args.at.now c.args.key.now (told c.args.expiries c.args.ttl c.loop-number.berths.items)) (sym c.digest-digest.ensures)
-    (are_found g.D.Digest.digest c.loop-number.index c.args.expiries c.args.ttl c.args.class c.args.at.now c.args.key.now c.loop-number.berths.items c.loop-number.invariant.whole c.loop-number.invariant.listed)) in
+    let found = subst (AreFound c.loop-number.index c.digest-digest.result c.args.class c.args.at.now (option_copied c.args.login) c.args.key.now) (told_same c.args.expiries c.args.ttl c.args.berths.now.items c.loop-number.berths.items c.loop-number.invariant.may)
+    (subst (λ n. AreFound c.loop-number.index n c.args.class c.args.at.now (option_copied c.args.login) c.args.key.now (told c.args.expiries c.args.ttl c.loop-number.berths.items)) (sym c.digest-digest.ensures)
+    (are_found g.D.Digest.digest c.loop-number.index c.args.expiries c.args.ttl c.args.class c.args.at.now (option_copied c.args.login) c.args.key.now c.loop-number.berths.items c.loop-number.invariant.whole c.loop-number.invariant.listed)) in
     let os = told c.args.expiries c.args.ttl c.args.berths.now.items in
     let same = told_same c.args.expiries c.args.ttl c.args.berths.now.items c.loop-number.berths.items c.loop-number.invariant.may in
-    let lacks = subst (IsNoHolder c.in-Some.number c.args.class c.args.at.now c.args.key.now) same (c.in_default-holder_of.ensures.none refl) in
+    let lacks = subst (IsNoHolder c.in-Some.number c.args.class c.args.at.now (option_copied c.args.login) c.args.key.now) same (c.in_default-holder_of.ensures.none refl) in
     let last : 2 ^ 64 ≤ c.in-Some.number + 1 = search rules in
-    sym (none_last c.loop-number.index c.digest-digest.result c.args.class c.args.at.now c.args.key.now os c.requires.order found (c.in-Some.number + 1) last
-    (none_more c.loop-number.index c.digest-digest.result c.args.class c.args.at.now c.args.key.now os c.requires.order found c.loop-number.from c.in-Some.number c.loop-number.invariant.none c.in-Some.ensures lacks))
+    sym (none_last c.loop-number.index c.digest-digest.result c.args.class c.args.at.now (option_copied c.args.login) c.args.key.now os c.requires.order found (c.in-Some.number + 1) last
+    (none_more c.loop-number.index c.digest-digest.result c.args.class c.args.at.now (option_copied c.args.login) c.args.key.now os c.requires.order found c.loop-number.from c.in-Some.number c.loop-number.invariant.none c.in-Some.ensures lacks))
 
 pub returns-in_default-checked_add-clause-berths : goal.returns-in_default-checked_add-clause-berths
 returns-in_default-checked_add-clause-berths g c =
@@ -75,16 +76,16 @@ returns-in_default-checked_add-clause-listed g c = subst (All (IsListed g.D.Dige
 
 pub loop-number-preserved : goal.loop-number-preserved
 loop-number-preserved g c =
-    let found = subst (AreFound c.loop-number.index c.digest-digest.result c.args.class c.args.at.now c.args.key.now) (told_same c.args.expiries c.args.ttl c.args.berths.now.items c.loop-number.berths.items c.loop-number.invariant.may)
-    (subst (λ n. AreFound c.loop-number.index n c.args.class c.args.at.now c.args.key.now (told c.args.expiries c.args.ttl c.loop-number.berths.items)) (sym c.digest-digest.ensures)
-    (are_found g.D.Digest.digest c.loop-number.index c.args.expiries c.args.ttl c.args.class c.args.at.now c.args.key.now c.loop-number.berths.items c.loop-number.invariant.whole c.loop-number.invariant.listed)) in
+    let found = subst (AreFound c.loop-number.index c.digest-digest.result c.args.class c.args.at.now (option_copied c.args.login) c.args.key.now) (told_same c.args.expiries c.args.ttl c.args.berths.now.items c.loop-number.berths.items c.loop-number.invariant.may)
+    (subst (λ n. AreFound c.loop-number.index n c.args.class c.args.at.now (option_copied c.args.login) c.args.key.now (told c.args.expiries c.args.ttl c.loop-number.berths.items)) (sym c.digest-digest.ensures)
+    (are_found g.D.Digest.digest c.loop-number.index c.args.expiries c.args.ttl c.args.class c.args.at.now (option_copied c.args.login) c.args.key.now c.loop-number.berths.items c.loop-number.invariant.whole c.loop-number.invariant.listed)) in
     let os = told c.args.expiries c.args.ttl c.args.berths.now.items in
     let same = told_same c.args.expiries c.args.ttl c.args.berths.now.items c.loop-number.berths.items c.loop-number.invariant.may in
-    let lacks = subst (IsNoHolder c.in-Some.number c.args.class c.args.at.now c.args.key.now) same (c.in_default-holder_of.ensures.none refl) in
+    let lacks = subst (IsNoHolder c.in-Some.number c.args.class c.args.at.now (option_copied c.args.login) c.args.key.now) same (c.in_default-holder_of.ensures.none refl) in
     let next : c.in-Some-checked_add.after ≡ c.in-Some.number + 1 = search rules in
     record {
-      none = subst (NoneUnder c.args.class c.args.at.now c.args.key.now os) (sym next)
-          (none_more c.loop-number.index c.digest-digest.result c.args.class c.args.at.now c.args.key.now os c.requires.order found c.loop-number.from c.in-Some.number c.loop-number.invariant.none c.in-Some.ensures lacks);
+      none = subst (NoneUnder c.args.class c.args.at.now (option_copied c.args.login) c.args.key.now os) (sym next)
+          (none_more c.loop-number.index c.digest-digest.result c.args.class c.args.at.now (option_copied c.args.login) c.args.key.now os c.requires.order found c.loop-number.from c.in-Some.number c.loop-number.invariant.none c.in-Some.ensures lacks);
       may = may_then c.args.expiries c.args.ttl c.args.berths.now.items c.loop-number.berths.items c.holder_of.new.berths.items c.loop-number.invariant.may c.in_default-holder_of.ensures.berths;
       whole = c.take_out_spent.ensures.whole ∙ c.loop-number.invariant.whole;
       listed = subst (All (IsListed g.D.Digest.digest c.take_out_spent.new.index)) c.as_slice.ensures.value c.take_out_spent.ensures.listed;

@@ -1,3 +1,4 @@
+use Rattle.std.specs.Prelude.{option_copied}
 use Rattle.std.proofs.Common.{◌≡◌, true, ◌-◌, ◌^◌, All}
 use Rattle.std.specs.List.{AllZip}
 use Rattle.pool_index.specs.Told.{told, IsListed}
@@ -7,7 +8,7 @@ use Rattle.pool_index.proofs.seek.first_holder.Given as goal
 
 abbrev pub invariant-loop-number : goal.invariant-loop-number
 invariant-loop-number g l = record {
-  none : NoneUnder l.class l.at l.key (told l.expiries l.ttl l.initial.berths.items) l.from;
+  none : NoneUnder l.class l.at (option_copied l.login) l.key (told l.expiries l.ttl l.initial.berths.items) l.from;
   may : AllZip (MaySettle l.expiries l.ttl) l.initial.berths.items l.berths.items;
   whole : l.index.whole ≡ true;
   listed : All (IsListed g.D.Digest.digest l.index) l.berths.items;

@@ -2,7 +2,7 @@ use Rattle.std.proofs.Common.{◌≢◌, get_or, subst, sym}
 use Rattle.std.proofs.lemmas.List.{get_or_default}
 use Rattle.std.proofs.lemmas.List.Elements.{All-nil}
 use Rattle.pool_sets.specs.Table.{Entry}
-use Rattle.pool_index.specs.Told.{LacksDigest, sets_of}
+use Rattle.pool_index.specs.Told.{sharers_of, LacksDigest, sets_of}
 use Rattle.pool_index.proofs.Spending.{spent_at, lacks_at}
 use Rattle.pool_index.proofs.seek.is_spent.Goals as goal
 
@@ -13,8 +13,8 @@ returns-in-Idle-clause-spent g c =
     let b = get_or bs c.in-Some.place c.index-berths-place.result in
     let there = get_or_default bs c.in-Some.place c.index-berths-place.result b c.in-Some.ensures.some.within in
     λ h. spent_at digest c.args.pair bs c.in-Some.place b c.in-Some.ensures.some there c.requires.order
-    (subst (λ s. LacksDigest (digest b.session.class) c.args.pair.digest (sets_of s)) (sym c.in-Idle.is)
-    (subst (λ t. LacksDigest (digest b.session.class) c.args.pair.digest t.entries) c.table.ensures (c.lacks_digest.ensures.lacks h)))
+    (subst (λ s. LacksDigest (digest (sharers_of b.session)) c.args.pair.digest (sets_of s)) (sym c.in-Idle.is)
+    (subst (λ t. LacksDigest (digest (sharers_of b.session)) c.args.pair.digest t.entries) c.table.ensures (c.lacks_digest.ensures.lacks h)))
 
 pub returns-in-Idle-clause-stands : goal.returns-in-Idle-clause-stands
 returns-in-Idle-clause-stands g c =
@@ -23,8 +23,8 @@ returns-in-Idle-clause-stands g c =
     let b = get_or bs c.in-Some.place c.index-berths-place.result in
     let there = get_or_default bs c.in-Some.place c.index-berths-place.result b c.in-Some.ensures.some.within in
     λ h spent. c.lacks_digest.ensures.has h
-    (subst (λ t. LacksDigest (digest b.session.class) c.args.pair.digest t.entries) (sym c.table.ensures)
-    (subst (λ s. LacksDigest (digest b.session.class) c.args.pair.digest (sets_of s)) c.in-Idle.is (lacks_at digest c.args.pair bs c.in-Some.place b c.in-Some.ensures.some there spent)))
+    (subst (λ t. LacksDigest (digest (sharers_of b.session)) c.args.pair.digest t.entries) (sym c.table.ensures)
+    (subst (λ s. LacksDigest (digest (sharers_of b.session)) c.args.pair.digest (sets_of s)) c.in-Idle.is (lacks_at digest c.args.pair bs c.in-Some.place b c.in-Some.ensures.some there spent)))
 
 pub returns-in-Out-clause-spent : goal.returns-in-Out-clause-spent
 returns-in-Out-clause-spent g c =
@@ -33,4 +33,4 @@ returns-in-Out-clause-spent g c =
     let b = get_or bs c.in-Some.place c.index-berths-place.result in
     let there = get_or_default bs c.in-Some.place c.index-berths-place.result b c.in-Some.ensures.some.within in
     λ h. spent_at digest c.args.pair bs c.in-Some.place b c.in-Some.ensures.some there c.requires.order
-    (subst (λ s. LacksDigest (digest b.session.class) c.args.pair.digest (sets_of s)) (sym c.in-Out.is) (All-nil (λ (e : Entry). digest b.session.class e.key ≢ c.args.pair.digest)))
+    (subst (λ s. LacksDigest (digest (sharers_of b.session)) c.args.pair.digest (sets_of s)) (sym c.in-Out.is) (All-nil (λ (e : Entry). digest (sharers_of b.session) e.key ≢ c.args.pair.digest)))

@@ -4,9 +4,12 @@ use Rattle.leg.proofs.turns.Leg.give_up.Goals as goal
 
 pub invariant_of-self : goal.invariant_of-self
 invariant_of-self g c =
-    let k = c.self.invariant in
+    let k = c.self.invariant.kept in
     rw c.replace.ensures.after
-    (record { may = k.may; session = tt; account = given_up_from (want_of c.self.inside.task) c.self.inside.phase c.self.inside.account k.account })
+    (record {
+      login_is = c.self.invariant.login_is;
+      kept = record { may = k.may; session = tt; account = given_up_from (want_of c.self.inside.task) c.self.inside.phase c.self.inside.account k.account };
+    })
 
 pub returns-clause-bounds : goal.returns-clause-bounds
-returns-clause-bounds g c = account_fits (want_of c.self.inside.task) c.self.inside.phase c.self.inside.account c.self.invariant.account
+returns-clause-bounds g c = account_fits (want_of c.self.inside.task) c.self.inside.phase c.self.inside.account c.self.invariant.kept.account

@@ -5,11 +5,11 @@ use Rattle.leg.proofs.turns.Leg.turn.Goals as goal
 
 pub turn_phase-phase-requires-clause-counts : goal.turn_phase-phase-requires-clause-counts
 turn_phase-phase-requires-clause-counts g c =
-    let k = c.self.invariant in
+    let k = c.self.invariant.kept in
     let l = c.terms_of-terms.ensures in
     let own = c.self.inside in
     let of = rw (← c.self.view_is) at c.requires.of in
-    let small = may_count (want_of own.task) (terms_of c.args.route.now own.leg).pool own.phase own.account l.pool k.account of.within in
+    let small = may_count (want_of own.task) (terms_of c.args.route.now own.login own.leg).pool own.phase own.account l.pool k.account of.within in
     rw (l.terms, c.replace-phase.ensures.value) (record { account = k.account; within = of.within; pool = l.pool; small = small })
 
 pub returns-clause-bounds : goal.returns-clause-bounds

@@ -1,3 +1,4 @@
+use Rattle.std.specs.Prelude.{option_copied}
 use Rattle.std.proofs.Common.{◌∙◌, ap, get_or}
 use Rattle.std.proofs.lemmas.List.{get_or_default}
 use Rattle.pool_sets.specs.Sessions.{idle_with}
@@ -9,41 +10,41 @@ use Rattle.pool_index.proofs.pool.IndexedPool.reuse.Goals as goal
 
 pub spot-requires : goal.spot-requires
 spot-requires g c = record {
-  within = (first_at (idle_with c.args.class c.args.at.now c.args.key.now) c.self.inside.roster.sessions c.args.place (rw (← c.self.view_is) at c.requires.first)).within;
+  within = (first_at (idle_with c.args.class c.args.at.now (option_copied c.args.login) c.args.key.now) c.self.inside.roster.sessions c.args.place (rw (← c.self.view_is) at c.requires.first)).within;
 }
 
 pub number-number-requires : goal.number-number-requires
 number-number-requires g c = record {
-  within = (first_at (idle_with c.args.class c.args.at.now c.args.key.now) c.self.inside.roster.sessions c.args.place (rw (← c.self.view_is) at c.requires.first)).within;
+  within = (first_at (idle_with c.args.class c.args.at.now (option_copied c.args.login) c.args.key.now) c.self.inside.roster.sessions c.args.place (rw (← c.self.view_is) at c.requires.first)).within;
 }
 
 pub lend-requires : goal.lend-requires
 lend-requires g c = record {
-  within = (first_at (idle_with c.args.class c.args.at.now c.args.key.now) c.self.inside.roster.sessions c.args.place (rw (← c.self.view_is) at c.requires.first)).within;
+  within = (first_at (idle_with c.args.class c.args.at.now (option_copied c.args.login) c.args.key.now) c.self.inside.roster.sessions c.args.place (rw (← c.self.view_is) at c.requires.first)).within;
 }
 
 pub unreachable-requires : goal.unreachable-requires
 unreachable-requires g c =
     let os = c.self.inside.roster.sessions in
-    let first = first_at (idle_with c.args.class c.args.at.now c.args.key.now) os c.args.place (rw (← c.self.view_is) at c.requires.first) in
+    let first = first_at (idle_with c.args.class c.args.at.now (option_copied c.args.login) c.args.key.now) os c.args.place (rw (← c.self.view_is) at c.requires.first) in
     let d = some_item os c.args.place first.within in
     let o = get_or os c.args.place d in
-    let h = is_held c.args.class c.args.at.now c.args.key.now os c.args.place o first (get_or_default os c.args.place d o first.within) in
-    idle_has_parts c.args.class c.args.at.now o h.0 h.2.idle (c.in_default-lend.ensures.pooled d)
+    let h = is_held c.args.class c.args.at.now (option_copied c.args.login) c.args.key.now os c.args.place o first (get_or_default os c.args.place d o first.within) in
+    idle_has_parts c.args.class c.args.at.now o h.0 h.2.own.idle (c.in_default-lend.ensures.pooled d)
 
 pub unreachable-requires-in_default-find : goal.unreachable-requires-in_default-find
 unreachable-requires-in_default-find g c =
     let os = c.self.inside.roster.sessions in
-    let first = first_at (idle_with c.args.class c.args.at.now c.args.key.now) os c.args.place (rw (← c.self.view_is) at c.requires.first) in
+    let first = first_at (idle_with c.args.class c.args.at.now (option_copied c.args.login) c.args.key.now) os c.args.place (rw (← c.self.view_is) at c.requires.first) in
     let d = some_item os c.args.place first.within in
     let o = get_or os c.args.place d in
-    let h = is_held c.args.class c.args.at.now c.args.key.now os c.args.place o first (get_or_default os c.args.place d o first.within) in
-    holder_has_set c.args.class c.args.at.now c.args.key.now o h.0 c.in-Some-lend.pooled h.1 h.2 (c.in-Some-lend.ensures.pooled d) c.in_default-find.ensures.found
+    let h = is_held c.args.class c.args.at.now (option_copied c.args.login) c.args.key.now os c.args.place o first (get_or_default os c.args.place d o first.within) in
+    holder_has_set c.args.class c.args.at.now (option_copied c.args.login) c.args.key.now o h.0 c.in-Some-lend.pooled h.1 h.2 (c.in-Some-lend.ensures.pooled d) c.in_default-find.ensures.found
 
 pub invariant_of-self : goal.invariant_of-self
 invariant_of-self g c =
     let os = c.self.inside.roster.sessions in
-    let first = first_at (idle_with c.args.class c.args.at.now c.args.key.now) os c.args.place (rw (← c.self.view_is) at c.requires.first) in
+    let first = first_at (idle_with c.args.class c.args.at.now (option_copied c.args.login) c.args.key.now) os c.args.place (rw (← c.self.view_is) at c.requires.first) in
     let d = some_item os c.args.place first.within in
     let o = get_or os c.args.place d in
     rw (c.lend.ensures.out d) (pool_out g.S.Sitting os c.self.inside.given c.self.inside.opens c.args.place o c.in-Some.spot first.within (get_or_default os c.args.place d o first.within) c.self.invariant)
@@ -51,24 +52,24 @@ invariant_of-self g c =
 pub returns-clause-plain : goal.returns-clause-plain
 returns-clause-plain g c =
     let os = c.self.inside.roster.sessions in
-    let first = first_at (idle_with c.args.class c.args.at.now c.args.key.now) os c.args.place (rw (← c.self.view_is) at c.requires.first) in
+    let first = first_at (idle_with c.args.class c.args.at.now (option_copied c.args.login) c.args.key.now) os c.args.place (rw (← c.self.view_is) at c.requires.first) in
     let d = some_item os c.args.place first.within in
     let o = get_or os c.args.place d in
     rw (← c.self.view_is, c.lend.ensures.out d, c.number-number.ensures d)
-    (reuse_plain c.args.class c.args.now c.args.at.now c.args.key.now _ c.args.place o c.in-Some-lend.pooled c.apart.result c.in-Some.spot c.in-Some-find.slot c.in-Some-find.hits
+    (reuse_plain c.args.class c.args.now c.args.at.now (option_copied c.args.login) c.args.key.now _ c.args.place o c.in-Some-lend.pooled c.apart.result c.in-Some.spot c.in-Some-find.slot c.in-Some-find.hits
     first c.self.invariant.ascends (get_or_default os c.args.place d o first.within) (c.in-Some-lend.ensures.pooled d) c.in-Some-find.ensures.found
     (c.in-Some.ensures d) (c.apart.ensures.same ∙ c.find.ensures.after))
 
 pub returns-clause-fits : goal.returns-clause-fits
 returns-clause-fits g c =
     let os = c.self.inside.roster.sessions in
-    let first = first_at (idle_with c.args.class c.args.at.now c.args.key.now) os c.args.place (rw (← c.self.view_is) at c.requires.first) in
+    let first = first_at (idle_with c.args.class c.args.at.now (option_copied c.args.login) c.args.key.now) os c.args.place (rw (← c.self.view_is) at c.requires.first) in
     let d = some_item os c.args.place first.within in
     let o = get_or os c.args.place d in
     let e = get_or_default os c.args.place d o first.within in
-    let h = is_held c.args.class c.args.at.now c.args.key.now os c.args.place o first e in
+    let h = is_held c.args.class c.args.at.now (option_copied c.args.login) c.args.key.now os c.args.place o first e in
     let given = c.apart.ensures.same ∙ c.find.ensures.after in (
-      ready_at g.W.World g.S.Sitting c.args.class c.args.at.now os c.args.place o h.0 c.in-Some-lend.pooled c.apart.result h.2.idle first.within e c.self.invariant.rests (c.in-Some-lend.ensures.pooled d)
+      ready_at g.W.World g.S.Sitting c.args.class c.number-number.result c.args.at.now (option_copied c.args.login) os c.args.place o h.0 c.in-Some-lend.pooled c.apart.result h.2.own first.within e c.self.invariant.rests (c.in-Some-lend.ensures.pooled d)
           (rw (← c.apart.ensures.same) at c.apart.ensures.kept) (ap (λ p. p.session) given) (ap (λ p. p.address) given),
       rw given (has_used c.args.key.now c.args.now c.in-Some-lend.pooled.table c.in-Some-find.slot c.in-Some-find.hits c.in-Some-find.ensures.found),
     )
@@ -76,7 +77,7 @@ returns-clause-fits g c =
 pub returns-clause-bound : goal.returns-clause-bound
 returns-clause-bound g c =
     let os = c.self.inside.roster.sessions in
-    let first = first_at (idle_with c.args.class c.args.at.now c.args.key.now) os c.args.place (rw (← c.self.view_is) at c.requires.first) in
+    let first = first_at (idle_with c.args.class c.args.at.now (option_copied c.args.login) c.args.key.now) os c.args.place (rw (← c.self.view_is) at c.requires.first) in
     let d = some_item os c.args.place first.within in
     let o = get_or os c.args.place d in
     rw (c.lend.ensures.out d) (pool_out g.S.Sitting os c.self.inside.given c.self.inside.opens c.args.place o c.in-Some.spot first.within (get_or_default os c.args.place d o first.within) c.self.invariant).bound

@@ -1,5 +1,5 @@
 use Rattle.std.proofs.Common.{ap, subst, All}
-use Rattle.pool_index.specs.Told.{AreGathered, sets_of}
+use Rattle.pool_index.specs.Told.{sharers_of, AreGathered, sets_of}
 use Rattle.pool_index.proofs.Rosters.{roster_lacking, roster_filled}
 use Rattle.pool_index.proofs.roster.Roster.complete.Goals as goal
 
@@ -10,4 +10,4 @@ invariant_of-self g c =
 pub invariant_of-self-2 : goal.invariant_of-self-2
 invariant_of-self-2 g c =
     roster_filled g.D.Digest.digest c.self.inside.index c.self.inside.expiries c.self.inside.oldest c.self.inside.set_ttl c.refill.new.self c.gather_all.new.pairs.items c.self.inside.berths.items c.refill.ensures.pairs
-    (subst (All (λ b. AreGathered (g.D.Digest.digest b.session.class) c.gather_all.new.pairs.items b.session.number (sets_of b.session.stand))) c.as_slice.ensures.value c.in-Ok.ensures.gathered) c.self.invariant
+    (subst (All (λ b. AreGathered (g.D.Digest.digest (sharers_of b.session)) c.gather_all.new.pairs.items b.session.number (sets_of b.session.stand))) c.as_slice.ensures.value c.in-Ok.ensures.gathered) c.self.invariant

@@ -1,3 +1,4 @@
+use Rattle.std.specs.Prelude.{option_copied}
 use Rattle.std.proofs.Common.{◌∙◌, ap, position, is_some}
 use Rattle.pool_sets.specs.Sessions.{idle_with}
 use Rattle.pool_index.proofs.Lazy.{settled_all}
@@ -12,8 +13,9 @@ pub returns-clause-place : goal.returns-clause-place
 returns-clause-place g c =
     let class = c.args.class in
     let at = c.args.at.now in
+    let login = option_copied c.args.login in
     let key = c.args.key.now in
-    rw (← c.self.view_is) (c.holder_place.ensures ∙ ap (position (λ b. is_some (idle_with class at key b.session))) (c.as_slice.ensures.value ∙ c.settle_each.ensures) ∙ settled_place c.self.inside.expiries c.self.inside.set_ttl class at key c.self.inside.berths.items)
+    rw (← c.self.view_is) (c.holder_place.ensures ∙ ap (position (λ b. is_some (idle_with class at login key b.session))) (c.as_slice.ensures.value ∙ c.settle_each.ensures) ∙ settled_place c.self.inside.expiries c.self.inside.set_ttl class at login key c.self.inside.berths.items)
 
 pub returns-clause-same : goal.returns-clause-same
 returns-clause-same g c =

@@ -2,7 +2,7 @@ use Rattle.std.proofs.Common.{◌<◌, ap, subst}
 use Rattle.std.proofs.lemmas.List.{length-map}
 use Rattle.pool_sets.specs.declared.sessions.Stand.TheVariants.{Idle}
 use Rattle.pool_sets.specs.Sessions.{with_stand}
-use Rattle.pool_index.specs.Told.{seen, AreListed}
+use Rattle.pool_index.specs.Told.{sharers_of, seen, AreListed}
 use Rattle.pool_index.proofs.Rosters.{rested_roster, told_set, rest_seen}
 use Rattle.pool_index.proofs.roster.Roster.rest.Goals as goal
 
@@ -13,7 +13,7 @@ invariant_of-self g c =
     let ttl = c.self.inside.set_ttl in
     let b = c.index_mut-berth.result.now in
     let w = subst (λ n. c.args.place < n) (length-map bs (seen x ttl)) (rw (← c.self.view_is) at c.requires.within) in
-    let listed = subst (λ t. AreListed (g.D.Digest.digest b.session.class) c.list_all.new.index b.session.number t.entries) c.table.ensures c.list_all.ensures.listed in
+    let listed = subst (λ t. AreListed (g.D.Digest.digest (sharers_of b.session)) c.list_all.new.index b.session.number t.entries) c.table.ensures c.list_all.ensures.listed in
     rw (c.rest.ensures, c.min-self-inside.ensures) (rested_roster g.D.Digest.digest c.self.inside.index x c.self.inside.oldest ttl c.list_all.new.index c.args.since c.args.place bs b c.args.pooled c.self.invariant w c.index_mut-berth.ensures.value c.list_all.ensures.grows listed)
 
 pub returns : goal.returns
