@@ -66,5 +66,5 @@ pub(crate) fn route_of(alloc: Global, way: Way) -> Result<Route, Memory>
     if !parts.are_sound() {
         return Err(Memory);
     }
-    Ok(Route::new(parts))
+    Route::new(alloc, parts)
 }

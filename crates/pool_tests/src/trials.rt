@@ -91,7 +91,7 @@ fn route_of(alloc: Global, max_sessions: u32) -> Result<Route, Memory> {
     if !parts.are_sound() {
         return Err(Memory);
     }
-    Ok(Route::new(parts))
+    Route::new(alloc, parts)
 }
 
 /// Two members at test targets.

@@ -1,5 +1,5 @@
 -- Whom and what an access rule names (this project's own).
-use Rattle.std.specs.Prelude.{ℕ, ◌||◌, Bool, List, All, IsTrue}
+use Rattle.std.specs.Prelude.{ℕ, ◌||◌, Bool, List, map, All, IsTrue}
 use Rattle.std.specs.List.{list_any}
 use Rattle.std.specs.Str.{str_eq_ignore_ascii_case}
 use Rattle.z_types.specs.Same.{is_same}
@@ -16,6 +16,14 @@ is_for_user named user = is_same named every || is_same named user
 -- or `*`
 abbrev pub is_for_database : List ℕ → List ℕ → Bool
 is_for_database named database = is_same named every || str_eq_ignore_ascii_case named database
+
+-- a rule is for the database of this name
+abbrev pub covers : List ℕ → Rule → Bool
+covers database rule = list_any (λ one. is_for_database one database) rule.databases
+
+-- for each database, and each rule, whether the rule is for it
+abbrev pub coverings : List Database → List Rule → List (List Bool)
+coverings databases rules = map (λ database. map (covers database.name) rules) databases
 
 -- a rule may name as its user: `*`, `anonymous`, or a user
 abbrev pub names_user : List User → List ℕ → Bool

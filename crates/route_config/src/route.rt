@@ -1,12 +1,16 @@
 //! The route and its parts. A number that names a target, database, leg or class is its place in
 //! the route's list of that kind, counted from 0.
 
-ghost use Rattle.std.specs.Prelude.{◌≡◌};
+ghost use Rattle.std.specs.Prelude.{◌≡◌, IfOk, slice_get};
+ghost use Rattle.std.specs.Option.{option_copied};
+ghost use Rattle.route_config.specs.Rules.{coverings};
 ghost use Rattle.route_config.specs.Sound.{IsSound};
 
 use crate::Members;
+use crate::rules::coverings;
+use std::alloc::Global;
 use std::marker::Model;
-use z_types::{Address, Limits, List, Schema, Text};
+use z_types::{Address, Limits, List, Memory, Schema, Text};
 
 /// A target.
 #[derive(PartialEq, Eq, Clone, Drop)]
@@ -138,30 +142,44 @@ pub struct RouteParts {
 
 /// Where searches go, and who may. Its numbers are in their ranges, its lists in their sizes, every
 /// place is one of the list that it is a place of, and every rule names users and databases that are
-/// there.
+/// there. Which rules are for which database is found once, when the route is made.
 #[derive(Drop)]
 pub struct Route {
     parts: RouteParts,
+    covered: List<List<bool>>,
 }
 
 impl Model for Route {
+    ghost use Rattle.std.specs.Prelude.{◌≡◌};
     ghost use Rattle.route_config.specs.declared.route.RouteParts.{RouteParts};
+    ghost use Rattle.route_config.specs.Rules.{coverings};
     ghost use Rattle.route_config.specs.Sound.{IsSound};
 
     ghost Value = { RouteParts };
 
     ghost view = { λ route. route.parts };
 
-    ghost invariant = { λ route. IsSound route.parts };
+    ghost invariant = { λ route.
+        IsSound route.parts
+        × route.covered ≡ coverings route.parts.databases route.parts.rules };
 }
 
 impl Route {
-    /// The route of these parts.
-    pub fn new(parts: RouteParts) -> Route
+    /// The route of these parts. Only want of memory fails.
+    pub fn new(alloc: Global, parts: RouteParts) -> Result<Route, Memory>
         requires sound { IsSound parts }
-        ensures same { result ≡ parts }
+        ensures same { IfOk result (λ route. route ≡ parts) }
     {
-        Route { parts }
+        let covered = coverings(alloc, parts.databases.as_slice(), parts.rules.as_slice())?;
+        Ok(Route { parts, covered })
+    }
+
+    /// Which rules are for the virtual database at a place, rule by rule.
+    pub fn covering(&self, database: usize) -> Option<&List<bool>>
+        ensures { option_copied result
+            ≡ slice_get (coverings self.now.databases self.now.rules) database }
+    {
+        self.covered.get(database)
     }
 
     /// Its parts.

@@ -25,7 +25,7 @@ impl Route {
     pub fn smallest(alloc: Global) -> Result<Route, Memory>
         ensures { IfOk result (λ route. route ≡ smallest_route) }
     {
-        Ok(Route::new(RouteParts::smallest(alloc)?))
+        Route::new(alloc, RouteParts::smallest(alloc)?)
     }
 }
 

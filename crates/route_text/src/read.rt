@@ -30,7 +30,7 @@ fn read_tree_route(alloc: Global, tree: &Value) -> Result<Route, RouteFault>
     ensures { Reads (first_fault (view tree.now)) (route_of (values_in (view tree.now))) result }
 {
     let values = read_values(alloc, tree)?;
-    Ok(Route::new(route_of(alloc, values)?))
+    Ok(Route::new(alloc, route_of(alloc, values)?)?)
 }
 
 /// The values of a tree, or its first refusal.

@@ -101,7 +101,7 @@ fn route(alloc: Global) -> Result<Route, NoAnswer> {
     parts.databases.push(database(alloc, b"t", &[1, 2])?)?;
     parts.databases.push(database(alloc, b"m", &[0; 16])?)?;
     if parts.are_sound() {
-        Ok(Route::new(parts))
+        Ok(Route::new(alloc, parts)?)
     } else {
         Err(NoAnswer::Misspelt)
     }

@@ -78,7 +78,7 @@ pub(crate) fn route_within(
     if !parts.are_sound() {
         return Err(Memory);
     }
-    Ok(Route::new(parts))
+    Route::new(alloc, parts)
 }
 
 /// Whether these are so many marks, each Plain.
