@@ -6,15 +6,13 @@ ghost use Rattle.conn_served.specs.Costs.{tally_of};
 ghost use Rattle.conn_served.specs.Seats.{AreGivenBack};
 ghost use Rattle.serve.specs.Working.{HasWorked, HaveCost, IsNoneLeft, worker_view};
 
-use crate::serve_connection;
-use conn_served::Served;
+use crate::{Listed, serve_connection};
 use gw_outside::{Accept, Accepted, Backend, Clock};
 use pool_sets::Door;
 use route_config::Route;
 use std::alloc::Global;
-use std::mem;
 use std::sync::Wait;
-use z_types::{List, World};
+use z_types::World;
 
 /// How a worker's loop ended.
 #[derive(Clone, Copy, PartialEq, Eq, Debug)]
@@ -38,7 +36,7 @@ pub struct Worker<B, A, C> {
     /// The moments by which sessions with targets age.
     pub clock: C,
     /// What came of each connection, in their order.
-    pub served: List<Served>,
+    pub served: Listed,
 }
 
 /// Accepts a connection, serves it, hands it back and lists what came of it, again and again until no
@@ -71,8 +69,7 @@ pub fn work<R: Wait, W: World, B: Backend<W>, D: Door<W, B::Session>, A: Accept,
     ensures faults { A.faults worker.old.accept ≤ A.faults worker.new.accept }
     ensures most { (D.counts door.new).most ≡ (D.counts door.old).most }
 {
-    let mut served = mem::replace(&mut worker.served, List::new(alloc)).into_vec();
-    let worked = serve_all(
+    serve_all(
         rt,
         alloc,
         route,
@@ -80,10 +77,8 @@ pub fn work<R: Wait, W: World, B: Backend<W>, D: Door<W, B::Session>, A: Accept,
         &mut worker.backend,
         &mut worker.accept,
         &mut worker.clock,
-        &mut served,
-    );
-    worker.served = List::from_vec(served);
-    worked
+        &mut worker.served,
+    )
 }
 
 /// Serves connections until none is left, and lists what came of each.
@@ -95,12 +90,12 @@ fn serve_all<R: Wait, W: World, B: Backend<W>, D: Door<W, B::Session>, A: Accept
     backend: &mut B,
     accept: &mut A,
     clock: &mut C,
-    served: &mut Vec<Served>,
+    served: &mut Listed,
 ) -> Worked
     ensures worked { HasWorked W.World A.In.Source A.Out.Sink route.now
-        (worker_view A.Accept served.old.items accept.old)
-        (worker_view A.Accept served.new.items accept.new) }
-    ensures cost { HaveCost route.now.pool served.old.items served.new.items
+        (worker_view A.Accept served.old accept.old)
+        (worker_view A.Accept served.new accept.new) }
+    ensures cost { HaveCost route.now.pool served.old served.new
         (tally_of D.Door B.Watched door.old backend.old)
         (tally_of D.Door B.Watched door.new backend.new) }
     ensures seats { AreGivenBack (D.pool door.old) (D.pool door.new) }
@@ -110,7 +105,7 @@ fn serve_all<R: Wait, W: World, B: Backend<W>, D: Door<W, B::Session>, A: Accept
     ensures most { (D.counts door.new).most ≡ (D.counts door.old).most }
 {
     for _round in 0..u64::MAX {
-        if served.reserve(1).is_err() {
+        if served.make_room().is_err() {
             return Worked::Memory;
         }
         match accept.accept() {
@@ -118,7 +113,7 @@ fn serve_all<R: Wait, W: World, B: Backend<W>, D: Door<W, B::Session>, A: Accept
                 let (from, to) = (&mut source, &mut sink);
                 let came = serve_connection(rt, alloc, route, door, from, to, backend, clock);
                 accept.close(source, sink, came.marks.as_slice(), came.end);
-                served.push_reserved(came);
+                served.push(came);
             }
             Accepted::Ended => return Worked::Ended,
             Accepted::Failed => return Worked::Failed,

@@ -1,14 +1,14 @@
 //! Workers over the system.
 
 use log::Log;
-use serve_top::serve::Worker;
+use serve_top::serve::{Listed, Worker};
 use std::alloc::Global;
 use std::net::{Net, TcpListener, TcpStream};
 use std::sync::{Mutex, Wait};
 use std::time;
 use tcp_edge::{EdgeWire, SocketAccept, SystemClock, Totals};
 use z_client::ZBackend;
-use z_types::{List, Memory};
+use z_types::Memory;
 
 /// A worker over the system: sockets to targets at hosts and links to test targets, the connections of a
 /// listener, and the clock.
@@ -30,7 +30,7 @@ pub(crate) fn worker<'a, R: Net<Stream = TcpStream> + time::Clock + Wait, L: Log
         backend: ZBackend::new(alloc, EdgeWire::new(alloc, runtime, log, totals)),
         accept: SocketAccept::new(runtime, log, listener, totals),
         clock: SystemClock::new(runtime),
-        served: List::new(alloc),
+        served: Listed::counting(),
     }
 }
 

@@ -1,13 +1,14 @@
 //! Connections that end for want of memory, which their targets have none of while a search is made.
 
-use crate::connections::{are_plain, route_of, route_within, text_of};
-use crate::octets::{GET, INIT, INIT_REPLY, PRESENT, PRESENT_REPLY, SEARCH, SEARCH_REPLY};
-use crate::workers::{Client, are_so, worker};
-use gw_memory::{FakeBackend, FakeSession, MemoryClock, MemorySink, MemorySource};
+use crate::cases::{Case, MOST_UNITS, WHOLE, are_so, route_within};
+use crate::octets::{GET, INIT, INIT_REPLY};
+use crate::workers::{WorkCase, works_so};
+use gw_memory::{FakeBackend, FakeSession};
 use gw_outside::{TargetAnswer, Targets};
 use pool_core::Pool;
+use pool_sets::Door;
 use route_config::Route;
-use serve::{Worked, serve_connection, work};
+use serve::Worked;
 use std::alloc::Global;
 use std::sync::Wait;
 use std::test::Fail;
@@ -82,101 +83,85 @@ fn sessions(alloc: Global, lacks: bool) -> FakeBackend<Scarce> {
     FakeBackend::new(Scarce { world, lacks }, List::new(alloc))
 }
 
-/// Clients whose requests in work end for want of memory, and one who asks for nothing of targets.
-const LACKING: [Client; 3] = [
-    Client {
-        sent: &[INIT, SEARCH, PRESENT],
-        failing_write: 0,
+/// Connections whose requests in work end for want of memory, and one that asks for nothing of targets.
+const LACKING: [Case; 3] = [
+    Case {
         written: &[INIT_REPLY],
         marks: 1,
         end: End::Memory,
+        ..WHOLE
     },
-    Client {
+    Case {
         sent: &[GET],
-        failing_write: 0,
         written: &[],
         marks: 0,
         end: End::Memory,
+        ..WHOLE
     },
-    Client {
+    Case {
         sent: &[INIT],
-        failing_write: 0,
         written: &[INIT_REPLY],
         marks: 1,
-        end: End::Finished,
+        ..WHOLE
     },
 ];
 
-/// A client whose targets have memory.
-const SERVED: Client = Client {
-    sent: &[INIT, SEARCH, PRESENT],
-    failing_write: 0,
-    written: &[INIT_REPLY, SEARCH_REPLY, PRESENT_REPLY],
-    marks: 3,
-    end: End::Finished,
-};
-
-/// Whether a client is served as is wanted, over a pool and targets that lack memory or not.
-fn is_so<R: Wait>(
+/// Whether connections are served as their cases have it, over targets that lack memory or not.
+fn are_so_over<R: Wait, D: Door<Scarce, FakeSession>>(
     rt: &R,
     alloc: Global,
     route: &Route,
-    pool: &mut Pool<Scarce, FakeSession>,
+    door: &mut D,
     lacks: bool,
-    client: &Client,
+    cases: &[Case],
 ) -> Result<bool, Memory> {
-    let sent = text_of(alloc, client.sent)?;
-    let written = text_of(alloc, client.written)?;
-    let mut source = MemorySource::new(sent, List::new(alloc));
-    let mut sink = MemorySink::new(alloc, List::new(alloc));
     let mut backend = sessions(alloc, lacks);
-    let mut clock = MemoryClock::new(List::new(alloc));
-    let served = serve_connection(
-        rt,
-        alloc,
-        route,
-        pool,
-        &mut source,
-        &mut sink,
-        &mut backend,
-        &mut clock,
-    );
+    are_so(rt, alloc, route, door, &mut backend, cases)
+}
+
+/// Whether connections are served as their cases have it, those of targets that lack memory and, behind them over
+/// the same door, one of targets that do not.
+fn leave_their_seat<R: Wait, D: Door<Scarce, FakeSession>>(
+    rt: &R,
+    alloc: Global,
+    route: &Route,
+    door: &mut D,
+) -> Result<bool, Memory> {
     Ok(
-        served.end == client.end
-            && are_plain(&served.marks, client.marks)
-            && sink.received() == written.as_slice(),
+        are_so_over(rt, alloc, route, door, true, &LACKING)?
+            && are_so_over(rt, alloc, route, door, false, &[WHOLE])?,
     )
+}
+
+/// The same over a pool of one session.
+fn leave_the_seat_of_a_pool<R: Wait>(rt: &R, alloc: Global, route: &Route) -> Result<bool, Memory> {
+    let mut pool: Pool<Scarce, FakeSession> = Pool::new(alloc, route)?;
+    leave_their_seat(rt, alloc, route, &mut pool)
+}
+
+/// The same by a route of one session of a class.
+fn leave_the_seat<R: Wait>(rt: &R, alloc: Global) -> Result<bool, Memory> {
+    let route = route_within(alloc, MOST_UNITS, 1)?;
+    leave_the_seat_of_a_pool(rt, alloc, &route)
 }
 
 #[test]
 fn a_connection_that_lacks_memory_leaves_its_seat_to_the_next(rt: HostRuntime) -> Result<(), Fail> {
-    let alloc = rt.alloc();
-    let route = route_within(alloc, 100, 1)?;
-    let mut pool: Pool<Scarce, FakeSession> = Pool::new(alloc, &route)?;
-    for client in &LACKING {
-        assert!(rt;
-            is_so(&rt, alloc, &route, &mut pool, true, client)?,
-            "{:?}",
-            client.end
-        );
-    }
-    assert!(rt; is_so(&rt, alloc, &route, &mut pool, false, &SERVED)?);
+    assert!(rt; leave_the_seat(&rt, rt.alloc())?);
     Ok(())
 }
 
-/// Whether a worker whose targets lack memory serves all its clients so.
-fn works_on<R: Wait>(rt: &R, alloc: Global) -> Result<bool, Memory> {
-    let route = route_of(alloc, 100)?;
-    let mut pool: Pool<Scarce, FakeSession> = Pool::new(alloc, &route)?;
-    let mut worker = worker(alloc, sessions(alloc, true), &LACKING, 0)?;
-    Ok(
-        work(rt, alloc, &route, &mut pool, &mut worker) == Worked::Ended
-            && are_so(alloc, &worker, &LACKING, LACKING.len())?,
-    )
-}
+/// A worker serves all its connections.
+const LACKING_WORK: WorkCase = WorkCase {
+    cases: &LACKING,
+    failing_accept: 0,
+    worked: Worked::Ended,
+    count: 3,
+};
 
 #[test]
 fn a_worker_goes_on_behind_a_connection_that_lacks_memory(rt: HostRuntime) -> Result<(), Fail> {
-    assert!(rt; works_on(&rt, rt.alloc())?);
+    let alloc = rt.alloc();
+    assert!(rt; works_so(&rt, alloc, sessions(alloc, true), &LACKING_WORK)?);
     Ok(())
 }

@@ -2,19 +2,18 @@
 
 ghost use Rattle.std.specs.Prelude.{◌≡◌, drop, length, min};
 
-use crate::connections::{are_plain, route_of, text_of};
-use crate::octets::{INIT, PRESENT, SEARCH};
+use crate::cases::{MOST_UNITS, WHOLE, ends_so, route_of, text_of};
 use gw_memory::{FakeBackend, FakeSession, MemoryClock};
-use gw_outside::{Got, Sink, Source, Took};
+use gw_outside::{Backend, Got, Sink, Source, Took};
 use pool_core::Pool;
+use pool_sets::Door;
 use route_config::Route;
-use serve::serve_connection;
 use std::alloc::Global;
 use std::sync::Wait;
 use std::sync::atomic::{AtomicU64, Ordering};
 use std::test::Fail;
 use test_target::TestWorld;
-use z_types::{End, List, Memory};
+use z_types::{List, Memory, World};
 
 /// Where reads end in what is sent, and how many octets are to be written by the next one.
 type Reads<'a> = &'a [(usize, u64)];
@@ -102,11 +101,12 @@ const CASES: [Reads; 4] = [
 ];
 
 /// Whether a client who sends this and is read so is answered to its end.
-fn is_read_so<R: Wait>(
+fn is_read_so<R: Wait, W: World, B: Backend<W>, D: Door<W, B::Session>>(
     rt: &R,
     alloc: Global,
     route: &Route,
-    pool: &mut Pool<TestWorld, FakeSession>,
+    door: &mut D,
+    backend: &mut B,
     sent: &[u8],
     reads: Reads,
 ) -> bool {
@@ -124,27 +124,37 @@ fn is_read_so<R: Wait>(
         written: &written,
         faults: 0,
     };
-    let mut backend = FakeBackend::new(TestWorld, List::new(alloc));
     let mut clock = MemoryClock::new(List::new(alloc));
-    let served = serve_connection(
+    ends_so(
         rt,
         alloc,
         route,
-        pool,
-        &mut source,
-        &mut sink,
-        &mut backend,
+        door,
+        backend,
         &mut clock,
-    );
-    served.end == End::Finished && are_plain(&served.marks, 3)
+        (&mut source, &mut sink),
+        (WHOLE.marks, WHOLE.end),
+    )
+}
+
+/// Whether a client who sends this and is read so is answered to its end, over targets in memory.
+fn is_answered_by<R: Wait>(
+    rt: &R,
+    alloc: Global,
+    route: &Route,
+    sent: &[u8],
+    reads: Reads,
+) -> Result<bool, Memory> {
+    let mut pool: Pool<TestWorld, FakeSession> = Pool::new(alloc, route)?;
+    let mut backend = FakeBackend::new(TestWorld, List::new(alloc));
+    Ok(is_read_so(rt, alloc, route, &mut pool, &mut backend, sent, reads))
 }
 
 /// Whether a client who is read so is answered to its end.
 fn is_answered<R: Wait>(rt: &R, alloc: Global, reads: Reads) -> Result<bool, Memory> {
-    let sent = text_of(alloc, &[INIT, SEARCH, PRESENT])?;
-    let route = route_of(alloc, 100)?;
-    let mut pool: Pool<TestWorld, FakeSession> = Pool::new(alloc, &route)?;
-    Ok(is_read_so(rt, alloc, &route, &mut pool, sent.as_slice(), reads))
+    let sent = text_of(alloc, WHOLE.sent)?;
+    let route = route_of(alloc, MOST_UNITS)?;
+    is_answered_by(rt, alloc, &route, sent.as_slice(), reads)
 }
 
 #[test]

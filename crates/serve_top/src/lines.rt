@@ -25,7 +25,7 @@ fn served_count<B, A, C>(workers: &[Worker<B, A, C>]) -> u128
 {
     let mut count = 0;
     for worker in workers {
-        count += worker.served.len() as u128;
+        count += u128::from(worker.served.len());
     }
     count
 }

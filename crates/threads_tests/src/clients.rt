@@ -5,7 +5,7 @@ ghost use Rattle.gw_outside.specs.Accepts.{IsUntouched};
 
 use gw_memory::{FakeBackend, MemoryAccept, MemoryClock, MemorySink, MemorySource};
 use gw_outside::{Sink, Source};
-use serve_top::serve::Worker;
+use serve_top::serve::{Listed, Worker};
 use std::alloc::Global;
 use test_target::TestWorld;
 use z_types::{End, List, Memory, Text};
@@ -101,7 +101,7 @@ pub(crate) fn worker(
         backend: FakeBackend::new(TestWorld, failing_calls),
         accept: MemoryAccept::new(alloc, connections, failing)?,
         clock: MemoryClock::new(list_of(alloc, moments)?),
-        served: List::new(alloc),
+        served: Listed::keeping(alloc),
     })
 }
 
@@ -125,7 +125,7 @@ pub(crate) fn workers(
 
 /// Whether a worker served so many clients, and each was answered.
 pub(crate) fn has_answered(worker: &Memories, clients: usize) -> bool {
-    let served = worker.served.as_slice();
+    let served = worker.served.kept().unwrap_or(&[]);
     let closed = worker.accept.closed();
     served.len() == clients
         && closed.len() == clients

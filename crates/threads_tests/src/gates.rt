@@ -7,7 +7,7 @@ use gateway_config::Status;
 use gw_memory::{FakeBackend, MemoryClock, MemorySink, MemorySource};
 use gw_outside::{Accept, Accepted, Got, Sink, Source, Took};
 use route_config::SMALLEST_TEXT;
-use serve_top::serve::Worker;
+use serve_top::serve::{Listed, Worker};
 use serve_top::top_serve;
 use std::alloc::Global;
 use std::sync::Wait;
@@ -173,7 +173,7 @@ fn worker<'a>(
             closed: None,
         },
         clock: MemoryClock::new(List::new(alloc)),
-        served: List::new(alloc),
+        served: Listed::keeping(alloc),
     })
 }
 

@@ -12,8 +12,8 @@ use Rattle.serve.proofs.working.serve_all.Goals as goal
 
 pub loop-round-init : goal.loop-round-init
 loop-round-init g c = record {
-  worked = worked-none g.W.World g.A.In.Source g.A.Out.Sink c.args.route.now (worker_view g.A.Accept c.args.served.now.items c.args.accept.now);
-  cost = cost-none c.args.route.now.pool c.args.served.now.items (tally_of g.D.Door g.B.Watched c.args.door.now c.args.backend.now);
+  worked = worked-none g.W.World g.A.In.Source g.A.Out.Sink c.args.route.now (worker_view g.A.Accept c.args.served.now c.args.accept.now);
+  cost = cost-none c.args.route.now.pool c.args.served.now (tally_of g.D.Door g.B.Watched c.args.door.now c.args.backend.now);
   seats = back-none (g.D.Door.pool c.args.door.now);
   faults = omega arith;
   most = refl;
@@ -21,28 +21,28 @@ loop-round-init g c = record {
 
 pub returns-then-is_err-clause-worked : goal.returns-then-is_err-clause-worked
 returns-then-is_err-clause-worked g c =
-    let old : WorkerView g.row.A-In.Denot g.row.A-Out.Denot = worker_view g.A.Accept c.args.served.now.items c.args.accept.now in
-    let mid : WorkerView g.row.A-In.Denot g.row.A-Out.Denot = worker_view g.A.Accept c.loop-round.served.items c.loop-round.accept in
-    worked-same g.W.World g.A.In.Source g.A.Out.Sink c.args.route.now old mid (record mid { served = c.reserve.new.self.items })
-    c.loop-round.invariant.worked c.reserve.ensures.items refl refl refl
+    let old : WorkerView g.row.A-In.Denot g.row.A-Out.Denot = worker_view g.A.Accept c.args.served.now c.args.accept.now in
+    let mid : WorkerView g.row.A-In.Denot g.row.A-Out.Denot = worker_view g.A.Accept c.loop-round.served c.loop-round.accept in
+    worked-same g.W.World g.A.In.Source g.A.Out.Sink c.args.route.now old mid (record mid { served = c.make_room.new.self })
+    c.loop-round.invariant.worked c.make_room.ensures.same refl refl refl
 
 pub returns-in-Ended-clause-worked : goal.returns-in-Ended-clause-worked
 returns-in-Ended-clause-worked g c =
-    let old : WorkerView g.row.A-In.Denot g.row.A-Out.Denot = worker_view g.A.Accept c.args.served.now.items c.args.accept.now in
-    let mid : WorkerView g.row.A-In.Denot g.row.A-Out.Denot = worker_view g.A.Accept c.loop-round.served.items c.loop-round.accept in
-    let new : WorkerView g.row.A-In.Denot g.row.A-Out.Denot = worker_view g.A.Accept c.reserve.new.self.items c.accept.new.self in
+    let old : WorkerView g.row.A-In.Denot g.row.A-Out.Denot = worker_view g.A.Accept c.args.served.now c.args.accept.now in
+    let mid : WorkerView g.row.A-In.Denot g.row.A-Out.Denot = worker_view g.A.Accept c.loop-round.served c.loop-round.accept in
+    let new : WorkerView g.row.A-In.Denot g.row.A-Out.Denot = worker_view g.A.Accept c.make_room.new.self c.accept.new.self in
     worked-same g.W.World g.A.In.Source g.A.Out.Sink c.args.route.now old mid new c.loop-round.invariant.worked
-    c.reserve.ensures.items
+    c.make_room.ensures.same
     (ended-same g.row.A-In.Denot g.row.A-Out.Denot (g.A.Accept.left c.loop-round.accept) (g.A.Accept.left c.accept.new.self)
     c.in-Ended.ensures.fits) c.in-Ended.ensures.closed c.in-Ended.ensures.out
 
 pub returns-in-Failed-clause-worked : goal.returns-in-Failed-clause-worked
 returns-in-Failed-clause-worked g c =
-    let old : WorkerView g.row.A-In.Denot g.row.A-Out.Denot = worker_view g.A.Accept c.args.served.now.items c.args.accept.now in
-    let mid : WorkerView g.row.A-In.Denot g.row.A-Out.Denot = worker_view g.A.Accept c.loop-round.served.items c.loop-round.accept in
-    let new : WorkerView g.row.A-In.Denot g.row.A-Out.Denot = worker_view g.A.Accept c.reserve.new.self.items c.accept.new.self in
+    let old : WorkerView g.row.A-In.Denot g.row.A-Out.Denot = worker_view g.A.Accept c.args.served.now c.args.accept.now in
+    let mid : WorkerView g.row.A-In.Denot g.row.A-Out.Denot = worker_view g.A.Accept c.loop-round.served c.loop-round.accept in
+    let new : WorkerView g.row.A-In.Denot g.row.A-Out.Denot = worker_view g.A.Accept c.make_room.new.self c.accept.new.self in
     worked-same g.W.World g.A.In.Source g.A.Out.Sink c.args.route.now old mid new c.loop-round.invariant.worked
-    c.reserve.ensures.items
+    c.make_room.ensures.same
     (failed-same g.row.A-In.Denot g.row.A-Out.Denot (g.A.Accept.left c.loop-round.accept) (g.A.Accept.left c.accept.new.self)
     c.in-Failed.ensures.fits) c.in-Failed.ensures.closed c.in-Failed.ensures.out
 
@@ -51,9 +51,9 @@ returns-in-Failed-clause-failed g c e = omega (arith, c.loop-round.invariant.fau
 
 pub loop-round-preserved : goal.loop-round-preserved
 loop-round-preserved g c =
-    let old : WorkerView g.row.A-In.Denot g.row.A-Out.Denot = worker_view g.A.Accept c.args.served.now.items c.args.accept.now in
-    let mid : WorkerView g.row.A-In.Denot g.row.A-Out.Denot = worker_view g.A.Accept c.loop-round.served.items c.loop-round.accept in
-    let new : WorkerView g.row.A-In.Denot g.row.A-Out.Denot = worker_view g.A.Accept c.push_reserved.new.self.items c.close.new.self in
+    let old : WorkerView g.row.A-In.Denot g.row.A-Out.Denot = worker_view g.A.Accept c.args.served.now c.args.accept.now in
+    let mid : WorkerView g.row.A-In.Denot g.row.A-Out.Denot = worker_view g.A.Accept c.loop-round.served c.loop-round.accept in
+    let new : WorkerView g.row.A-In.Denot g.row.A-Out.Denot = worker_view g.A.Accept c.push.new.self c.close.new.self in
     let came : Served = c.serve_connection-came.result in
     let closed = c.close.ensures.closed
     ∙ ap (λ told. option_map (λ earlier. earlier ++ (c.serve_connection-came.new.source, c.serve_connection-came.new.sink) ∷ []) told)
@@ -65,14 +65,14 @@ loop-round-preserved g c =
       worked = worked-more g.W.World g.A.In.Source g.A.Out.Sink c.args.route.now old mid new c.in-Connection.source
           c.in-Connection.sink (c.serve_connection-came.new.source, c.serve_connection-came.new.sink) came
           c.loop-round.invariant.worked
-          (c.push_reserved.ensures.items ∙ ap (λ (xs : List Served). xs ++ came ∷ []) c.reserve.ensures.items)
+          (c.push.ensures ∙ ap (λ (xs : List Served). xs ++ came ∷ []) c.make_room.ensures.same)
           closed fits c.in-Connection.ensures.connection out c.serve_connection-came.ensures.served;
-      cost = cost-more c.args.route.now.pool c.args.served.now.items c.loop-round.served.items c.push_reserved.new.self.items came
+      cost = cost-more c.args.route.now.pool c.args.served.now c.loop-round.served c.push.new.self came
           (tally_of g.D.Door g.B.Watched c.args.door.now c.args.backend.now)
           (tally_of g.D.Door g.B.Watched c.loop-round.door c.loop-round.backend)
           (tally_of g.D.Door g.B.Watched c.serve_connection-came.new.door c.serve_connection-came.new.backend)
           c.loop-round.invariant.cost
-          (c.push_reserved.ensures.items ∙ ap (λ (xs : List Served). xs ++ came ∷ []) c.reserve.ensures.items)
+          (c.push.ensures ∙ ap (λ (xs : List Served). xs ++ came ∷ []) c.make_room.ensures.same)
           c.loop-round.invariant.most c.serve_connection-came.ensures.causes c.serve_connection-came.ensures.marks
           c.serve_connection-came.ensures.paid;
       seats = back-both (g.D.Door.pool c.args.door.now) (g.D.Door.pool c.loop-round.door)
@@ -83,18 +83,18 @@ loop-round-preserved g c =
 
 pub returns-then-is_err-clause-cost : goal.returns-then-is_err-clause-cost
 returns-then-is_err-clause-cost g c =
-    cost-same c.args.route.now.pool c.args.served.now.items c.loop-round.served.items c.reserve.new.self.items
+    cost-same c.args.route.now.pool c.args.served.now c.loop-round.served c.make_room.new.self
     (tally_of g.D.Door g.B.Watched c.args.door.now c.args.backend.now)
-    (tally_of g.D.Door g.B.Watched c.loop-round.door c.loop-round.backend) c.reserve.ensures.items c.loop-round.invariant.cost
+    (tally_of g.D.Door g.B.Watched c.loop-round.door c.loop-round.backend) c.make_room.ensures.same c.loop-round.invariant.cost
 
 pub returns-in-Ended-clause-cost : goal.returns-in-Ended-clause-cost
 returns-in-Ended-clause-cost g c =
-    cost-same c.args.route.now.pool c.args.served.now.items c.loop-round.served.items c.reserve.new.self.items
+    cost-same c.args.route.now.pool c.args.served.now c.loop-round.served c.make_room.new.self
     (tally_of g.D.Door g.B.Watched c.args.door.now c.args.backend.now)
-    (tally_of g.D.Door g.B.Watched c.loop-round.door c.loop-round.backend) c.reserve.ensures.items c.loop-round.invariant.cost
+    (tally_of g.D.Door g.B.Watched c.loop-round.door c.loop-round.backend) c.make_room.ensures.same c.loop-round.invariant.cost
 
 pub returns-in-Failed-clause-cost : goal.returns-in-Failed-clause-cost
 returns-in-Failed-clause-cost g c =
-    cost-same c.args.route.now.pool c.args.served.now.items c.loop-round.served.items c.reserve.new.self.items
+    cost-same c.args.route.now.pool c.args.served.now c.loop-round.served c.make_room.new.self
     (tally_of g.D.Door g.B.Watched c.args.door.now c.args.backend.now)
-    (tally_of g.D.Door g.B.Watched c.loop-round.door c.loop-round.backend) c.reserve.ensures.items c.loop-round.invariant.cost
+    (tally_of g.D.Door g.B.Watched c.loop-round.door c.loop-round.backend) c.make_room.ensures.same c.loop-round.invariant.cost
