@@ -108,7 +108,7 @@ row 'and those of each target at a host that was asked' $?
 stop
 
 start 2 --quiet --listen 0.0.0.0
-logs "^listening on 0\.0\.0\.0, port $port" && logs 'clients of other machines may connect, and no rules say who may ask'
+logs "^listening on 0\.0\.0\.0, port $port" && logs 'clients of other machines may connect, and no rules say who may search'
 row '--listen beyond loopback says that no rules stand' $?
 hits 127.0.0.1 Demo && ! logs 'connection 1 '
 row '--quiet logs no connection' $?
@@ -117,6 +117,30 @@ start 2 --listen ::1
 hits '[::1]' Demo
 row '--listen ::1' $?
 stop
+
+# A configuration with a user and a rule, which everybody can read, or not.
+cp route.toml open.toml
+cat >>route.toml <<END
+[[user]]
+name = "ann"
+password = "pw"
+[[rule]]
+name = "open"
+effect = "allow"
+user = "*"
+databases = ["Demo"]
+END
+chmod 644 route.toml
+start 2 --listen 0.0.0.0
+logs 'the configuration has passwords, and everybody on this machine can read it' && ! logs 'no rules say'
+row 'passwords that everybody can read are warned of, and rules stand' $?
+stop
+chmod 600 route.toml
+start 2
+! logs passwords && hits 127.0.0.1 Demo && ! hits 127.0.0.1 Away
+row 'nothing is said of a file that is closed; a rule opens one database' $?
+stop
+cp open.toml route.toml
 
 # Refusals: the words, what is printed, what the standard error says.
 refuses() {

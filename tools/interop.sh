@@ -4,7 +4,7 @@
 #
 #     tools/interop.sh [COMMAND [PORT]]
 #
-# COMMAND starts the gateway (./gateway), PORT is the first of seven that are free (20990). It needs Debian's `yaz`, `idzebra-2.0`,
+# COMMAND starts the gateway (./gateway), PORT is the first of nine that are free (20990). It needs Debian's `yaz`, `idzebra-2.0`,
 # `libnet-z3950-zoom-perl`, `curl` and Python 3. The gate does not run it.
 here=$(CDPATH='' cd -- "$(dirname -- "$0")/.." && pwd) || exit 1
 gateway=${1:-$here/gateway}
@@ -16,6 +16,8 @@ zebra=$((port + 3))
 half=$((port + 4))
 maps=$((port + 5))
 books=$((port + 6))
+members=$((port + 7))
+closed=$((port + 8))
 room=$(mktemp -d) || exit 1
 failed=0
 trap 'kill $(jobs -p) 2>/dev/null; rm -rf "$room"' EXIT
@@ -36,6 +38,9 @@ address = "tcp:127.0.0.1:$zebra"
 [[target]]
 name = "half"
 address = "tcp:127.0.0.1:$half"
+[[target]]
+name = "closed"
+address = "tcp:127.0.0.1:$closed"
 [[database]]
 name = "Demo"
 [[database.leg]]
@@ -68,6 +73,11 @@ databases = ["Default"]
 name = "Half"
 [[database.leg]]
 via = "half"
+databases = ["Default"]
+[[database]]
+name = "Closed"
+[[database.leg]]
+via = "closed"
 databases = ["Default"]
 [pool]
 patience = 20
@@ -111,6 +121,10 @@ start_target
 cp -r /usr/share/doc/idzebra-2.0/examples/gils "$room/gils" || exit 1
 (cd "$room/gils" && zebraidx -c zebra.cfg init && zebraidx -c zebra.cfg update records) >"$room/indexed" 2>&1 || exit 1
 (cd "$room/gils" && exec zebrasrv -c zebra.cfg -v none "@:$zebra") &
+# The same for those alone who log in.
+cp -r "$room/gils" "$room/closed" && echo 'ann:pw' >"$room/closed/passwords" &&
+    printf 'passwd: passwords\nperm.anonymous:\nperm.ann: rw\n' >>"$room/closed/zebra.cfg" || exit 1
+(cd "$room/closed" && exec zebrasrv -c zebra.cfg -v none "@:$closed") &
 # A target that accepts and says nothing, and one that accepts an Init and breaks off in its reply to the next request.
 timeout 600 python3 -c "
 import socket, threading
@@ -189,6 +203,28 @@ sru get 1.2
 find dc.title=a
 quit
 END
+
+# What yaz-client shows of a search in a database at a port, behind a command that says who asks, has a text.
+asks() {
+    printf '%s\nopen tcp:127.0.0.1:%s\nbase %s\nfind @attr 1=4 %s\nquit\n' "$2" "$3" "$4" "$5" | timeout 60 yaz-client >"$room/shown" 2>&1
+    grep -qF -- "$6" "$room/shown"
+    row "$1" $?
+}
+asks 'a login goes to a target that wants one' 'auth ann/pw' "$port" Closed map 'Number of hits: '
+asks 'and so does one of name and password apart' 'auth ann pw' "$port" Closed map 'Number of hits: '
+asks 'a session of that login serves nobody without it' 'auth -' "$port" Closed map 'Database unavailable'
+asks 'nor another login' 'auth ann/no' "$port" Closed map 'Database unavailable'
+
+"$gateway" serve "$examples/members.toml" "$members" 2 2>"$room/members.log" >"$room/members.out" &
+for _ in $(seq 60); do grep -q '^listening' "$room/members.log" && break; sleep 1; done
+asks 'examples/members.toml: a user' 'auth ann/pw' "$members" All a 'Number of hits: '
+asks 'examples/members.toml: a user by name and password apart' 'auth ann pw' "$members" All a 'Number of hits: '
+asks 'examples/members.toml: who has not logged in is told the rule' 'auth -' "$members" All a 'members-only'
+asks 'examples/members.toml: and may search what is open' 'auth -' "$members" Books a 'Number of hits: 3'
+asks 'examples/members.toml: a wrong password' 'auth ann/no' "$members" Books a 'Connection rejected by v3 target'
+tells 'examples/members.toml: ZOOM with user and password' 'hits' zoomsh 'set user ann' 'set password pw' "connect 127.0.0.1:$members/All" 'search @attr 1=4 a' quit
+tells 'examples/members.toml: ZOOM with a wrong password' 'Init rejected' zoomsh 'set user ann' 'set password no' "connect 127.0.0.1:$members/Books" 'search @attr 1=4 a' quit
+tells 'examples/members.toml: a GET is nobody'"'"'s' 'members-only' curl -s -m 10 "http://127.0.0.1:$members/All?operation=searchRetrieve&version=1.2&query=dc.title%3Da"
 
 # The configurations of examples/ for SRU before these targets, whose addresses are put in: each schema gives records, in XML, and no
 # diagnostic in the place of one; the first schema of a configuration without any gives diagnostics alone.

@@ -1,10 +1,10 @@
 -- The elements of a login, on as many levels as a unit has.
-use Rattle.std.proofs.Common.{◌≡◌, ◌∙◌, ℕ, zero, suc, ◌≤◌, Bool, false, List, ap, arith}
+use Rattle.std.proofs.Common.{ℕ, zero, suc, ◌≤◌, Bool, false, List, ap, arith}
 use Rattle.z_types.specs.Bounds.{most_levels}
 use Rattle.z_ber.specs.Element.{Forest, none, leaf, branch, AreElements}
-use Rattle.z_fields.specs.Trees.{AreWhole, elements_in}
+use Rattle.z_fields.specs.Trees.{AreWhole}
 use Rattle.z_fields.proofs.TreeLemmas.{elements_in-are}
-use Rattle.access_rules.specs.Credentials.{says, said}
+use Rattle.access_rules.specs.Credentials.{said}
 use Rattle.unit_forms.specs.Logins.{IsLogin, most_login_levels}
 use Rattle.access_rules.specs.Laws.{LoginsSayTheirFirstElement}
 

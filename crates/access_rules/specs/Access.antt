@@ -1,6 +1,6 @@
 -- Access (this project's own): which of the databases that a client names it may search, and of
 -- which it is told that it may not
-use Rattle.std.specs.Prelude.{◌≡◌, ◌↔◌, ℕ, List, [], ◌∷◌, ◌++◌, Option, Some, None}
+use Rattle.std.specs.Prelude.{◌≡◌, ◌↔◌, ℕ, List, ◌∷◌, ◌++◌, Option, Some, None}
 use Rattle.std.specs.List.{AllByRecursion}
 use Rattle.z_types.specs.Bib1.{bib1}
 use Rattle.z_types.specs.declared.conditions.Condition.TheVariants.{AccessToDatabaseDenied}

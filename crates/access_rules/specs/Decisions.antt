@@ -3,11 +3,10 @@
 use Rattle.std.specs.Prelude.{ℕ, ◌+◌, ◌&&◌, Bool, List, [], ◌∷◌, Option, Some, None, slice_get}
 use Rattle.std.specs.Prelude.{if◌then◌else◌}
 use Rattle.std.specs.Option.{option_map}
-use Rattle.std.specs.List.{list_any}
 use Rattle.route_config.specs.declared.route.Route.{Route}
 use Rattle.route_config.specs.declared.route.Rule.{Rule}
 use Rattle.route_config.specs.Names.{anonymous}
-use Rattle.route_config.specs.Rules.{is_for_user, is_for_database}
+use Rattle.route_config.specs.Rules.{is_for_user, covers}
 use Rattle.access_rules.specs.declared.who.Who.{Who}
 use Rattle.access_rules.specs.declared.who.Who.TheVariants as who
 use Rattle.access_rules.specs.declared.decision.Decision.{Decision}
@@ -26,8 +25,7 @@ database_name route place =
 
 -- a rule is for a client of this name and a database of this name
 abbrev pub is_for : (name database : List ℕ) → Rule → Bool
-is_for name database rule =
-    is_for_user rule.user name && list_any (λ one. is_for_database one database) rule.databases
+is_for name database rule = covers database rule && is_for_user rule.user name
 
 -- what a rule at this place says
 abbrev pub effect : Rule → ℕ → Decision

@@ -1,7 +1,9 @@
+pub mod Coverings
 pub mod Credentials
 pub mod Lent
 pub mod Whose
 pub mod Decisions
 pub mod Denials
+pub mod Firsts
 pub mod Access
 pub mod Laws

@@ -1,14 +1,13 @@
 //! Which databases the rules of the route allow.
 
 ghost use Rattle.std.specs.Prelude.{◌≡◌, ◌≤◌, length};
-ghost use Rattle.std.specs.List.{list_any};
 ghost use Rattle.std.specs.Option.{option_copied};
-ghost use Rattle.route_config.specs.Rules.{is_for_database};
+ghost use Rattle.access_rules.specs.Coverings as coverings;
 ghost use Rattle.access_rules.specs.Decisions as decisions;
 
 use crate::Who;
-use route_config::{ANONYMOUS, Route, Rule, is_for_database, is_for_user};
-use z_types::Text;
+use route_config::{ANONYMOUS, Route, Rule, is_for_user};
+use z_types::List;
 
 /// What the rules say of a client and a database, with the place of the rule that decides, if any.
 #[derive(Clone, Copy, Debug, PartialEq, Eq)]
@@ -20,7 +19,9 @@ pub enum Decision {
 }
 
 /// Whether a client may search the database at a place of the route: the first rule that is for
-/// both decides, and where none is, it may not. Without rules it may. It takes no memory.
+/// both decides, and where none is, it may not. Without rules it may. It takes no memory, and no
+/// database is compared by its name.
+#[tactic(auto, using(crate::proofs::Coverings::decided_by_coverings))]
 pub fn decide(route: &Route, who: Who, database: u32) -> Decision
     ensures { result ≡ decisions.decide route.now who database }
 {
@@ -28,8 +29,24 @@ pub fn decide(route: &Route, who: Who, database: u32) -> Decision
     if rules.is_empty() {
         return Decision::Allowed(None);
     }
-    match (name_of(route, who), database_name(route, database)) {
-        (Some(name), Some(database)) => first_decision(rules, name, database),
+    decision_by(
+        rules,
+        name_of(route, who),
+        route.covering(database as usize),
+    )
+}
+
+/// What rules say of a client's name, and of a database by its list: nobody, and no database, is
+/// denied.
+fn decision_by(rules: &[Rule], name: Option<&[u8]>, covering: Option<&List<bool>>) -> Decision
+    requires few { length rules.now ≤ 1000 }
+    ensures { result ≡ coverings.covered_decision
+        rules.now
+        (option_copied name.entry)
+        (option_copied covering.entry) }
+{
+    match (name, covering) {
+        (Some(name), Some(covering)) => first_decision(rules, covering.as_slice(), name),
         _ => Decision::Denied(None),
     }
 }
@@ -48,41 +65,28 @@ fn name_of(route: &Route, who: Who) -> Option<&[u8]>
     }
 }
 
-/// The name of the database at a place.
-fn database_name(route: &Route, place: u32) -> Option<&[u8]>
-    ensures { option_copied result ≡ decisions.database_name route.now place }
-{
-    let database = route.parts().databases.get(place as usize)?;
-    Some(database.name.as_slice())
-}
-
-/// What the first rule says that is for a client and a database.
-fn first_decision(rules: &[Rule], name: &[u8], database: &[u8]) -> Decision
+/// What the first rule says that is for a client, of those that are for a database as this list has
+/// it.
+fn first_decision(rules: &[Rule], covering: &[bool], name: &[u8]) -> Decision
     requires few { length rules.now ≤ 1000 }
-    ensures { result ≡ decisions.first_decision 0 name.now database.now rules.now }
+    ensures { result ≡ coverings.first_covered 0 name.now covering.now rules.now }
 {
     for (place, rule) in rules.iter().enumerate() {
-        if is_for(rule, name, database) {
+        if is_covered(covering, place) && is_for_user(rule.user.as_slice(), name) {
             return effect(rule, place as u32);
         }
     }
     Decision::Denied(None)
 }
 
-/// Whether a rule is for a client and a database.
-fn is_for(rule: &Rule, name: &[u8], database: &[u8]) -> bool
-    ensures { result ≡ decisions.is_for name.now database.now rule.now }
+/// Whether the rule at a place is for the database.
+fn is_covered(covering: &[bool], place: usize) -> bool
+    ensures { result ≡ coverings.is_covered covering.now place }
 {
-    is_for_user(rule.user.as_slice(), name) && covers(rule.databases.as_slice(), database)
-}
-
-/// Whether some of what a rule names stands for a database.
-fn covers(named: &[Text], database: &[u8]) -> bool
-    ensures { result ≡ list_any (λ one. is_for_database one database.now) named.now }
-{
-    named
-        .iter()
-        .any(|one| is_for_database(one.as_slice(), database))
+    match covering.get(place) {
+        Some(covers) => *covers,
+        None => false,
+    }
 }
 
 /// What the rule at a place says.

@@ -5,6 +5,7 @@ ghost use Rattle.std.specs.List.{position};
 ghost use Rattle.std.specs.Option.{option_copied};
 ghost use Rattle.unit_forms.specs.Logins.{IsLoginIf};
 ghost use Rattle.access_rules.specs.Lent.{lent_credentials};
+ghost use Rattle.access_rules.specs.Firsts.{first_of};
 ghost use Rattle.access_rules.specs.Whose as whose;
 
 use crate::credentials::{Credentials, said_in};
@@ -69,12 +70,27 @@ fn user_with(users: &[User], said: Credentials<'_>) -> Who
     }
 }
 
-/// The place of the first user with these credentials.
+/// The place of the first user with these credentials. All users are looked at, also behind it.
+#[tactic(auto, using(crate::proofs::FirstPlace::found_so_far))]
 fn place_with(users: &[User], said: Credentials<'_>) -> Option<usize>
     ensures place { result ≡ position (whose.is_user (lent_credentials said.entry)) users.now }
     ensures below { IfSome result (λ place. place < length users.now) }
 {
-    users.iter().position(|user| is_user(user, said))
+    let mut found = None;
+    for (place, user) in users.iter().enumerate() {
+        found = first_of(found, is_user(user, said), place);
+    }
+    found
+}
+
+/// What was found, or else a place where it is one.
+fn first_of(found: Option<usize>, is_one: bool, place: usize) -> Option<usize>
+    ensures { result ≡ first_of found is_one place }
+{
+    match found {
+        Some(first) => Some(first),
+        None => is_one.then_some(place),
+    }
 }
 
 /// Whether these are a user's credentials.

@@ -32,10 +32,10 @@ use Rattle.front_conn.proofs.WorkLemmas.{work-there}
 pub taken-back : (old more new : List ℕ) → new ≡ old ++ more → take (length old) new ≡ old
 taken-back old more new is = ap (take (length old)) is ∙ take-append-le (length old) old more (omega arith) ∙ take-length old
 
-due-back : (asks : Request) (due : Asking) (old new : Served) (mark : Option Mark) (end : Option End)
-    → IsDueBegun due asks old new (begun.Write mark end) → take (length old.out) new.out ≡ old.out
-due-back asks (asking.at_once reply) old new mark end h = taken-back old.out (spell_reply reply) new.out h.1.0
-due-back asks (asking.works job) old new mark end h = let wrong = h.0 in absurd cc
+due-back : (route : Route) (asks : Request) (due : Asking) (old new : Served) (mark : Option Mark) (end : Option End)
+    → IsDueBegun route due asks old new (begun.Write mark end) → take (length old.out) new.out ≡ old.out
+due-back route asks (asking.at_once reply) old new mark end h = taken-back old.out (spell_reply reply) new.out h.1.0
+due-back route asks (asking.works job) old new mark end h = let wrong = h.0 in absurd cc
 
 met-back : (meeting : Meeting) (route : Route) (at : ℕ) (read : Option Request) (old new : Served) (mark : Option Mark)
     (end : Option End) → IsMetBegun meeting route at read old new (begun.Write mark end) → take (length old.out) new.out ≡ old.out
@@ -44,7 +44,7 @@ met-back (course.beyond asks) route at read old new mark end h = taken-back old.
 met-back (course.closing close) route at read old new mark end h =
     taken-back old.out (spell_reply (close_reply close.ref_id finished)) new.out h.1
 met-back (course.due asks) route at read old new mark end h =
-    due-back asks (asked_with (hits_named old.session.sets) route (client_of old.session) asks) old new mark end h
+    due-back route asks (asked_with (hits_named old.session.sets) route (client_of old.session) asks) old new mark end h
 
 -- the reply to a unit can be taken back
 pub written-back : (route : Route) (at : ℕ) (unit : List ℕ) (old new : Served) (mark : Option Mark) (end : Option End)
@@ -63,7 +63,7 @@ pub record IsAskedFor (route : Route) (job : Work) (old new : Served) : Type 0 w
 
 due-asked : (route : Route) (asks : Request) (due : Asking) (old new : Served) (job : Work)
     → asked_with (hits_named old.session.sets) route (client_of old.session) asks ≡ due
-    → IsDueBegun due asks old new (begun.Work job) → IsAskedFor route job old new
+    → IsDueBegun route due asks old new (begun.Work job) → IsAskedFor route job old new
 due-asked route asks (asking.at_once reply) old new job is h = let wrong = h.0 in absurd cc
 due-asked route asks (asking.works other) old new job is h =
     let same : other ≡ job = let b = h.0 in cc in

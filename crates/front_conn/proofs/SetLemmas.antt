@@ -164,11 +164,11 @@ not-true false h = refl
 
 -- a request that is in its place leaves the sets with the hits that the targets mean: where an Init settles a login there are none
 pub counted-meant : {W : Type 0} (w : world.Ghosts W) (route : Route) (at : ℕ) (session : SessionState) (asks : Request)
-    → is_in_place (progress_of at session) asks ≡ true → HaveMeantHits w route session → HaveMeantHits w route (counted session asks)
+    → is_in_place (progress_of at session) asks ≡ true → HaveMeantHits w route session → HaveMeantHits w route (counted route session asks)
 counted-meant w route at session (request.Init init) placed sets =
     let none : session.sets ≡ [] = sets.none_before (not-true session.accepted placed) in record {
       none_before = λ h. none;
-      each = subst (AllByRecursion (HasMeantHits (under (counted session (request.Init init)).agreed.login w) route)) (sym none) tt;
+      each = subst (AllByRecursion (HasMeantHits (under (counted route session (request.Init init)).agreed.login w) route)) (sym none) tt;
     }
 counted-meant w route at session (request.Search search) placed sets =
     record { none_before = λ h. sets.none_before (or-false session.accepted h); each = sets.each }

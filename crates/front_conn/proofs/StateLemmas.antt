@@ -189,12 +189,12 @@ stand_of units session = progress_of (length (octets_of units)) session
 pub unit-run : {W : Type 0} (w : world.Ghosts W) (route : Route) (here : Progress) (client : ClientState)
     (unit : Received) (meeting : Meeting) (causes : List Cause) (got : Run) → IsReceived unit
     → met route here unit.request ≡ meeting
-    → run w route client (leads_to meeting here.at (course.stands (after here unit))) causes ≡ got
+    → run w route client (leads_to meeting here.at (course.stands (after route here unit))) causes ≡ got
     → AllByRecursion IsAllowed got.taken → got.left ≡ []
     → HasRun w route here client (unit ∷ []) causes got
 unit-run w route here client unit meeting causes got received is runs allowed left = record {
   each = (received, tt);
-  runs = ap (λ m. run w route client (leads_to m here.at (course.stands (after here unit))) causes) is ∙ runs;
+  runs = ap (λ m. run w route client (leads_to m here.at (course.stands (after route here unit))) causes) is ∙ runs;
   allowed = allowed;
   none_left = left;
 }
@@ -240,12 +240,12 @@ over-ended w route fed written old new unit causes reply second end rb first tak
 -- ---- a unit that is due
 
 -- how far the units have come behind a request that is due
-progress-after : (units : List Received) (unit : Received) (asks : Request) (old new : SessionState)
-    → unit.request ≡ Some asks → new.accepted ≡ (old.accepted || accepts (Some asks)) → new.units ≡ old.units + 1
-    → after (progress_of (length (octets_of units)) old) unit ≡ progress_of (length (octets_of (units ++ unit ∷ []))) new
-progress-after units unit asks old new read accepted taken =
+progress-after : (route : Route) (units : List Received) (unit : Received) (asks : Request) (old new : SessionState)
+    → unit.request ≡ Some asks → new.accepted ≡ (old.accepted || accepts route (Some asks)) → new.units ≡ old.units + 1
+    → after route (progress_of (length (octets_of units)) old) unit ≡ progress_of (length (octets_of (units ++ unit ∷ []))) new
+progress-after route units unit asks old new read accepted taken =
     let at = sym (length-append (octets_of units) unit.octets) ∙ ap length (sym (octets-snoc units unit)) in
-    let is_accepted = ap (λ r. old.accepted || accepts r) read ∙ sym accepted in
+    let is_accepted = ap (λ r. old.accepted || accepts route r) read ∙ sym accepted in
     let count = sym taken in
     λ i. record { at = at i; accepted = is_accepted i; units = count i }
 
@@ -274,7 +274,7 @@ answered-more w route units unit marks written old new asks cause h received is 
     let reply = (answered w route client asks cause).reply in
     let taken : Taken = record { classes = reached w route client asks; cause = cause } in
     let second : Run = in_front (reply ∷ []) (taken ∷ [])
-    (stopped [] [] (answered w route client asks cause).client (session.standing (after here unit))) in
+    (stopped [] [] (answered w route client asks cause).client (session.standing (after route here unit))) in
     let may : IsAllowed taken =
     subst (λ (c : ClientState). IsAllowed (record { classes = reached w route c asks; cause = cause })) (sym h.client) allowed in
     let runs = unit-run w route here client unit (course.due asks) (cause ∷ []) second received is refl (may, tt) refl in
@@ -287,7 +287,7 @@ answered-more w route units unit marks written old new asks cause h received is 
       replies = written-snoc written old.out new.out h.got.replies reply h.replies
           (a.written ∙ ap (λ s. old.out ++ spell_reply s.reply) (sym same));
       client = ap (λ s. s.client) same ∙ sym a.client;
-      standing = ap session.standing (progress-after units unit asks old.session new.session
+      standing = ap session.standing (progress-after route units unit asks old.session new.session
           (met-due route here unit.request asks is) a.accepted a.units);
       sets = a.sets;
     }

@@ -62,12 +62,12 @@ some-one : (a b : Waiting) → Some a ≡ Some b → a ≡ b
 some-one a b h = cc
 
 -- what is settled of the request that waited is settled of this one
-settled-for : (asks : Request) (job : Work) (before : SessionState) (old new : Served) (waiting : Waiting) (got : Outcome)
-    → old.session ≡ waits before asks (record { request = asks; work = job }) → old.session.waiting ≡ Some waiting
+settled-for : (route : Route) (asks : Request) (job : Work) (before : SessionState) (old new : Served) (waiting : Waiting) (got : Outcome)
+    → old.session ≡ waits route before asks (record { request = asks; work = job }) → old.session.waiting ≡ Some waiting
     → IsEnded old new waiting got
-    → IsEnded (record { session = waits before asks (record { request = asks; work = job }); out = old.out }) new
+    → IsEnded (record { session = waits route before asks (record { request = asks; work = job }); out = old.out }) new
     (record { request = asks; work = job }) got
-settled-for asks job before old new waiting got session waited ended =
+settled-for route asks job before old new waiting got session waited ended =
     let ask : Waiting = record { request = asks; work = job } in
     let same : waiting ≡ ask = some-one waiting ask (sym waited ∙ ap (λ (s : SessionState). s.waiting) session) in
     subst (λ (s : SessionState). IsEnded (record { session = s; out = old.out }) new ask got) session
@@ -75,7 +75,7 @@ settled-for asks job before old new waiting got session waited ended =
 
 -- a request that has work settles nothing that an Init does
 still-agreed : {W : Type 0} (w : world.Ghosts W) (route : Route) (client : ClientState) (agreed : Agreement) (asks : Request) (job : Work)
-    → asked w route client asks ≡ asking.works job → agreed_after agreed asks ≡ agreed
+    → asked w route client asks ≡ asking.works job → agreed_after route agreed asks ≡ agreed
 still-agreed w route client agreed (request.Init init) job h = absurd cc
 still-agreed w route client agreed (request.Search search) job h = refl
 still-agreed w route client agreed (request.Present present) job h = refl
@@ -85,7 +85,7 @@ still-agreed w route client agreed (request.Close close) job h = refl
 -- so its client is the one before it
 still-client : {W : Type 0} (w : world.Ghosts W) (route : Route) (before : SessionState) (asks : Request) (job : Work)
     → asked w route (client_of before) asks ≡ asking.works job
-    → client_of (waits before asks (record { request = asks; work = job })) ≡ client_of before
+    → client_of (waits route before asks (record { request = asks; work = job })) ≡ client_of before
 still-client w route before asks job h =
     ap (λ (agreed : Agreement). record {
       agreed = agreed;
@@ -120,7 +120,7 @@ or-true false more is none = absurd cc
 -- its sets have the hits that the targets mean
 behind-meant : {W : Type 0} (w : world.Ghosts W) (route : Route) (asks : Request) (job : Work) (before new : SessionState) (cause : Cause)
     → asked w route (client_of before) asks ≡ asking.works job → before.accepted ≡ true
-    → new.accepted ≡ (before.accepted || accepts (Some asks)) → new.agreed ≡ agreed_after before.agreed asks
+    → new.accepted ≡ (before.accepted || accepts route (Some asks)) → new.agreed ≡ agreed_after route before.agreed asks
     → HaveMeantHits w route before → AllByRecursion (HasGivenHits before.sets job (outcome_of w route job cause)) new.sets
     → HaveMeantHits w route new
 behind-meant w route asks job before new cause due accepted stays agreed sets hits =
@@ -130,7 +130,7 @@ behind-meant w route asks job before new cause due accepted stays agreed sets hi
     own ∙ sym (ap (λ (a : Agreement). a.login) (agreed ∙ still-agreed w route (client_of before) before.agreed asks job due)) in
     let there = subst (λ (l : Option (List ℕ)). AllByRecursion (HasMeantHits (under l w) route) before.sets) (sym own) sets.each in
     record {
-      none_before = λ h. absurd (or-true before.accepted (accepts (Some asks)) accepted (sym stays ∙ h));
+      none_before = λ h. absurd (or-true before.accepted (accepts route (Some asks)) accepted (sym stays ∙ h));
       each = subst (λ (l : Option (List ℕ)). AllByRecursion (HasMeantHits (under l w) route) new.sets) login
           (sets-meant w route before.sets job cause new.sets there hits);
     }
@@ -139,7 +139,7 @@ behind-meant w route asks job before new cause due accepted stays agreed sets hi
 answered-under : {W : Type 0} (w : world.Ghosts W) (route : Route) (asks : Request) (job : Work) (before : SessionState) (out : List ℕ)
     (new : Served) (got : Outcome) (cause : Cause) → asked w route (client_of before) asks ≡ asking.works job
     → before.accepted ≡ true → HaveMeantHits w route before → got ≡ outcome_of w route job cause
-    → IsEnded (record { session = waits before asks (record { request = asks; work = job }); out = out }) new
+    → IsEnded (record { session = waits route before asks (record { request = asks; work = job }); out = out }) new
     (record { request = asks; work = job }) got
     → IsAnsweredUnder w route asks cause (record { session = before; out = out }) new
 answered-under w route asks job before out new got cause due accepted sets truly ended =
@@ -180,7 +180,7 @@ module _ {W S : Type 0} (w : world.Ghosts W) (t : sitting.Ghosts S W) (route : R
         request = k.request;
         is_due = k.is_due;
         asks = k.asks ∙ ap asking.works (sym same);
-        waits = session ∙ k.waits ∙ ap (λ j. waits k.before k.request (record { request = k.request; work = j })) (sym same);
+        waits = session ∙ k.waits ∙ ap (λ j. waits route k.before k.request (record { request = k.request; work = j })) (sym same);
       }
 
   -- the session and the output before the unit, and behind it
@@ -220,7 +220,7 @@ module _ {W S : Type 0} (w : world.Ghosts W) (t : sitting.Ghosts S W) (route : R
       is_true route most next of over fair sound hits_next ∙ ap (λ j. outcome_of w route j cause) same in
       let may = subst (λ (j : Work). IsAllowed (record { classes = classes_asked route j; cause = cause })) same
       (is_allowed route most next of over sound members) in
-      let ended = settled-for k.request view.work k.before (served (answering_of old)) (served (answering_of new)) b.waiting
+      let ended = settled-for route k.request view.work k.before (served (answering_of old)) (served (answering_of new)) b.waiting
       (outcome_in route next) k.waits b.waited b.ended in
       let a = answered-under w route k.request view.work k.before old.out later (outcome_in route next) cause k.asks
       (works-accepted w route (client_of k.before) (progress_of (length (octets_of k.units)) k.before) k.request view.work k.asks

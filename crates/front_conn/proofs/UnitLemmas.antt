@@ -57,8 +57,8 @@ served_of state = record { session = state.session; out = state.out }
 -- under the mark Plain
 at-once-plain : {W : Type 0} (w : world.Ghosts W) (route : Route) (asks : Request) (old new : Served) (reply : _)
     → asking.at_once reply ≡ asked w route (client_of old.session) asks → old.session.waiting ≡ None
-    → HaveMeantHits w route (counted old.session asks) → new.out ≡ old.out ++ spell_reply reply
-    → new.session ≡ counted old.session asks → IsAnsweredUnder w route asks plain old new
+    → HaveMeantHits w route (counted route old.session asks) → new.out ≡ old.out ++ spell_reply reply
+    → new.session ≡ counted route old.session asks → IsAnsweredUnder w route asks plain old new
 at-once-plain w route asks old new reply e waits_not sets out session =
     let to : Asking → Settled = λ due. answer_to w route (client_of old.session) asks plain due in
     record {
@@ -80,7 +80,7 @@ module _ {W S : Type 0} (w : world.Ghosts W) (route : Route) (fed written : List
   -- it is over
   over : (meeting : Meeting) (end : End) (reply : _) → met route (stand_of rb.units old.session) unit.request ≡ meeting
       → new.out ≡ old.out ++ spell_reply reply → new.marks ≡ old.marks ++ [] → new.end ≡ Some end
-      → course.leads_to meeting (stand_of rb.units old.session).at (course.stands (course.after (stand_of rb.units old.session) unit))
+      → course.leads_to meeting (stand_of rb.units old.session).at (course.stands (course.after route (stand_of rb.units old.session) unit))
       ≡ course.ends (Some reply) end
       → IsStateOf w route fed written new
   over meeting end reply is out marks ended leads =
@@ -122,7 +122,7 @@ module _ {W S : Type 0} (w : world.Ghosts W) (route : Route) (fed written : List
   -- or is in work
   in-work : (asks : Request) (job : Work) → met route (stand_of rb.units old.session) unit.request ≡ course.due asks
       → asked w route (client_of old.session) asks ≡ asking.works job → new.out ≡ old.out → new.marks ≡ old.marks
-      → new.session ≡ record (counted old.session asks) { waiting = Some (record { request = asks; work = job }) }
+      → new.session ≡ record (counted route old.session asks) { waiting = Some (record { request = asks; work = job }) }
       → Works w route fed written new (new_package route job)
   in-work asks job is due out marks session =
       let by_out = subst (λ (o : List ℕ). HasAnswered w route rb.units old.marks (written ++ o) old.session) (sym out) rb.answered in
@@ -145,7 +145,7 @@ module _ {W S : Type 0} (w : world.Ghosts W) (route : Route) (fed written : List
 
   due-written : (asks : Request) (due : Asking) (mark : Option Mark) (end : Option End)
       → met route (stand_of rb.units old.session) unit.request ≡ course.due asks → due ≡ asked w route (client_of old.session) asks
-      → IsDueBegun due asks (served_of old) (served_of new) (begun.Write mark end)
+      → IsDueBegun route due asks (served_of old) (served_of new) (begun.Write mark end)
       → IsKeptBehind route (answering_of old) (answering_of new) new.end (begun.Write mark end) → IsStateOf w route fed written new
   due-written asks (asking.works job) mark end is e h kept = let wrong = h.0 in absurd cc
   due-written asks (asking.at_once reply) mark end is e h kept =
@@ -180,14 +180,14 @@ module _ {W S : Type 0} (w : world.Ghosts W) (route : Route) (fed written : List
       (asked_with-meant w route old.session asks rb.answered.sets) h kept
 
   due-works : (asks : Request) (due : Asking) (job : Work) → met route (stand_of rb.units old.session) unit.request ≡ course.due asks
-      → due ≡ asked w route (client_of old.session) asks → IsDueBegun due asks (served_of old) (served_of new) (begun.Work job)
+      → due ≡ asked w route (client_of old.session) asks → IsDueBegun route due asks (served_of old) (served_of new) (begun.Work job)
       → IsKeptBehind route (answering_of old) (answering_of new) new.end (begun.Work job) → IsStateOf w route fed written new
   due-works asks (asking.at_once reply) job is e h kept = let wrong = h.0 in absurd cc
   due-works asks (asking.works other) job is e h kept =
       let same : other ≡ job = let b = h.0 in cc in
       works-idle w route fed written new (new_package route job) kept.0 kept.2 t.begun.idle
       (in-work asks job is (sym e ∙ ap asking.works same) h.3 kept.1
-      (h.4 ∙ ap (λ j. record (counted old.session asks) { waiting = Some (record { request = asks; work = j }) }) same))
+      (h.4 ∙ ap (λ j. record (counted route old.session asks) { waiting = Some (record { request = asks; work = j }) }) same))
 
   met-works : (meeting : Meeting) (job : Work) → met route (stand_of rb.units old.session) unit.request ≡ meeting
       → IsMetBegun meeting route old.at unit.request (served_of old) (served_of new) (begun.Work job)
@@ -225,11 +225,11 @@ unit-keeps w route old new unit t = λ fair fed written h.
 
 -- ---- how the connection ends by it, if it does
 
-ended-due : (asks : Request) (due : Asking) (old new : Served) (mark : Option Mark) (end : Option End)
-    → IsDueBegun due asks old new (begun.Write mark end) → EndsByUnit end
-ended-due asks (asking.at_once reply) old new mark end h =
+ended-due : (route : Route) (asks : Request) (due : Asking) (old new : Served) (mark : Option Mark) (end : Option End)
+    → IsDueBegun route due asks old new (begun.Write mark end) → EndsByUnit end
+ended-due route asks (asking.at_once reply) old new mark end h =
     let of_end : end ≡ None = let b = h.0 in cc in rw of_end tt
-ended-due asks (asking.works job) old new mark end h = let wrong = h.0 in absurd cc
+ended-due route asks (asking.works job) old new mark end h = let wrong = h.0 in absurd cc
 
 ended-met : (meeting : Meeting) (route : Route) (at : ℕ) (read : Option Request) (old new : Served) (mark : Option Mark)
     (end : Option End) → IsMetBegun meeting route at read old new (begun.Write mark end) → EndsByUnit end
@@ -237,7 +237,7 @@ ended-met course.bad route at read old new mark end h = let of_end : end ≡ Som
 ended-met (course.beyond asks) route at read old new mark end h = let of_end : end ≡ Some Limited = let b = h.0 in cc in rw of_end tt
 ended-met (course.closing close) route at read old new mark end h = let of_end : end ≡ Some Closed = let b = h.0 in cc in rw of_end tt
 ended-met (course.due asks) route at read old new mark end h =
-    ended-due asks (asked_with (hits_named old.session.sets) route (client_of old.session) asks) old new mark end h
+    ended-due route asks (asked_with (hits_named old.session.sets) route (client_of old.session) asks) old new mark end h
 
 ended-by : {S : Type 0} (route : Route) (at : ℕ) (unit : List ℕ) (old new : AnsweringState S) (end : Option End) (answer : Begun)
     → IsBegun route at unit (served old) (served new) answer → IsKeptBehind route old new end answer → EndsByUnit end
@@ -254,7 +254,7 @@ begun-ends route at unit old new end b = ended-by route at unit old new end b.an
 -- ---- its sets
 
 sets-due : (route : Route) (asks : Request) (due : Asking) (old new : Served) (mark : Option Mark) (end : Option End)
-    → AllByRecursion (HasLegsOf route) old.session.sets → IsDueBegun due asks old new (begun.Write mark end)
+    → AllByRecursion (HasLegsOf route) old.session.sets → IsDueBegun route due asks old new (begun.Write mark end)
     → AllByRecursion (HasLegsOf route) new.session.sets
 sets-due route asks (asking.at_once reply) old new mark end sets h =
     subst (λ (s : SessionState). AllByRecursion (HasLegsOf route) s.sets) (sym h.1.1) sets
@@ -270,7 +270,7 @@ sets-met (course.due asks) route at read old new mark end sets goes h =
     sets-due route asks (asked_with (hits_named old.session.sets) route (client_of old.session) asks) old new mark end sets h
 
 works-sets : (route : Route) (asks : Request) (due : Asking) (old new : Served) (job : Work)
-    → AllByRecursion (HasLegsOf route) old.session.sets → IsDueBegun due asks old new (begun.Work job)
+    → AllByRecursion (HasLegsOf route) old.session.sets → IsDueBegun route due asks old new (begun.Work job)
     → AllByRecursion (HasLegsOf route) new.session.sets
 works-sets route asks (asking.at_once reply) old new job sets h = let wrong = h.0 in absurd cc
 works-sets route asks (asking.works other) old new job sets h =

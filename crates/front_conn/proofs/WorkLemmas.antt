@@ -119,7 +119,7 @@ module _ (told : List ℕ → List ℕ) (route : Route) (client : ClientState) w
       set-from present (set_named present.set_name client.sets) job refl is
   comes-from (request.Scan scan) job h =
       scan-from scan.dbs scan.ask job
-      (checked-ok (scan_checks route scan) (scan_work client.agreed.login scan.ask (slice_get (legs_of route scan.dbs) 0)) (works job)
+      (checked-ok (scan_checks route client.agreed.whose scan) (scan_work client.agreed.login scan.ask (slice_get (legs_of route scan.dbs) 0)) (works job)
       (unless-works (request.Scan scan) _ job h))
   comes-from (request.Close close) job h = absurd cc
 

@@ -127,13 +127,13 @@ module _ {W S : Type 0} (w : world.Ghosts W) (t : sitting.Ghosts S W) (route : R
 -- ---- a unit that is begun
 
 -- a mark at once is Plain
-write-plain : (kind : Caused) (asking : Asking) (request : Request) (old new : Served) (m : Option Mark) (end : Option End)
-    → IsDueBegun asking request old new (begun.Write m end) → marks_of kind (option_to_list m) ≡ 0
-write-plain kind (at_once reply) request old new None end h = refl
-write-plain kind (at_once reply) request old new (Some m) end h =
+write-plain : (kind : Caused) (route : Route) (asking : Asking) (request : Request) (old new : Served) (m : Option Mark) (end : Option End)
+    → IsDueBegun route asking request old new (begun.Write m end) → marks_of kind (option_to_list m) ≡ 0
+write-plain kind route (at_once reply) request old new None end h = refl
+write-plain kind route (at_once reply) request old new (Some m) end h =
     let same : m ≡ Plain = let e = h.0 in cc in
     ap (λ (x : Mark). 0 + as_one kind x) same ∙ ap (λ (n : ℕ). 0 + n) (plain-none kind)
-write-plain kind (works work) request old new m end h = let wrong = h.0 in absurd cc
+write-plain kind route (works work) request old new m end h = let wrong = h.0 in absurd cc
 
 some-plain : (kind : Caused) (m : Option Mark) → m ≡ Some Plain → marks_of kind (option_to_list m) ≡ 0
 some-plain kind m e = ap (λ (x : Option Mark). marks_of kind (option_to_list x)) e ∙ ap (λ (n : ℕ). 0 + n) (plain-none kind)
@@ -150,7 +150,7 @@ met-plain : (kind : Caused) (meeting : Meeting) (route : Route) (at_ : ℕ) (rea
 met-plain kind bad route at_ read old new m end h = none-none kind m (let e = h.0 in cc)
 met-plain kind (beyond request) route at_ read old new m end h = none-none kind m (let e = h.0 in cc)
 met-plain kind (closing close) route at_ read old new m end h = some-plain kind m (let e = h.0 in cc)
-met-plain kind (due request) route at_ read old new m end h = write-plain kind _ request old new m end h
+met-plain kind (due request) route at_ read old new m end h = write-plain kind route _ request old new m end h
 
 begun-plain : (kind : Caused) (route : Route) (at_ : ℕ) (unit : List ℕ) (old new : Served) (m : Option Mark) (end : Option End)
     → IsBegun route at_ unit old new (begun.Write m end) → marks_of kind (option_to_list m) ≡ 0

@@ -118,6 +118,6 @@ goes-on-by route here there (u ∷ us) (v ∷ vs) x y d p q e stands rested =
     let rested_at_u = subst (λ (unit : Received). IfSome (stands_at (course route here (unit ∷ vs))) (λ place. RestLeadsTo place.at y d))
     (sym one.unit) rested in
     subst (λ (unit : Received). GoesOnBy (followed (course route here (unit ∷ vs)) (λ place. d)) (course route here (u ∷ us))) one.unit
-    (one-more (met route here u.request) here.at (course route (after here u) us) (course route (after here u) vs) d there
-    (λ place. RestLeadsTo place.at y d) (λ more last. goes-on-by route (after here u) there us vs x y d p.1 q.1 one.rest more last)
+    (one-more (met route here u.request) here.at (course route (after route here u) us) (course route (after route here u) vs) d there
+    (λ place. RestLeadsTo place.at y d) (λ more last. goes-on-by route (after route here u) there us vs x y d p.1 q.1 one.rest more last)
     stands rested_at_u)

@@ -46,7 +46,7 @@ module _ {W S : Type 0} (w : world.Ghosts W) (route : Route) (fed written : List
 
   -- what the units lead to, its request the last of them
   abbrev leads_by : Meeting → Course
-  leads_by meeting = leads_to meeting (stand_of k.units k.before).at (at.stands (after (stand_of k.units k.before) k.unit))
+  leads_by meeting = leads_to meeting (stand_of k.units k.before).at (at.stands (after route (stand_of k.units k.before) k.unit))
 
   works-all : (more : List Cause)
       → works_of w route new_client (course route at_the_start all_units) (k.answered.causes ++ more)

@@ -51,7 +51,7 @@ module _ {W : Type 0} (w : world.Ghosts W) (route : Route) (units : List Receive
 
   -- what a unit leads to that comes then
   abbrev led : Received → Course
-  led unit = leads_to (met route stand unit.request) stand.at (at.stands (after stand unit))
+  led unit = leads_to (met route stand unit.request) stand.at (at.stands (after route stand unit))
 
   stops : (run w route new_client (course route at_the_start units) a.causes).stop ≡ session.standing stand
   stops = ap (λ (r : Run). r.stop) a.has_run.runs ∙ a.standing
@@ -87,7 +87,7 @@ module _ {W S : Type 0} (w : world.Ghosts W) (route : Route) (fed written : List
   -- what it leads to
   abbrev leads : Course
   leads = leads_to (met route (stand_of rb.units old.session) unit.request) (stand_of rb.units old.session).at
-      (at.stands (after (stand_of rb.units old.session) unit))
+      (at.stands (after route (stand_of rb.units old.session) unit))
 
   begun-so-far : works ≡ works_of w route new_client (course route at_the_start rb.units) rb.answered.causes
   begun-so-far =
@@ -154,7 +154,7 @@ module _ {W S : Type 0} (w : world.Ghosts W) (route : Route) (fed written : List
 
   -- what it leads to where it is met so
   abbrev leads_by : Meeting → Course
-  leads_by meeting = leads_to meeting (stand_of rb.units old.session).at (at.stands (after (stand_of rb.units old.session) unit))
+  leads_by meeting = leads_to meeting (stand_of rb.units old.session).at (at.stands (after route (stand_of rb.units old.session) unit))
 
   over-by : (meeting : Meeting) (more : List Cause) (end : End) → kind_of fed ≡ kind.unit → meeting_of ≡ meeting → new.end ≡ Some end
       → new.marks ≡ old.marks ++ marks_of more → stands_at (leads_by meeting) ≡ None
@@ -179,7 +179,7 @@ module _ {W S : Type 0} (w : world.Ghosts W) (route : Route) (fed written : List
   -- ---- it was answered at once
 
   written-due : (asks : Request) (due : Asking) (mark : Option Mark) (end : Option End) → meeting_of ≡ at.due asks → due_of asks ≡ due
-      → IsDueBegun due asks (served (answering_of old)) (served (answering_of new)) (begun.Write mark end)
+      → IsDueBegun route due asks (served (answering_of old)) (served (answering_of new)) (begun.Write mark end)
       → IsKeptBehind route (answering_of old) (answering_of new) new.end (begun.Write mark end) → HasBegun w route fed new (works ++ [])
   written-due asks (asking.works job) mark end is e b kept = let wrong = b.0 in absurd cc
   written-due asks (asking.at_once reply) mark end is e b kept =
@@ -209,7 +209,7 @@ module _ {W S : Type 0} (w : world.Ghosts W) (route : Route) (fed written : List
   -- ---- its request is in work
 
   begun-due : (asks : Request) (due : Asking) (job : Work) → meeting_of ≡ at.due asks → due_of asks ≡ due
-      → IsDueBegun due asks (served (answering_of old)) (served (answering_of new)) (begun.Work job)
+      → IsDueBegun route due asks (served (answering_of old)) (served (answering_of new)) (begun.Work job)
       → IsKeptBehind route (answering_of old) (answering_of new) new.end (begun.Work job) → HasBegun w route fed new (works ++ job ∷ [])
   begun-due asks (asking.at_once reply) job is e b kept = let wrong = b.0 in absurd cc
   begun-due asks (asking.works other) job is e b kept =

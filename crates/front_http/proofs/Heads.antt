@@ -24,7 +24,7 @@ use Rattle.sru_request.specs.Request.{IsHeadAnswer}
 use Rattle.front_sru.specs.sru_rules.Answers.{Answers}
 use Rattle.front_sru.specs.sru_rules.Course.{GetLeadsTo, HasGet, HeadLeadsTo, database_of, ends}
 use Rattle.front_sru.specs.sru_rules.Laws.{GetIsAnswered, HeadIsRefused}
-use Rattle.front_sru.specs.sru_rules.Asking.{rpn_of, search_work}
+use Rattle.front_sru.specs.sru_rules.Asking.{rpn_of, open_query, search_work}
 use Rattle.front_sru.specs.sru_rules.Reading.{Reading, refused, taken}
 use Rattle.front_sru.specs.sru_rules.Run.{Due, answer_to, at_once, due, due_by, searches}
 use Rattle.sru_request.specs.declared.query.SruQuery.{SruQuery}
@@ -238,7 +238,7 @@ by-legs database asked (Ok query) retrieval is =
 due-legs : (route : Route) (database : Database) (reading : Reading) (retrieval : Retrieval) → due route database reading ≡ searches retrieval
     → retrieval.legs ≡ database.legs
 due-legs route database (refused diag) retrieval is = absurd cc
-due-legs route database (taken asked text) retrieval is = by-legs database asked (rpn_of asked.version route.indexes text) retrieval is
+due-legs route database (taken asked text) retrieval is = by-legs database asked (open_query route database asked.version (rpn_of asked.version route.indexes text)) retrieval is
 
 due-search : (route : Route) (get : Get) (database : Database) (reading : Reading) (asks : Due) (old new : Served) (job : Work)
     → database_of route get ≡ Some database → due route database reading ≡ asks → IsDueDone asks old new (begun.Work job)

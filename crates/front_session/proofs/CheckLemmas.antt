@@ -1,12 +1,11 @@
 -- What checks answer, one behind another
-use Rattle.std.proofs.Common.{◌≡◌, ◌≤◌, refl, ℕ, Bool, true, false, cond, List, [], ◌∷◌, length, Option, None, Some, Result, Ok, Err, ◌==◌, nat_lt}
+use Rattle.std.proofs.Common.{◌≡◌, ◌≤◌, refl, ℕ, Bool, true, false, cond, List, [], ◌∷◌, length, Option, None, Some, Result, Ok, Err, nat_lt}
 use Rattle.std.proofs.lemmas.Bool.{ltb-false}
 use Rattle.z_types.specs.declared.diagnostic.Diag.{Diag}
 use Rattle.route_config.specs.declared.route.Route.{Route}
-use Rattle.virt_db.specs.Legs.{found_legs, known_legs, few_legs, legs_of, distinct, first_unknown}
-use Rattle.z_types.specs.Bounds.{most_legs, most_databases}
+use Rattle.virt_db.specs.Legs.{few_legs, legs_of}
+use Rattle.z_types.specs.Bounds.{most_legs}
 use Rattle.virt_db.specs.declared.fault.DbFault.{DbFault}
-use Rattle.virt_db.specs.declared.fault.DbFault.TheVariants.{Unknown, TooMany}
 use Rattle.gateway_rules.specs.Asking as asking
 use Rattle.gateway_rules.specs.Checks.{checked}
 use Rattle.front_session.specs.Refusals.{IsRefusal, FailsWith, first_diagnostic}
@@ -40,21 +39,6 @@ few_are xs legs h =
     let both = few (nat_lt most_legs (length xs)) xs legs _ h in
     (both.1, ltb-false most_legs (length xs) both.0)
 
-known : (route : Route) (names : List (List ℕ)) (unknown : Option (List ℕ)) (legs : List ℕ) → known_legs route names unknown ≡ Ok legs → few_legs (legs_of route names) ≡ Ok legs
-known route names None legs h = h
-known route names (Some unknown) legs h = cc
-
-found : (a b : Bool) (one two : DbFault) (known : Result (List ℕ) DbFault) (legs : List ℕ) → cond a (Err one) (cond b (Err two) known) ≡ Ok legs → known ≡ Ok legs
-found true b one two known legs h = cc
-found false true one two known legs h = cc
-found false false one two known legs h = h
-
 -- the legs that were found are those of the databases
-pub legs_found : (route : Route) (names : List (List ℕ)) (legs : List ℕ) → found_legs route names ≡ Ok legs → (legs_of route names ≡ legs) × (length (legs_of route names) ≤ most_legs)
-legs_found route names legs h =
-    let databases = length (distinct names) in
-    let some : known_legs route names (first_unknown route names) ≡ Ok legs =
-    found (databases == 0) (nat_lt most_databases databases) (Unknown []) (TooMany databases)
-    (known_legs route names (first_unknown route names)) legs h in
-    let both = few_are (legs_of route names) legs (known route names (first_unknown route names) legs some) in
-    both
+pub legs_found : (route : Route) (names : List (List ℕ)) (legs : List ℕ) → few_legs (legs_of route names) ≡ Ok legs → (legs_of route names ≡ legs) × (length (legs_of route names) ≤ most_legs)
+legs_found route names legs h = few_are (legs_of route names) legs h

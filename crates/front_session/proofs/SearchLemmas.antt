@@ -9,7 +9,7 @@ use Rattle.z_types.specs.declared.requests.Asked.TheVariants.{Good, Bad}
 use Rattle.z_types.specs.declared.requests.Search.{Search}
 use Rattle.route_config.specs.declared.route.Route.{Route}
 use Rattle.limit_rules.specs.Limits.{room, most_records}
-use Rattle.virt_db.specs.Legs.{found_legs, legs_of}
+use Rattle.virt_db.specs.Legs.{few_legs, legs_of}
 use Rattle.z_sets.specs.Askable.{IsAskableQuery}
 use Rattle.z_sets.specs.Expansion.{expanded}
 use Rattle.z_sets.specs.declared.fault.ExpandFault.{ExpandFault}
@@ -51,7 +51,7 @@ query_works route client search (Good asked) query h =
 
 -- all checks pass, and the query has no expansion
 pub search_fails : (route : Route) (client : ClientState) (search : Search) (legs : List ℕ) (e : Refusal)
-    → first_diagnostic (search_checks route client search) ≡ None → found_legs route search.dbs ≡ Ok legs
+    → first_diagnostic (search_checks route client search) ≡ None → few_legs (legs_of route search.dbs) ≡ Ok legs
     → FailsWith (expansion_of search.query legs client.sets) e
     → FailsWith (checked (search_checks route client search) (query_work route client search search.query)) e
 search_fails route client search legs (Refused diag) none found h =
@@ -64,7 +64,7 @@ search_fails route client search legs Memory none found h = tt
 
 -- all checks pass, and the query has an expansion
 pub search_works : (route : Route) (client : ClientState) (search : Search) (legs : List ℕ) (query : RpnQuery)
-    → first_diagnostic (search_checks route client search) ≡ None → found_legs route search.dbs ≡ Ok legs
+    → first_diagnostic (search_checks route client search) ≡ None → few_legs (legs_of route search.dbs) ≡ Ok legs
     → expansion_of search.query legs client.sets ≡ Ok query
     → checked (search_checks route client search) (query_work route client search search.query)
     ≡ Ok (asking.works (search_work client.agreed.login search legs query (room route.limits client.records)))

@@ -29,44 +29,47 @@ abbrev pub hits_named : List KnownSet → List ℕ → List ℕ
 hits_named sets name = unwrap_or (option_map (λ set. set.hits) (known_set_named name sets)) []
 
 -- a unit more is taken, and an Init may have been accepted, which settles what it does
-abbrev pub counted : SessionState → Request → SessionState
-counted s request = record s {
+abbrev pub counted : Route → SessionState → Request → SessionState
+counted route s request = record s {
   units = s.units + 1;
-  accepted = s.accepted || accepts (Some request);
-  agreed = agreed_after s.agreed request;
+  accepted = s.accepted || accepts route (Some request);
+  agreed = agreed_after route s.agreed request;
 }
 
 -- a unit more is taken, and its request waits
-abbrev pub waits : SessionState → Request → Waiting → SessionState
-waits s request waiting = record (counted s request) { waiting = Some waiting }
+abbrev pub waits : Route → SessionState → Request → Waiting → SessionState
+waits route s request waiting = record (counted route s request) { waiting = Some waiting }
 
 -- a request waits for its work, which can begin, and which its legs may be asked for
-abbrev pub IsWorkAdmitted : Work → Request → SessionState → SessionState → Admitted → Type 0
-IsWorkAdmitted work request old new (admitted.Work given) =
+abbrev pub IsWorkAdmitted : Route → Work → Request → SessionState → SessionState → Admitted
+    → Type 0
+IsWorkAdmitted route work request old new (admitted.Work given) =
     (given ≡ work) × CanBegin work × IsAskable work
-    × (new ≡ waits old request (record { request = request; work = work }))
-IsWorkAdmitted work request old new admitted.Memory = Unit {0}
-IsWorkAdmitted work request old new answer = ⊥
+    × (new ≡ waits route old request (record { request = request; work = work }))
+IsWorkAdmitted route work request old new admitted.Memory = Unit {0}
+IsWorkAdmitted route work request old new answer = ⊥
 
 -- what a request in its place is due becomes of it; want of memory has no cause
-abbrev pub IsGivenAdmitted : Given → Request → SessionState → SessionState → Admitted → Type 0
-IsGivenAdmitted given request old new admitted.Memory = Unit {0}
-IsGivenAdmitted (given.AtOnce reply) request old new (admitted.Reply answer) =
-    (answer ≡ reply) × (new ≡ counted old request)
-IsGivenAdmitted (given.Works work) request old new answer =
-    IsWorkAdmitted work request old new answer
-IsGivenAdmitted other request old new answer = ⊥
+abbrev pub IsGivenAdmitted : Route → Given → Request → SessionState → SessionState → Admitted
+    → Type 0
+IsGivenAdmitted route given request old new admitted.Memory = Unit {0}
+IsGivenAdmitted route (given.AtOnce reply) request old new (admitted.Reply answer) =
+    (answer ≡ reply) × (new ≡ counted route old request)
+IsGivenAdmitted route (given.Works work) request old new answer =
+    IsWorkAdmitted route work request old new answer
+IsGivenAdmitted route other request old new answer = ⊥
 
 -- a request that is due is answered at once, or waits for its work, which can begin, and which its
 -- legs may be asked for
-abbrev pub IsDueAdmitted : Asking → Request → SessionState → SessionState → Admitted → Type 0
-IsDueAdmitted (at_once reply) request old new (admitted.Reply given) =
-    (given ≡ reply) × (new ≡ counted old request)
-IsDueAdmitted (works work) request old new (admitted.Work given) =
+abbrev pub IsDueAdmitted : Route → Asking → Request → SessionState → SessionState → Admitted
+    → Type 0
+IsDueAdmitted route (at_once reply) request old new (admitted.Reply given) =
+    (given ≡ reply) × (new ≡ counted route old request)
+IsDueAdmitted route (works work) request old new (admitted.Work given) =
     (given ≡ work) × CanBegin work × IsAskable work
-    × (new ≡ record (counted old request)
+    × (new ≡ record (counted route old request)
     { waiting = Some (record { request = request; work = work }) })
-IsDueAdmitted asked request old new answer = ⊥
+IsDueAdmitted route asked request old new answer = ⊥
 
 -- a request as it is met
 abbrev pub IsMetAdmitted : Meeting → Route → SessionState → SessionState → Admitted → Type 0
@@ -74,9 +77,9 @@ IsMetAdmitted bad route old new answer = (answer ≡ admitted.Bad) × (new ≡ o
 IsMetAdmitted (beyond request) route old new answer = (answer ≡ admitted.Limited) × (new ≡ old)
 IsMetAdmitted (closing close) route old new answer =
     (answer ≡ admitted.Reply (close_reply close.ref_id finished))
-    × (new ≡ counted old (request.Close close))
+    × (new ≡ counted route old (request.Close close))
 IsMetAdmitted (due request) route old new answer =
-    IsDueAdmitted
+    IsDueAdmitted route
     (asked_with (hits_named old.sets) route (client_of old) request) request old new answer
 
 -- what a request is admitted as, and what is kept of the client behind it; want of memory has no

@@ -8,10 +8,12 @@ use Rattle.z_types.specs.declared.requests.Asked.{Asked}
 use Rattle.z_types.specs.declared.requests.Asked.TheVariants.{Good}
 use Rattle.route_config.specs.declared.route.Route.{Route}
 use Rattle.limit_rules.specs.declared.spent.Spent.{Spent}
-use Rattle.virt_db.specs.Legs.{found_legs}
+use Rattle.access_rules.specs.declared.who.Who.{Who}
+use Rattle.virt_db.specs.Legs.{distinct, few_legs, legs_of}
+use Rattle.virt_db.specs.declared.fault.DbFault.{DbFault}
 use Rattle.z_sets.specs.Sets.{stored}
 use Rattle.gateway_rules.specs.Asking as asking
-use Rattle.gateway_rules.specs.Checks.{not_found, not_served}
+use Rattle.gateway_rules.specs.Checks.{database_checks, legs_check, names_check, no_legs, not_served}
 use Rattle.gateway_rules.specs.Replies.{failed}
 use Rattle.gateway_rules.specs.State.{ClientState}
 use Rattle.gateway_rules.specs.declared.agreement.Agreement.{Agreement}
@@ -50,10 +52,25 @@ abbrev pub AnswersAsked : {A : Type 0} → Asked A → Result (Bor A) Refusal �
 AnswersAsked asked (Ok good) = asked ≡ Good good.now
 AnswersAsked asked (Err refusal) = IsRefusal (not_served asked) refusal
 
--- the legs of databases, or the diagnostic where there are none
-abbrev pub AnswersLegs : Route → List (List ℕ) → Result (List ℕ) Refusal → Type 0
-AnswersLegs route names (Ok legs) = found_legs route names ≡ Ok legs
-AnswersLegs route names (Err refusal) = IsRefusal (not_found (found_legs route names)) refusal
+-- a fault as a refusal; want of memory has no cause
+abbrev pub AnswersFault : DbFault → Refusal → Type 0
+AnswersFault fault refusal = IsRefusal (no_legs fault) refusal
+
+-- the names of databases, each once, or the diagnostic where they stand for none
+abbrev pub AnswersNames : Route → List (List ℕ) → Result (List (List ℕ)) Refusal → Type 0
+AnswersNames route names (Ok named) = (names_check route names ≡ None) × (named ≡ distinct names)
+AnswersNames route names (Err refusal) = IsRefusal (names_check route names) refusal
+
+-- legs, or the diagnostic where they are too many
+abbrev pub AnswersLegs : Result (List ℕ) DbFault → Result (List ℕ) Refusal → Type 0
+AnswersLegs few (Ok legs) = few ≡ Ok legs
+AnswersLegs few (Err refusal) = IsRefusal (legs_check few) refusal
+
+-- the legs of databases that a client names, or the diagnostic of the first check that refuses
+abbrev pub AnswersDatabases : Route → Who → List (List ℕ) → Result (List ℕ) Refusal → Type 0
+AnswersDatabases route client names answer =
+    AnswersChecks (database_checks route client names)
+    (λ legs. few_legs (legs_of route names) ≡ Ok legs) answer
 
 -- what the definitions call what is due
 abbrev pub due_of : Asking → asking.Asking

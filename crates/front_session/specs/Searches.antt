@@ -11,7 +11,7 @@ use Rattle.z_types.specs.declared.work.Work.{Work}
 use Rattle.z_types.specs.declared.work.Work.TheVariants as work
 use Rattle.limit_rules.specs.declared.spent.Spent.{Spent}
 use Rattle.route_config.specs.declared.route.Route.{Route}
-use Rattle.virt_db.specs.Legs.{found_legs}
+use Rattle.virt_db.specs.Legs.{few_legs, legs_of}
 use Rattle.z_sets.specs.Sets.{StoredSet}
 use Rattle.z_sets.specs.Expansion.{expanded}
 use Rattle.z_sets.specs.declared.fault.ExpandFault.{ExpandFault}
@@ -31,7 +31,7 @@ HasShortElements search =
 
 -- no check of a Search refuses: its legs are found, and no name of its element sets is too long
 pub record PassesChecks (route : Route) (search : Search) (legs : List ℕ) : Type 0 where
-  pub found : found_legs route search.dbs ≡ Ok legs
+  pub found : few_legs (legs_of route search.dbs) ≡ Ok legs
   pub elements : HasShortElements search
 
 -- an expansion, or the diagnostic of its fault

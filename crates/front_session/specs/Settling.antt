@@ -14,7 +14,7 @@ use Rattle.z_types.specs.declared.work.Work.{Work}
 use Rattle.z_types.specs.declared.work.Work.TheVariants as work
 use Rattle.z_sets.specs.Operands.{others_than}
 use Rattle.gateway_rules.specs.Given.{search_reply, present_reply, returned}
-use Rattle.gateway_rules.specs.Replies.{failed, init_reply, close_reply}
+use Rattle.gateway_rules.specs.Replies.{failed, init_answer, close_reply}
 use Rattle.gateway_rules.specs.Settling.{why_failed, found_hits, fetched_of, scanned_of, fetched_from, asked_of, given_of, reply_by}
 use Rattle.gateway_rules.specs.Cut.{cut_of}
 use Rattle.gateway_rules.specs.declared.sizes.Sizes.{Sizes}
@@ -50,7 +50,7 @@ only_why why =
 -- the reply to a request that did not fail, by the parts of its outcome, with what is given of
 -- `all` records
 abbrev pub good_reply_by : Request → Work → List ℕ → (all : ℕ) → Fetched → ScanAnswer → Reply
-good_reply_by (request.Init init) work hits all records scanned = init_reply init
+good_reply_by (request.Init init) work hits all records scanned = init_answer init true
 good_reply_by (request.Search search) work hits all records scanned =
     search_reply search.ref_id hits all records
 good_reply_by (request.Present present) work hits all records scanned =

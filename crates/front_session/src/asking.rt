@@ -2,7 +2,7 @@
 
 ghost use Rattle.std.specs.Prelude.{◌≡◌, length, All, IfOk};
 ghost use Rattle.z_types.specs.Numbers.{HasNumbersInRange};
-ghost use Rattle.unit_forms.specs.Logins.{IsLoginIf};
+ghost use Rattle.unit_forms.specs.Logins.{AsksWithLogin, IsLoginIf};
 ghost use Rattle.gateway_rules.specs.Asking as asking;
 ghost use Rattle.front_session.specs.Admitting.{hits_named};
 ghost use Rattle.front_session.specs.Refusals.{IsGiven, IsReady, client_with, due_of};
@@ -41,13 +41,14 @@ pub(crate) fn due_for(
     requires kept { All IsKeptSet sets.now }
     requires login { IsLoginIf agreed.now.login }
     requires numbers { HasNumbersInRange request.now }
+    requires asks { AsksWithLogin request.now }
     ensures due { IfOk result (λ due. due_of due
         ≡ asking.asked_with (hits_named sets.now) route.now
         (client_with agreed.now spent.now sets.now) request.now) }
     ensures ready { IfOk result (IsReady spent.now) }
 {
     match request {
-        Request::Init(init) => Ok(Asking::AtOnce(init_reply(init)?)),
+        Request::Init(init) => Ok(Asking::AtOnce(init_reply(route, init)?)),
         Request::Search(search) => {
             unless_refused(
                 alloc,

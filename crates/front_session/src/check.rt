@@ -3,13 +3,16 @@
 ghost use Rattle.std.specs.Prelude.{◌≡◌, IfOk};
 ghost use Rattle.std.specs.Fmt.{decimal};
 ghost use Rattle.z_types.specs.Bib1.{bib1};
+ghost use Rattle.access_rules.specs.Denials.{first_denial};
+ghost use Rattle.virt_db.specs.Legs.{few_legs, legs_among};
 ghost use Rattle.gateway_rules.specs.Checks.{refused_where, is_too_long};
-ghost use Rattle.front_session.specs.Refusals.{AnswersCheck, AnswersAsked, AnswersLegs};
+ghost use Rattle.front_session.specs.Refusals.{AnswersAsked, AnswersCheck, AnswersDatabases, AnswersFault, AnswersLegs, AnswersNames};
 
 use crate::refusal::Refusal;
+use access_rules::{Who, first_denial};
 use route_config::Route;
 use std::alloc::Global;
-use virt_db::{DbFault, legs_of};
+use virt_db::{DbFault, databases_of, legs_of};
 use z_types::{Asked, Condition, Diag, List, MOST_NAME_OCTETS, Memory, Text, copy};
 
 /// Refuses with the diagnostic of a condition where a test says so.
@@ -48,26 +51,75 @@ pub(crate) fn is_too_long(name: &Option<Text>) -> bool
     }
 }
 
-/// The legs of databases: some, not too many, each of them there, with not too many legs.
+/// The legs of databases: these are there, the client may search each of them, and their legs are
+/// not too many.
 pub(crate) fn check_databases(
     alloc: Global,
     route: &Route,
+    who: Who,
     names: &List<Text>,
 ) -> Result<List<u32>, Refusal>
-    ensures { AnswersLegs route.now names.now result }
+    ensures { AnswersDatabases route.now who names.now result }
 {
-    match legs_of(alloc, route, names) {
+    let databases = check_names(alloc, route, names)?;
+    check_access(alloc, route, who, names)?;
+    check_legs(alloc, route, &databases)
+}
+
+/// The databases of names: some, not too many, each of them there.
+fn check_names(alloc: Global, route: &Route, names: &List<Text>) -> Result<List<Text>, Refusal>
+    ensures { AnswersNames route.now names.now result }
+{
+    match databases_of(alloc, route, names) {
+        Ok(databases) => Ok(databases),
+        Err(fault) => Err(refusal_of(alloc, fault)),
+    }
+}
+
+/// Refuses with the first database that the client may not search.
+fn check_access(alloc: Global, route: &Route, who: Who, names: &List<Text>) -> Result<(), Refusal>
+    ensures { AnswersCheck (first_denial route.now who names.now) result }
+{
+    match first_denial(alloc, route, who, names.as_slice())? {
+        Some(diag) => Err(Refusal::Refused(diag)),
+        None => Ok(()),
+    }
+}
+
+/// The legs of databases, which are not too many.
+fn check_legs(alloc: Global, route: &Route, databases: &List<Text>) -> Result<List<u32>, Refusal>
+    ensures { AnswersLegs (few_legs (legs_among route.now databases.now)) result }
+{
+    match legs_of(alloc, route, databases) {
         Ok(legs) => Ok(legs),
-        Err(DbFault::Unknown(name)) => Err(Refusal::Refused(Diag::bib1(
-            alloc,
-            Condition::DatabaseDoesNotExist,
-            name,
-        )?)),
-        Err(DbFault::TooMany(count)) => {
-            let count = decimal(alloc, count)?;
-            Err(Refusal::Refused(Diag::bib1(alloc, Condition::TooManyDatabases, count)?))
+        Err(fault) => Err(refusal_of(alloc, fault)),
+    }
+}
+
+/// Why names stand for no databases or no legs, as a refusal.
+fn refusal_of(alloc: Global, fault: DbFault) -> Refusal
+    ensures { AnswersFault fault result }
+{
+    match diag_of(alloc, fault) {
+        Ok(refusal) => refusal,
+        Err(_) => Refusal::Memory,
+    }
+}
+
+/// The same, where memory can be had for its diagnostic.
+fn diag_of(alloc: Global, fault: DbFault) -> Result<Refusal, Memory>
+    ensures { IfOk result (λ refusal. AnswersFault fault refusal) }
+{
+    match fault {
+        DbFault::Unknown(name) => {
+            let diag = Diag::bib1(alloc, Condition::DatabaseDoesNotExist, name)?;
+            Ok(Refusal::Refused(diag))
         }
-        Err(DbFault::Memory) => Err(Refusal::Memory),
+        DbFault::TooMany(count) => {
+            let count = decimal(alloc, count)?;
+            Ok(Refusal::Refused(Diag::bib1(alloc, Condition::TooManyDatabases, count)?))
+        }
+        DbFault::Memory => Ok(Refusal::Memory),
     }
 }
 

@@ -13,6 +13,7 @@ ghost use Rattle.front_session.specs.Scans.{IsAskedOf, IsScan};
 use crate::asking::Asking;
 use crate::check::{check_databases, refuse_where, served_form};
 use crate::refusal::Refusal;
+use access_rules::Who;
 use gateway_rules::Agreement;
 use route_config::Route;
 use std::alloc::Global;
@@ -33,7 +34,7 @@ pub(crate) fn scan_due(
     ensures due { AnswersDue (asking.scan_due route.now agreed.now scan.now) result }
     ensures scans { IfOk result IsScan }
 {
-    let (ask, leg) = check_scan(alloc, route, scan)?;
+    let (ask, leg) = check_scan(alloc, route, agreed.whose, scan)?;
     Ok(Asking::Works(Work::Scan {
         login: copy(&agreed.login)?,
         leg,
@@ -45,14 +46,15 @@ pub(crate) fn scan_due(
 fn check_scan<'a>(
     alloc: Global,
     route: &Route,
+    who: Who,
     scan: &'a Scan,
 ) -> Result<(&'a ScanAsk, u32), Refusal>
     requires numbers { IfGood scan.now.ask ScanHasNumbers }
-    ensures { AnswersChecks (scan_checks route.now scan.now)
+    ensures { AnswersChecks (scan_checks route.now who scan.now)
         (λ both. IsAskedOf route.now scan.now both.0.now both.1) result }
 {
     let ask = served_form(&scan.ask)?;
-    let legs = check_databases(alloc, route, &scan.dbs)?;
+    let legs = check_databases(alloc, route, who, &scan.dbs)?;
     let is_other = legs.len() != 1;
     refuse_where(
         alloc,

@@ -63,7 +63,7 @@ fn check_search(
     check_searches(alloc, &route.parts().limits, spent)?;
     let _query = served_form(&search.query)?;
     check_elements(alloc, search)?;
-    let legs = check_databases(alloc, route, &search.dbs)?;
+    let legs = check_databases(alloc, route, agreed.whose, &search.dbs)?;
     check_name(alloc, &route.parts().limits, spent, sets, search)?;
     Ok(legs)
 }

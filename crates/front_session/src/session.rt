@@ -85,7 +85,7 @@ impl FrontSession {
             return Admitted::Bad;
         }
         match due_for(alloc, route, &self.agreed, &spent, &self.sets, request) {
-            Ok(due) => self.admit_due(request, due),
+            Ok(due) => self.admit_due(route, request, due),
             Err(_) => Admitted::Memory,
         }
     }
@@ -105,46 +105,47 @@ impl FrontSession {
 
     /// Counts a unit more, which may be an Init that is accepted, and keeps what that settles.
     #[tactic(auto, using(crate::proofs::WaitLemmas::agreed_login))]
-    fn count(&mut self, units: u32, request: &Request, agreed: Option<Agreement>)
+    fn count(&mut self, route: &Route, units: u32, request: &Request, agreed: Option<Agreement>)
         requires units { units ≡ self.old.units + 1 }
         requires login { AsksWithLogin request.now }
-        requires agreed { agreed ≡ agreed_by request.now }
-        ensures { self.new ≡ counted self.old request.now }
+        requires agreed { agreed ≡ agreed_by route.now request.now }
+        ensures { self.new ≡ counted route.now self.old request.now }
     {
         self.units = units;
-        self.accepted = self.accepted || accepts(request);
+        self.accepted = self.accepted || accepts(route, request);
         if let Some(agreed) = agreed {
             self.agreed = agreed;
         }
     }
 
     /// Admits a request that is in its place.
-    fn admit_due(&mut self, request: &Request, due: Asking) -> Admitted
+    fn admit_due(&mut self, route: &Route, request: &Request, due: Asking) -> Admitted
         requires kept { IsKept self.old }
         requires login { AsksWithLogin request.now }
         requires ready { IsReady (spent_of self.old) due }
-        ensures { IsGivenAdmitted due request.now self.old self.new result }
+        ensures { IsGivenAdmitted route.now due request.now self.old self.new result }
     {
         let Some(units) = self.units.checked_add(1) else {
             drop(due);
             return Admitted::Memory;
         };
-        let Ok(agreed) = agreed_by(request) else {
+        let Ok(agreed) = agreed_by(route, request) else {
             drop(due);
             return Admitted::Memory;
         };
         match due {
             Asking::AtOnce(reply) => {
-                self.count(units, request, agreed);
+                self.count(route, units, request, agreed);
                 Admitted::Reply(reply)
             }
-            Asking::Works(work) => self.admit_work(units, request, agreed, work),
+            Asking::Works(work) => self.admit_work(route, units, request, agreed, work),
         }
     }
 
     /// Lets a request wait for its work.
     fn admit_work(
         &mut self,
+        route: &Route,
         units: u32,
         request: &Request,
         agreed: Option<Agreement>,
@@ -152,16 +153,16 @@ impl FrontSession {
     ) -> Admitted
         requires kept { IsKept self.old }
         requires login { AsksWithLogin request.now }
-        requires agreed { agreed ≡ agreed_by request.now }
+        requires agreed { agreed ≡ agreed_by route.now request.now }
         requires units { units ≡ self.old.units + 1 }
         requires begins { CanBegin work }
         requires asks { IsAskable work }
         requires records { HasRoomFor self.old.records work }
-        ensures { IsWorkAdmitted work request.now self.old self.new result }
+        ensures { IsWorkAdmitted route.now work request.now self.old self.new result }
     {
         match Pending::of(request, &work) {
             Ok(pending) => {
-                self.wait(units, request, agreed, pending);
+                self.wait(route, units, request, agreed, pending);
                 Admitted::Work(work)
             }
             Err(_) => {
@@ -173,17 +174,24 @@ impl FrontSession {
     }
 
     /// Counts a unit more, whose request waits.
-    fn wait(&mut self, units: u32, request: &Request, agreed: Option<Agreement>, pending: Pending)
+    fn wait(
+        &mut self,
+        route: &Route,
+        units: u32,
+        request: &Request,
+        agreed: Option<Agreement>,
+        pending: Pending,
+    )
         requires kept { IsKept self.old }
         requires login { AsksWithLogin request.now }
-        requires agreed { agreed ≡ agreed_by request.now }
+        requires agreed { agreed ≡ agreed_by route.now request.now }
         requires units { units ≡ self.old.units + 1 }
         requires begins { CanBegin pending.work }
         requires asks { IsAskable pending.work }
         requires records { HasRoomFor self.old.records pending.work }
-        ensures { self.new ≡ waits self.old request.now (waiting_of pending) }
+        ensures { self.new ≡ waits route.now self.old request.now (waiting_of pending) }
     {
-        self.count(units, request, agreed);
+        self.count(route, units, request, agreed);
         fill(&mut self.pending, pending);
     }
 
@@ -301,11 +309,12 @@ fn is_in_place(accepted: bool, request: &Request) -> bool
 }
 
 /// Whether a request is an Init that is accepted.
-fn accepts(request: &Request) -> bool
-    ensures { result ≡ accepts (Some request.now) }
+fn accepts(route: &Route, request: &Request) -> bool
+    requires login { AsksWithLogin request.now }
+    ensures { result ≡ accepts route.now (Some request.now) }
 {
     match request {
-        Request::Init(init) => is_accepted(init),
+        Request::Init(init) => is_accepted(route, init),
         _ => false,
     }
 }

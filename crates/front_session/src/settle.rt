@@ -9,7 +9,7 @@ ghost use Rattle.front_session.specs.Settling.{ArePartsOf, IsAnswered, IsCutOf, 
 
 use crate::cut::cut_of;
 use gateway_rules::{
-    Sizes, count_returned, failed_reply, finished_reply, init_reply, marked_diag, present_reply,
+    Sizes, count_returned, failed_reply, finished_reply, init_answer, marked_diag, present_reply,
     scan_reply, search_reply,
 };
 use multi_merge::total;
@@ -237,7 +237,7 @@ fn good_reply(
         (λ reply. reply ≡ good_reply_to pending.now hits.now all fetched scanned) }
 {
     match &pending.request {
-        Request::Init(init) => init_reply(init),
+        Request::Init(init) => init_answer(init, true),
         Request::Search(search) => search_reply(search, hits, all, fetched),
         Request::Present(present) => {
             present_reply(present, fetched_from(&pending.work), all, fetched)

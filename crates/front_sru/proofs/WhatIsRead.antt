@@ -3,6 +3,7 @@ use Rattle.std.proofs.Common.{◌≡◌, ℕ, List, [], Some, Result, Ok, Err, r
 use Rattle.z_types.specs.Tree as rpn
 use Rattle.std.specs.Prelude.{IfOk}
 use Rattle.z_types.specs.declared.query.RpnQuery.{RpnQuery}
+use Rattle.z_types.specs.declared.sru.SruDiag.{SruDiag}
 use Rattle.route_config.specs.Sound.{IsSound}
 use Rattle.route_config.specs.declared.route.Database.{Database}
 use Rattle.route_config.specs.declared.route.Index.{Index}
@@ -24,13 +25,13 @@ use Rattle.sru_request.specs.declared.faults.QueryFault.TheVariants.{Diag, Memor
 use Rattle.sru_request.specs.declared.head.Get.{Get}
 use Rattle.sru_request.specs.declared.query.SruQuery.{SruQuery}
 use Rattle.sru_rules.specs.declared.retrieval.Retrieval.{Retrieval}
-use Rattle.sru_rules.specs.Asking.{rpn_of}
+use Rattle.sru_rules.specs.Asking.{rpn_of, open_query}
 use Rattle.sru_rules.specs.Course.{database_of}
 use Rattle.sru_rules.specs.Reading.{broken, deep, parsed, IsLexed, IsParsed, refused, taken}
-use Rattle.sru_rules.specs.Run.{Due, at_once, searches, due}
+use Rattle.sru_rules.specs.Run.{Due, at_once, searches, due, due_by}
 use Rattle.sru_rules.specs.steps.Works.{IsRetrieval}
 use Rattle.sru_rules.proofs.CanBegin.{get_is_retrieval}
-use Rattle.front_sru.specs.Queries.{as_fault, IsOrMemory, tokens_fault, tree_fault, IsReadText, IsReadQuery, IsDueAs, IsReadRequest, IsReadGet}
+use Rattle.front_sru.specs.Queries.{as_fault, IsOrMemory, tokens_fault, tree_fault, IsReadText, IsReadQuery, IsDueAs, IsOpenRequest, IsReadRequest, IsReadGet}
 
 -- ---- tokens
 
@@ -78,6 +79,45 @@ pub text_refused : (version : List ℕ) (indexes : List Index) (text : List ℕ)
 text_refused version indexes text fault answer is same =
     subst (λ (a : QueryFault). IsReadQuery version indexes text (Err a)) (sym same)
     (refused_text version indexes text fault is)
+
+-- ---- a request
+
+rpn-is : (read : Result RpnQuery SruDiag) (query : RpnQuery) → Ok query ≡ as_fault read → read ≡ Ok query
+rpn-is (Ok own) query h = cc
+rpn-is (Err diag) query h = absurd cc
+
+rpn-fails : (read : Result RpnQuery SruDiag) (diag : SruDiag) → Err (Diag diag) ≡ as_fault read → read ≡ Err diag
+rpn-fails (Ok own) diag h = absurd cc
+rpn-fails (Err own) diag h = cc
+
+module _ (route : Route) (database : Database) (asked : SruQuery) where
+  -- what is due where the query is read as this
+  abbrev due_read : Result RpnQuery SruDiag → Due
+  due_read read = due_by database asked (open_query route database asked.version read)
+
+  -- its query was read, and it was asked whether anyone may search the database
+  pub query-opened : (query : RpnQuery) (answer : Result Retrieval QueryFault) → IsReadQuery asked.version route.indexes asked.query (Ok query)
+      → IsOpenRequest route database asked query answer → IsReadRequest route database asked answer
+  query-opened query (Err Memory) is h = tt
+  query-opened query (Err (Diag diag)) is h = record {
+    read = is.read;
+    is = is.is;
+    answered = subst (λ (r : Result RpnQuery SruDiag). IsDueAs (due_read r) (Err (Diag diag))) (sym (rpn-is (rpn_of asked.version route.indexes is.read) query is.answered)) h;
+  }
+  query-opened query (Ok retrieval) is h = record {
+    read = is.read;
+    is = is.is;
+    answered = subst (λ (r : Result RpnQuery SruDiag). IsDueAs (due_read r) (Ok retrieval)) (sym (rpn-is (rpn_of asked.version route.indexes is.read) query is.answered)) h;
+  }
+
+  -- it is none
+  pub query-refused : (fault : QueryFault) → IsReadQuery asked.version route.indexes asked.query (Err fault) → IsReadRequest route database asked (Err fault)
+  query-refused Memory is = tt
+  query-refused (Diag diag) is = record {
+    read = is.read;
+    is = is.is;
+    answered = subst (λ (r : Result RpnQuery SruDiag). IsDueAs (due_read r) (Err (Diag diag))) (sym (rpn-fails (rpn_of asked.version route.indexes is.read) diag is.answered)) refl;
+  }
 
 -- ---- a GET
 

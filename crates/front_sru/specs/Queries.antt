@@ -17,7 +17,7 @@ use Rattle.sru_request.specs.declared.faults.QueryFault.TheVariants.{Diag, Memor
 use Rattle.sru_request.specs.declared.head.Get.{Get}
 use Rattle.sru_request.specs.declared.query.SruQuery.{SruQuery}
 use Rattle.sru_rules.specs.declared.retrieval.Retrieval.{Retrieval}
-use Rattle.sru_rules.specs.Asking.{is_too_large, rpn_of}
+use Rattle.sru_rules.specs.Asking.{is_too_large, rpn_of, open_query}
 use Rattle.sru_rules.specs.Diagnostics.{query_syntax_error, query_feature_unsupported, not_mapped}
 use Rattle.sru_rules.specs.Reading.{CqlText, IsCqlText, Reading, IsReading}
 use Rattle.sru_rules.specs.Run.{Due, at_once, searches, due, due_by}
@@ -80,7 +80,15 @@ pub record IsReadFor (route : Route) (database : Database) (asked : SruQuery)
     : Type 0 where
   pub read : CqlText
   pub is : IsCqlText asked.query read
-  pub answered : IsDueAs (due_by database asked (rpn_of asked.version route.indexes read)) answer
+  pub answered : IsDueAs (due_by database asked
+      (open_query route database asked.version (rpn_of asked.version route.indexes read))) answer
+
+-- what a request whose query is read asks for, or why it asks nothing; want of memory has no cause
+abbrev pub IsOpenRequest : Route → Database → SruQuery → RpnQuery → Result Retrieval QueryFault
+    → Type 0
+IsOpenRequest route database asked query (Err Memory) = Unit {0}
+IsOpenRequest route database asked query answer =
+    IsDueAs (due_by database asked (open_query route database asked.version (Ok query))) answer
 
 -- what a request whose parameters are taken asks for, or why it asks nothing; want of memory has no
 -- cause

@@ -37,12 +37,12 @@ due_of route old asked = asked_with (hits_named old.sets) route (client_of old) 
 
 -- ---- a reply at once
 
-due_replied : (due : Asking) (asked : Request) (old new : SessionState) (out after : List ℕ) (reply : Reply) (answer : Begun)
-    → IsDueAdmitted due asked old new (admitted.Reply reply) → answer ≡ begun.Write (Some Plain) None
-    → after ≡ out ++ spell_reply reply → IsDueBegun due asked (served old out) (served new after) answer
-due_replied (at_once told) asked old new out after reply answer h a w =
+due_replied : (route : Route) (due : Asking) (asked : Request) (old new : SessionState) (out after : List ℕ) (reply : Reply) (answer : Begun)
+    → IsDueAdmitted route due asked old new (admitted.Reply reply) → answer ≡ begun.Write (Some Plain) None
+    → after ≡ out ++ spell_reply reply → IsDueBegun route due asked (served old out) (served new after) answer
+due_replied route (at_once told) asked old new out after reply answer h a w =
     (a, (w ∙ ap (λ r. out ++ spell_reply r) h.0, h.1))
-due_replied (works work) asked old new out after reply answer h a w = absurd h
+due_replied route (works work) asked old new out after reply answer h a w = absurd h
 
 reply_at : (spent placed : Bool) (asked : Request) (route : Route) (at : ℕ) (old new : SessionState)
     (out after : List ℕ) (reply : Reply) (answer : Begun)
@@ -56,13 +56,13 @@ reply_at false true (request.Close close) route at old new out after reply answe
     let same : reply ≡ close_reply close.ref_id finished = cc in
     (a, w ∙ ap (λ r. out ++ spell_reply r) same)
 reply_at false true (request.Init init) route at old new out after reply answer h a w =
-    due_replied (due_of route old (request.Init init)) (request.Init init) old new out after reply answer h a w
+    due_replied route (due_of route old (request.Init init)) (request.Init init) old new out after reply answer h a w
 reply_at false true (request.Search search) route at old new out after reply answer h a w =
-    due_replied (due_of route old (request.Search search)) (request.Search search) old new out after reply answer h a w
+    due_replied route (due_of route old (request.Search search)) (request.Search search) old new out after reply answer h a w
 reply_at false true (request.Present present) route at old new out after reply answer h a w =
-    due_replied (due_of route old (request.Present present)) (request.Present present) old new out after reply answer h a w
+    due_replied route (due_of route old (request.Present present)) (request.Present present) old new out after reply answer h a w
 reply_at false true (request.Scan scan) route at old new out after reply answer h a w =
-    due_replied (due_of route old (request.Scan scan)) (request.Scan scan) old new out after reply answer h a w
+    due_replied route (due_of route old (request.Scan scan)) (request.Scan scan) old new out after reply answer h a w
 
 reply_met : (asked : Request) (route : Route) (at : ℕ) (old new : SessionState)
     (out after : List ℕ) (reply : Reply) (mark : Option Mark) (end : Option End)
@@ -93,11 +93,11 @@ begun-reply asked route at old new out after reply begun.Memory h w = w
 
 -- ---- a work
 
-due_worked : (due : Asking) (asked : Request) (old new : SessionState) (out : List ℕ) (work : Work)
-    → IsDueAdmitted due asked old new (admitted.Work work)
-    → IsDueBegun due asked (served old out) (served new out) (begun.Work work)
-due_worked (at_once told) asked old new out work h = absurd h
-due_worked (works given) asked old new out work h = (ap begun.Work h.0, h.1, h.2, refl, h.3)
+due_worked : (route : Route) (due : Asking) (asked : Request) (old new : SessionState) (out : List ℕ) (work : Work)
+    → IsDueAdmitted route due asked old new (admitted.Work work)
+    → IsDueBegun route due asked (served old out) (served new out) (begun.Work work)
+due_worked route (at_once told) asked old new out work h = absurd h
+due_worked route (works given) asked old new out work h = (ap begun.Work h.0, h.1, h.2, refl, h.3)
 
 work_at : (spent placed : Bool) (asked : Request) (route : Route) (at : ℕ) (old new : SessionState)
     (out : List ℕ) (work : Work)
@@ -107,13 +107,13 @@ work_at true placed asked route at old new out work h = let e = h.0 in absurd cc
 work_at false false asked route at old new out work h = let e = h.0 in absurd cc
 work_at false true (request.Close close) route at old new out work h = let e = h.0 in absurd cc
 work_at false true (request.Init init) route at old new out work h =
-    due_worked (due_of route old (request.Init init)) (request.Init init) old new out work h
+    due_worked route (due_of route old (request.Init init)) (request.Init init) old new out work h
 work_at false true (request.Search search) route at old new out work h =
-    due_worked (due_of route old (request.Search search)) (request.Search search) old new out work h
+    due_worked route (due_of route old (request.Search search)) (request.Search search) old new out work h
 work_at false true (request.Present present) route at old new out work h =
-    due_worked (due_of route old (request.Present present)) (request.Present present) old new out work h
+    due_worked route (due_of route old (request.Present present)) (request.Present present) old new out work h
 work_at false true (request.Scan scan) route at old new out work h =
-    due_worked (due_of route old (request.Scan scan)) (request.Scan scan) old new out work h
+    due_worked route (due_of route old (request.Scan scan)) (request.Scan scan) old new out work h
 
 -- A request that was admitted with a work: nothing was written.
 pub begun-work : (asked : Request) (route : Route) (at : ℕ) (old new : SessionState) (out : List ℕ) (work : Work)
@@ -132,13 +132,13 @@ begun-work (request.Close close) route at old new out work h =
 
 -- ---- a unit out of its place, or beyond the last
 
-due_not_bad : (due : Asking) (asked : Request) (old new : SessionState) → IsDueAdmitted due asked old new admitted.Bad → ⊥
-due_not_bad (at_once told) asked old new h = h
-due_not_bad (works work) asked old new h = h
+due_not_bad : (route : Route) (due : Asking) (asked : Request) (old new : SessionState) → IsDueAdmitted route due asked old new admitted.Bad → ⊥
+due_not_bad route (at_once told) asked old new h = h
+due_not_bad route (works work) asked old new h = h
 
-due_not_limited : (due : Asking) (asked : Request) (old new : SessionState) → IsDueAdmitted due asked old new admitted.Limited → ⊥
-due_not_limited (at_once told) asked old new h = h
-due_not_limited (works work) asked old new h = h
+due_not_limited : (route : Route) (due : Asking) (asked : Request) (old new : SessionState) → IsDueAdmitted route due asked old new admitted.Limited → ⊥
+due_not_limited route (at_once told) asked old new h = h
+due_not_limited route (works work) asked old new h = h
 
 bad_at : (spent placed : Bool) (asked : Request) (route : Route) (at : ℕ) (old new : SessionState)
     (out after : List ℕ) (answer : Begun)
@@ -149,13 +149,13 @@ bad_at true placed asked route at old new out after answer h a w = let e = h.0 i
 bad_at false false asked route at old new out after answer h a w = (a, (w, h.1))
 bad_at false true (request.Close close) route at old new out after answer h a w = let e = h.0 in absurd cc
 bad_at false true (request.Init init) route at old new out after answer h a w =
-    absurd (due_not_bad (due_of route old (request.Init init)) (request.Init init) old new h)
+    absurd (due_not_bad route (due_of route old (request.Init init)) (request.Init init) old new h)
 bad_at false true (request.Search search) route at old new out after answer h a w =
-    absurd (due_not_bad (due_of route old (request.Search search)) (request.Search search) old new h)
+    absurd (due_not_bad route (due_of route old (request.Search search)) (request.Search search) old new h)
 bad_at false true (request.Present present) route at old new out after answer h a w =
-    absurd (due_not_bad (due_of route old (request.Present present)) (request.Present present) old new h)
+    absurd (due_not_bad route (due_of route old (request.Present present)) (request.Present present) old new h)
 bad_at false true (request.Scan scan) route at old new out after answer h a w =
-    absurd (due_not_bad (due_of route old (request.Scan scan)) (request.Scan scan) old new h)
+    absurd (due_not_bad route (due_of route old (request.Scan scan)) (request.Scan scan) old new h)
 
 limited_at : (spent placed : Bool) (asked : Request) (route : Route) (at : ℕ) (old new : SessionState)
     (out after : List ℕ) (answer : Begun)
@@ -166,13 +166,13 @@ limited_at true placed asked route at old new out after answer h a w = (a, (w, h
 limited_at false false asked route at old new out after answer h a w = let e = h.0 in absurd cc
 limited_at false true (request.Close close) route at old new out after answer h a w = let e = h.0 in absurd cc
 limited_at false true (request.Init init) route at old new out after answer h a w =
-    absurd (due_not_limited (due_of route old (request.Init init)) (request.Init init) old new h)
+    absurd (due_not_limited route (due_of route old (request.Init init)) (request.Init init) old new h)
 limited_at false true (request.Search search) route at old new out after answer h a w =
-    absurd (due_not_limited (due_of route old (request.Search search)) (request.Search search) old new h)
+    absurd (due_not_limited route (due_of route old (request.Search search)) (request.Search search) old new h)
 limited_at false true (request.Present present) route at old new out after answer h a w =
-    absurd (due_not_limited (due_of route old (request.Present present)) (request.Present present) old new h)
+    absurd (due_not_limited route (due_of route old (request.Present present)) (request.Present present) old new h)
 limited_at false true (request.Scan scan) route at old new out after answer h a w =
-    absurd (due_not_limited (due_of route old (request.Scan scan)) (request.Scan scan) old new h)
+    absurd (due_not_limited route (due_of route old (request.Scan scan)) (request.Scan scan) old new h)
 
 -- A request that was admitted as bad: a protocol error was written.
 pub begun-bad : (asked : Request) (route : Route) (at : ℕ) (old new : SessionState) (out after : List ℕ) (answer : Begun)

@@ -33,12 +33,13 @@ abbrev pub Writes : Served → Served → Reply → SessionState → Type 0
 Writes old new reply session = (new.out ≡ old.out ++ spell_reply reply) × (new.session ≡ session)
 
 -- a request that is due was answered at once under the mark Plain, or waits for its work
-abbrev pub IsDueBegun : Asking → Request → Served → Served → Begun → Type 0
-IsDueBegun (at_once reply) request old new answer =
-    (answer ≡ begun.Write (Some Plain) None) × Writes old new reply (counted old.session request)
-IsDueBegun (works work) request old new answer =
+abbrev pub IsDueBegun : Route → Asking → Request → Served → Served → Begun → Type 0
+IsDueBegun route (at_once reply) request old new answer =
+    (answer ≡ begun.Write (Some Plain) None)
+    × Writes old new reply (counted route old.session request)
+IsDueBegun route (works work) request old new answer =
     (answer ≡ begun.Work work) × CanBegin work × IsAskable work × (new.out ≡ old.out)
-    × (new.session ≡ record (counted old.session request)
+    × (new.session ≡ record (counted route old.session request)
     { waiting = Some (record { request = request; work = work }) })
 
 -- what was written and kept of a unit at an offset that is met so; a bad unit, and one beyond the
@@ -52,7 +53,8 @@ IsMetBegun (closing close) route at read old new answer =
     (answer ≡ begun.Write (Some Plain) (Some Closed))
     × (new.out ≡ old.out ++ spell_reply (close_reply close.ref_id finished))
 IsMetBegun (due request) route at read old new answer =
-    IsDueBegun (asked_with (hits_named old.session.sets) route (client_of old.session) request)
+    IsDueBegun route
+    (asked_with (hits_named old.session.sets) route (client_of old.session) request)
     request old new answer
 
 -- how the connection ends behind a request that was answered: a Close closes it

@@ -26,8 +26,8 @@ pub course-append : (route : Route) (here : Progress) (units others : List Recei
     → course route here (units ++ others) ≡ followed (course route here units) (λ there. course route there others)
 course-append route here [] others = refl
 course-append route here (unit ∷ units) others =
-    ap (leads_to (met route here unit.request) here.at) (course-append route (after here unit) units others)
-    ∙ leads_to-followed (met route here unit.request) here.at (course route (after here unit) units)
+    ap (leads_to (met route here unit.request) here.at) (course-append route (after route here unit) units others)
+    ∙ leads_to-followed (met route here unit.request) here.at (course route (after route here unit) units)
     (λ there. course route there others)
 
 -- ---- runs

@@ -130,9 +130,9 @@ course-one route here (u ∷ us) (v ∷ vs) x y c d a b e p q =
     let q_at_u =
     subst (λ (w : Received). IfSome (stands_at (course route here (w ∷ vs))) (λ there. RestLeadsTo there.at y d))
     (sym same) q in
-    unit-one (met route here u.request) here.at (course route (after here u) us) (course route (after here u) vs) c d
+    unit-one (met route here u.request) here.at (course route (after route here u) us) (course route (after route here u) vs) c d
     (λ there. RestLeadsTo there.at x c) (λ there. RestLeadsTo there.at y d)
-    (λ m n. course-one route (after here u) us vs x y c d a.1 b.1 behind m n) p q_at_u
+    (λ m n. course-one route (after route here u) us vs x y c d a.1 b.1 behind m n) p q_at_u
     ∙ ap (λ (w : Received). followed (course route here (w ∷ vs)) (λ there. d)) same
 
 -- the octets that come where a session stands have one course

@@ -115,7 +115,7 @@ scan_work login (Good ask) leg = leg_work login ask leg
 -- a Scan of a client whose Init settled this: its checks
 abbrev pub scan_due : Route → Agreement → Scan → Result Asking Diag
 scan_due route agreed scan =
-    checked (scan_checks route scan)
+    checked (scan_checks route agreed.whose scan)
     (scan_work agreed.login scan.ask (slice_get (legs_of route scan.dbs) 0))
 
 -- ---- any request
@@ -123,7 +123,7 @@ scan_due route agreed scan =
 -- what a request in its place is due, where the client's set of a name has these hits; a Work has
 -- the client's login
 abbrev pub asked_with : (hits_of_set : List ℕ → List ℕ) → Route → ClientState → Request → Asking
-asked_with hits_of_set route client (request.Init init) = at_once (init_reply init)
+asked_with hits_of_set route client (request.Init init) = at_once (init_reply route init)
 asked_with hits_of_set route client (request.Search search) =
     unless_refused (request.Search search) (search_due route client search)
 asked_with hits_of_set route client (request.Present present) =

@@ -2,7 +2,7 @@
 -- Appendix 4 ERR; the order and the bounds are this project's own)
 use Rattle.std.specs.Prelude.{ℕ, pos, ◌+◌, ◌-◌, ◌==◌, ◌&&◌, ◌||◌, Bool, false, not, List, [], ◌∷◌, length}
 use Rattle.std.specs.Prelude.{codes, Option, None, Some, is_some, is_none, Result, Ok, Err, if◌then◌else◌}
-use Rattle.std.specs.Prelude.{nat_lt, nat_abs, int_lt}
+use Rattle.std.specs.Prelude.{◌++◌, option_and_then, nat_lt, nat_abs, int_lt}
 use Rattle.std.specs.Fmt.{decimal}
 use Rattle.z_types.specs.Bib1.{bib1}
 use Rattle.z_types.specs.declared.conditions.Condition.TheVariants as condition
@@ -16,7 +16,9 @@ use Rattle.z_sets.specs.declared.fault.ExpandFault.TheVariants as fault
 use Rattle.z_sets.specs.declared.fault.ExpandFault.{ExpandFault}
 use Rattle.virt_db.specs.declared.fault.DbFault.TheVariants as names
 use Rattle.virt_db.specs.declared.fault.DbFault.{DbFault}
-use Rattle.virt_db.specs.Legs.{legs_of, found_legs}
+use Rattle.virt_db.specs.Legs.{legs_of, few_legs, why_none}
+use Rattle.access_rules.specs.Denials.{first_denial}
+use Rattle.access_rules.specs.declared.who.Who.{Who}
 use Rattle.limit_rules.specs.Limits.{are_searches_spent, are_sets_full, are_too_many}
 use Rattle.z_types.specs.MergedOrder.{total}
 use Rattle.z_types.specs.QueryMeasures.{leaf_cost}
@@ -57,10 +59,23 @@ no_legs (names.Unknown name) = Some (bib1 condition.DatabaseDoesNotExist name)
 no_legs (names.TooMany count) = Some (bib1 condition.TooManyDatabases (decimal count))
 no_legs names.Memory = None
 
--- databases: some, not too many, each of them there, with not too many legs
-abbrev pub not_found : Result (List ℕ) DbFault → Option Diag
-not_found (Ok legs) = None
-not_found (Err fault) = no_legs fault
+-- databases: some, not too many, each of them there
+abbrev pub names_check : Route → List (List ℕ) → Option Diag
+names_check route names = option_and_then no_legs (why_none route names)
+
+-- legs that are not too many
+abbrev pub legs_check : Result (List ℕ) DbFault → Option Diag
+legs_check (Ok legs) = None
+legs_check (Err fault) = no_legs fault
+
+-- databases: there they are; none of them is one that the client may not search; and their legs are
+-- not too many
+abbrev pub database_checks : Route → Who → List (List ℕ) → List (Option Diag)
+database_checks route client names =
+    names_check route names
+    ∷ first_denial route client names
+    ∷ legs_check (few_legs (legs_of route names))
+    ∷ []
 
 -- no Search may be asked after `searches` others
 abbrev pub searches_check : Limits → ℕ → Option Diag
@@ -90,8 +105,8 @@ search_checks route client search =
     searches_check route.limits client.searches
     ∷ not_served search.query
     ∷ elements_check search
-    ∷ not_found (found_legs route search.dbs)
-    ∷ name_checks route.limits (set_named search.set_name client.sets) (length client.sets) search
+    ∷ database_checks route client.agreed.whose search.dbs
+    ++ name_checks route.limits (set_named search.set_name client.sets) (length client.sets) search
 
 -- a query that has no expansion
 abbrev pub no_expansion : ExpandFault → Diag
@@ -151,10 +166,10 @@ ask_checks (Bad diag) = []
 ask_checks (Good ask) = terms_check ask ∷ cost_check ask ∷ []
 
 -- a Scan
-abbrev pub scan_checks : Route → Scan → List (Option Diag)
-scan_checks route scan =
+abbrev pub scan_checks : Route → Who → Scan → List (Option Diag)
+scan_checks route client scan =
     not_served scan.ask
-    ∷ not_found (found_legs route scan.dbs)
-    ∷ refused_where (not (length (legs_of route scan.dbs) == 1))
+    ∷ database_checks route client scan.dbs
+    ++ refused_where (not (length (legs_of route scan.dbs) == 1))
     (bib1 condition.CombinationOfDatabasesNotSupported [])
     ∷ ask_checks scan.ask

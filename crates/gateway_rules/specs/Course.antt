@@ -51,15 +51,15 @@ met route here (Some asked) =
     else bad
 
 -- the unit is an Init that is accepted
-abbrev pub accepts : Option Request → Bool
-accepts (Some (request.Init init)) = is_accepted init
-accepts other = false
+abbrev pub accepts : Route → Option Request → Bool
+accepts route (Some (request.Init init)) = is_accepted route init
+accepts route other = false
 
 -- how far the units have come behind this one
-abbrev pub after : Progress → Received → Progress
-after here unit = record {
+abbrev pub after : Route → Progress → Received → Progress
+after route here unit = record {
   at = here.at + length unit.octets;
-  accepted = here.accepted || accepts unit.request;
+  accepted = here.accepted || accepts route unit.request;
   units = here.units + 1;
 }
 
@@ -83,7 +83,7 @@ leads_to (due asked) at more = answers asked more
 abbrev pub course : Route → Progress → List Received → Course
 course route here [] = stands here
 course route here (unit ∷ units) =
-    leads_to (met route here unit.request) here.at (course route (after here unit) units)
+    leads_to (met route here unit.request) here.at (course route (after route here unit) units)
 
 -- a course that goes on from where it stands
 abbrev pub followed : Course → (Progress → Course) → Course

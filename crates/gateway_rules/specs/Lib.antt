@@ -16,3 +16,4 @@ pub mod Answers
 pub mod OneAnswer
 pub mod Runs
 pub mod Cut
+pub mod Access

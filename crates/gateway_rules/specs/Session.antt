@@ -21,7 +21,8 @@ use Rattle.z_types.specs.declared.requests.Request.{Request}
 -- what a request is answered, where this is due
 abbrev pub answer_to : {W : Type 0} → world.Ghosts W → Route → ClientState → Request → Cause
     → Asking → Settled
-answer_to w route client request cause (asking.at_once reply) = settled_at_once client request reply
+answer_to w route client request cause (asking.at_once reply) =
+    settled_at_once route client request reply
 answer_to w route client request cause (asking.works work) =
     settled client request work (outcome_of w route work cause)
 

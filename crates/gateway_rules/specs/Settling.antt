@@ -1,6 +1,6 @@
 -- What an outcome leaves: the reply, and what is kept of the client (ANSI/NISO Z39.50-2003,
 -- 3.2.2.1, 3.2.3.1 and 3.2.8.1)
-use Rattle.std.specs.Prelude.{ℕ, ◌+◌, List, [], Option, None, Some, unwrap_or, if◌then◌else◌}
+use Rattle.std.specs.Prelude.{ℕ, ◌+◌, true, List, [], ◌∷◌, Option, None, Some, unwrap_or, if◌then◌else◌}
 use Rattle.z_types.specs.declared.diagnostic.Diag.{Diag}
 use Rattle.z_types.specs.declared.scan.ScanAnswer.{ScanAnswer}
 use Rattle.z_types.specs.MergedOrder.{total}
@@ -8,7 +8,10 @@ use Rattle.z_types.specs.Shown.{shown}
 use Rattle.gateway_rules.specs.Cut.{cut_of}
 use Rattle.gateway_rules.specs.Given.{search_reply, present_reply, returned}
 use Rattle.gateway_rules.specs.Marks.{marked_diag}
-use Rattle.gateway_rules.specs.Replies.{failed, init_reply, close_reply, is_accepted, agreed_sizes}
+use Rattle.route_config.specs.declared.route.Route.{Route}
+use Rattle.route_config.specs.declared.route.User.{User}
+use Rattle.access_rules.specs.Whose.{user_of}
+use Rattle.gateway_rules.specs.Replies.{failed, init_answer, close_reply, is_accepted, agreed_sizes}
 use Rattle.z_sets.specs.Sets.{StoredSet, with_set, without_set}
 use Rattle.gateway_rules.specs.State.{ClientState}
 use Rattle.gateway_rules.specs.declared.agreement.Agreement.{Agreement}
@@ -20,6 +23,7 @@ use Rattle.z_types.specs.declared.outcome.Outcome.TheVariants as outcome
 use Rattle.z_types.specs.declared.outcome.Outcome.{Outcome}
 use Rattle.z_types.specs.declared.replies.Reply.TheVariants as reply
 use Rattle.z_types.specs.declared.replies.Reply.{Reply}
+use Rattle.z_types.specs.declared.requests.Init.{Init}
 use Rattle.z_types.specs.declared.requests.Request.TheVariants as request
 use Rattle.z_types.specs.declared.requests.Request.{Request}
 use Rattle.z_types.specs.declared.work.Work.TheVariants as work
@@ -73,7 +77,7 @@ given_of sizes work got = cut_of sizes (asked_of work (found_hits got)) (fetched
 
 -- the reply to a request that did not fail; an Init and a Close have no outcome
 abbrev pub good_reply : Sizes → Request → Work → Outcome → Reply
-good_reply sizes (request.Init init) work got = init_reply init
+good_reply sizes (request.Init init) work got = init_answer init true
 good_reply sizes (request.Search search) work got =
     search_reply search.ref_id (found_hits got) (returned (fetched_of got))
     (given_of sizes work got)
@@ -108,20 +112,34 @@ client_after client (request.Search search) work got = record client {
 client_after client request work got =
     record client { records = client.records + returned (given_of client.agreed.sizes work got) }
 
--- what an Init that is accepted settles: the sizes that it is answered with, and its login
-abbrev pub agreed_by : Request → Option Agreement
-agreed_by (request.Init init) =
-    if is_accepted init
-    then Some (record { sizes = agreed_sizes init; login = init.login }) else None
-agreed_by other = None
+-- the login that is kept of a client: none among users, whom the gateway knows by themselves
+abbrev pub login_among : List User → Option (List ℕ) → Option (List ℕ)
+login_among [] login = login
+login_among (user ∷ users) login = None
+
+-- what an Init settles that is accepted: the sizes that it is answered with, whose the client is,
+-- and the login, which is none where the route has users
+abbrev pub settled_by : Route → Init → Agreement
+settled_by route init = record {
+  sizes = agreed_sizes init;
+  whose = user_of route init.login;
+  login = login_among route.users init.login;
+}
+
+-- what a request settles, where it is an Init that is accepted
+abbrev pub agreed_by : Route → Request → Option Agreement
+agreed_by route (request.Init init) =
+    if is_accepted route init then Some (settled_by route init) else None
+agreed_by route other = None
 
 -- what is settled behind a request
-abbrev pub agreed_after : Agreement → Request → Agreement
-agreed_after agreed request = unwrap_or (agreed_by request) agreed
+abbrev pub agreed_after : Route → Agreement → Request → Agreement
+agreed_after route agreed request = unwrap_or (agreed_by route request) agreed
 
 -- the client behind a request that is answered at once
-abbrev pub client_at_once : ClientState → Request → ClientState
-client_at_once client request = record client { agreed = agreed_after client.agreed request }
+abbrev pub client_at_once : Route → ClientState → Request → ClientState
+client_at_once route client request =
+    record client { agreed = agreed_after route client.agreed request }
 
 -- ---- both
 
@@ -139,6 +157,6 @@ settled client request work got =
     }
 
 -- what a reply at once leaves
-abbrev pub settled_at_once : ClientState → Request → Reply → Settled
-settled_at_once client request given =
-    record { reply = given; client = client_at_once client request }
+abbrev pub settled_at_once : Route → ClientState → Request → Reply → Settled
+settled_at_once route client request given =
+    record { reply = given; client = client_at_once route client request }

@@ -2,6 +2,7 @@
 -- of other clients
 use Rattle.std.specs.Prelude.{ℕ, List, [], Bool, false, None}
 use Rattle.z_sets.specs.Sets.{StoredSet}
+use Rattle.access_rules.specs.declared.who.Who.TheVariants.{Anonymous}
 use Rattle.gateway_rules.specs.declared.agreement.Agreement.{Agreement}
 
 -- How far a client's units have come: the offset of the next one, whether an Init was accepted, and
@@ -15,8 +16,8 @@ pub record Progress : Type 0 where
 abbrev pub at_the_start : Progress
 at_the_start = record { at = 0; accepted = false; units = 0 }
 
--- What is kept of a client beside that: what its Init settled, the searches and records that it has
--- spent, and its result sets
+-- What is kept of a client beside that: what its Init settled, whose it is among that; the searches
+-- and records that it has spent; and its result sets
 pub record ClientState : Type 0 where
   pub agreed : Agreement
   pub searches : ℕ
@@ -25,7 +26,11 @@ pub record ClientState : Type 0 where
 
 -- no Init was accepted
 abbrev pub no_agreement : Agreement
-no_agreement = record { sizes = record { preferred = 0; exceptional = 0 }; login = None }
+no_agreement = record {
+  sizes = record { preferred = 0; exceptional = 0 };
+  whose = Anonymous;
+  login = None;
+}
 
 -- a client that has asked nothing
 abbrev pub new_client : ClientState

@@ -1,5 +1,6 @@
 //! What is true of every answer. These functions do nothing; what they ensure is the law.
 
+ghost use Rattle.gateway_rules.specs.Access.{AccessIsKept, CoursesAskOpen};
 ghost use Rattle.gateway_rules.specs.Fair.{MembersAnswer};
 ghost use Rattle.gateway_rules.specs.OneAnswer.{HasOneReading, HasSomeAnswer, HasOneAnswer, HasOneEnd};
 ghost use Rattle.gateway_rules.specs.Runs.{RunsGoOn, UnitsEndIt, RestEndsIt};
@@ -22,8 +23,8 @@ pub fn one_answer<W: World>()
     ensures { HasOneAnswer W.World }
 {}
 
-/// How a client's connection ends follows from its octets and the limits of its route, whatever the
-/// targets and the marks.
+/// How a client's connection ends follows from its octets and its route, whatever the targets and
+/// the marks.
 pub fn one_end<V: World, W: World>()
     ensures { HasOneEnd V.World W.World }
 {}
@@ -48,4 +49,16 @@ pub fn rest_ends<W: World>()
 /// first member means: each by itself, and inside every login.
 pub fn fair_legs<W: World>()
     ensures { MembersAnswer W.World }
+{}
+
+/// The targets are asked only of databases that the route opens to the client: at each request of a
+/// client whose sets are of such databases, and these stay so.
+pub fn access_is_kept<W: World>()
+    ensures { AccessIsKept W.World }
+{}
+
+/// Whatever units a client sends, the targets are asked only of databases that the route opens to
+/// it, at each of its requests and under any causes.
+pub fn courses_ask_open<W: World>()
+    ensures { CoursesAskOpen W.World }
 {}

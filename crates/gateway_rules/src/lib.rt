@@ -14,9 +14,10 @@ mod statuses;
 
 pub use agreement::{Agreement, agreed_by};
 pub use given::{count_returned, present_reply, scan_reply, search_reply};
-pub use init::{init_reply, is_accepted};
+pub use init::{init_answer, init_reply, is_accepted};
 pub use laws::{
-    fair_legs, one_answer, one_end, one_reading, rest_ends, runs_go_on, some_answer, units_end,
+    access_is_kept, courses_ask_open, fair_legs, one_answer, one_end, one_reading, rest_ends,
+    runs_go_on, some_answer, units_end,
 };
 pub use marks::{mark_of, marked_diag};
 pub use replies::{bad_unit_reply, failed_reply, finished_reply, limit_reply};

@@ -5,7 +5,7 @@ ghost use Rattle.std.specs.Prelude.{◌≡◌, [], ◌∷◌, IfOk};
 ghost use Rattle.gateway_rules.specs.Replies as replies;
 ghost use Rattle.gateway_rules.specs.Statuses.{finished};
 
-use crate::init_reply;
+use crate::init_answer;
 use crate::statuses::{FINISHED, PRESENT_FAILURE, PROTOCOL_ERROR, RESOURCES, SCAN_FAILURE};
 use std::alloc::Global;
 use z_types::{
@@ -72,7 +72,7 @@ pub fn failed_reply(alloc: Global, request: &Request, diag: Diag) -> Result<Repl
     ensures { IfOk result (λ reply. reply ≡ replies.failed request.now diag) }
 {
     match request {
-        Request::Init(init) => init_reply(init),
+        Request::Init(init) => init_answer(init, false),
         Request::Search(search) => failed_search(search, diag),
         Request::Present(present) => failed_present(present, diag),
         Request::Scan(scan) => failed_scan(alloc, scan, diag),

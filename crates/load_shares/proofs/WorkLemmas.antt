@@ -85,7 +85,7 @@ first_record = record { ref_id = None; set_name = codes "1"; start = pos 1; numb
 
 -- the client behind its Init, and behind its Search
 abbrev pub behind_init : ClientState
-behind_init = client_at_once new_client init_request
+behind_init = client_at_once smallest_route new_client init_request
 
 abbrev pub behind_search : {W : Type 0} → world.Ghosts W → ℕ → ClientState
 behind_search w letter = (answered w smallest_route behind_init (search_request letter) plain).client

@@ -178,7 +178,7 @@ module _ (route : Route) where
       unless-few (request.Present present) _ (checked-few (present_checks route client present (hits present.set_name)) _
       (fetch-few client.agreed.login present (hits present.set_name) (set_named present.set_name client.sets) (found-few _ client.sets sets)))
   asked-few hits client (request.Scan scan) sets =
-      unless-few (request.Scan scan) _ (checked-few (scan_checks route scan) _
+      unless-few (request.Scan scan) _ (checked-few (scan_checks route client.agreed.whose scan) _
       (scan-few client.agreed.login scan.ask (legs_of route scan.dbs) (legs_of-few route scan.dbs)))
   asked-few hits client (request.Close close) sets = tt
 

@@ -24,7 +24,7 @@ use Rattle.sru_request.specs.Name.{name_of}
 use Rattle.sru_request.specs.declared.faults.HeadFault.{HeadFault}
 use Rattle.sru_request.specs.declared.head.Get.{Get}
 use Rattle.sru_request.specs.declared.query.SruQuery.{SruQuery}
-use Rattle.front_conn_costs.specs.sru_rules.Asking.{rpn_of}
+use Rattle.front_conn_costs.specs.sru_rules.Asking.{rpn_of, open_query}
 use Rattle.front_conn_costs.specs.sru_rules.Course.{database_of}
 use Rattle.front_conn_costs.specs.sru_rules.Reading.{Reading, refused, taken}
 use Rattle.front_conn_costs.specs.sru_rules.Run.{Due, at_once as answers_now, due as due_of, due_by, searches}
@@ -84,7 +84,7 @@ module _ (route : Route) where
   as-session old new e few = subst (λ (s : SessionState). IsFewSession s) (sym e) few
 
   due-few : (asking : Asking) (asks : Request) (old new : z.Served) (answer : Begun) → AsksFew route asking → IsFewSession old.session
-      → z.IsDueBegun asking asks old new answer → IsFewSession new.session
+      → z.IsDueBegun route asking asks old new answer → IsFewSession new.session
   due-few (at_once reply) asks old new answer own few h =
       as-session _ new.session h.1.1 (record { sets = few.sets; waits = few.waits })
   due-few (works job) asks old new answer own few h =
@@ -132,7 +132,7 @@ module _ (route : Route) where
   reading-few : (database : Database) (reading : Reading) → length database.legs ≤ leg_count route
       → SearchesFew (due_of route database reading)
   reading-few database (refused diag) few = tt
-  reading-few database (taken asked text) few = due_by-few database asked (rpn_of asked.version route.indexes text) few
+  reading-few database (taken asked text) few = due_by-few database asked (open_query route database asked.version (rpn_of asked.version route.indexes text)) few
 
   as-stage : (old new : SruStage) → new ≡ old → IsFewStage old → IsFewStage new
   as-stage old new e few = subst (λ (s : SruStage). IsFewStage s) (sym e) few

@@ -61,17 +61,17 @@ module _ (Fits : Mark → Type 0) (plain : Fits mark.Plain) where
   none-fits m e = subst (λ (x : Option Mark). AreFit Fits (option_to_list x)) (sym e) tt
 
   -- a mark at once is Plain
-  due-fits : (asking : Asking) (request : Request) (old new : Served) (m : Option Mark) (end : Option End)
-      → IsDueBegun asking request old new (begun.Write m end) → AreFit Fits (option_to_list m)
-  due-fits (at_once reply) request old new m end h = plain-fits m (let e = h.0 in cc)
-  due-fits (works work) request old new m end h = let wrong = h.0 in absurd cc
+  due-fits : (route : Route) (asking : Asking) (request : Request) (old new : Served) (m : Option Mark) (end : Option End)
+      → IsDueBegun route asking request old new (begun.Write m end) → AreFit Fits (option_to_list m)
+  due-fits route (at_once reply) request old new m end h = plain-fits m (let e = h.0 in cc)
+  due-fits route (works work) request old new m end h = let wrong = h.0 in absurd cc
 
   met-fits : (meeting : Meeting) (route : Route) (at_ : ℕ) (read : Option Request) (old new : Served) (m : Option Mark) (end : Option End)
       → IsMetBegun meeting route at_ read old new (begun.Write m end) → AreFit Fits (option_to_list m)
   met-fits bad route at_ read old new m end h = none-fits m (let e = h.0 in cc)
   met-fits (beyond request) route at_ read old new m end h = none-fits m (let e = h.0 in cc)
   met-fits (closing close) route at_ read old new m end h = plain-fits m (let e = h.0 in cc)
-  met-fits (due request) route at_ read old new m end h = due-fits _ request old new m end h
+  met-fits (due request) route at_ read old new m end h = due-fits route _ request old new m end h
 
   behind-fits : {S : Type 0} (route : Route) (at_ : ℕ) (unit : List ℕ) (before after : Served) (old new : AnsweringState S) (end : Option End) (said : Begun)
       → IsBegun route at_ unit before after said → IsKeptBehind route old new end said → AreFit Fits old.marks → AreFit Fits new.marks

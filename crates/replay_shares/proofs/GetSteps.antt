@@ -124,10 +124,10 @@ no-closing route here (Some asked) close off e = by-spent (are_units_spent route
   by-spent false (request.Scan scan) e = by-place here.accepted (request.Scan scan) e
   by-spent false (request.Close own) e = by-close here.accepted own off e
 
-due-none : (asks : Asking) (asked : Request) (old new : Served) (mark : Option Mark) (how : End)
-    → IsDueBegun asks asked old new (begun.Write mark (Some how)) → mark ≡ None
-due-none (at_once reply) asked old new mark how h = let wrong = h.0 in absurd cc
-due-none (works work) asked old new mark how h = let wrong = h.0 in absurd cc
+due-none : (route : Route) (asks : Asking) (asked : Request) (old new : Served) (mark : Option Mark) (how : End)
+    → IsDueBegun route asks asked old new (begun.Write mark (Some how)) → mark ≡ None
+due-none route (at_once reply) asked old new mark how h = let wrong = h.0 in absurd cc
+due-none route (works work) asked old new mark how h = let wrong = h.0 in absurd cc
 
 met-none : (meeting : Meeting) (route : Route) (at : ℕ) (read : Option Request) (old new : Served) (mark : Option Mark) (how : End)
     → ((close : Close) → meeting ≡ closing close → ⊥) → IsMetBegun meeting route at read old new (begun.Write mark (Some how)) → mark ≡ None
@@ -135,7 +135,7 @@ met-none bad route at read old new mark how unclosed h = let says = h.0 in cc
 met-none (beyond asked) route at read old new mark how unclosed h = let says = h.0 in cc
 met-none (closing close) route at read old new mark how unclosed h = absurd (unclosed close refl)
 met-none (due asked) route at read old new mark how unclosed h =
-    due-none (asked_with (hits_named old.session.sets) route (client_of old.session) asked) asked old new mark how h
+    due-none route (asked_with (hits_named old.session.sets) route (client_of old.session) asked) asked old new mark how h
 
 -- the first unit of a connection ends it under no mark
 first-none : (route : Route) (at : ℕ) (unit : List ℕ) (old new : Served) (mark : Option Mark) (how : End) → old.session.accepted ≡ false

@@ -74,10 +74,10 @@ wakes-by answer is e = let wrong : false ≡ true = is ∙ ap is_idle e in absur
 marks-are : (mark other : Option Mark) → mark ≡ other → AreMarksPlain (option_to_list other) → AreMarksPlain (option_to_list mark)
 marks-are mark other is plain = subst (λ (m : Option Mark). AreMarksPlain (option_to_list m)) (sym is) plain
 
-due-plain : (due : Asking) (asks : Request) (old new : Served) (mark : Option Mark) (end : Option End)
-    → IsDueBegun due asks old new (begun.Write mark end) → AreMarksPlain (option_to_list mark)
-due-plain (asking.at_once reply) asks old new mark end b = marks-are mark (Some Plain) (let x = b.0 in cc) (refl, tt)
-due-plain (asking.works job) asks old new mark end b = let wrong = b.0 in absurd cc
+due-plain : (route : Route) (due : Asking) (asks : Request) (old new : Served) (mark : Option Mark) (end : Option End)
+    → IsDueBegun route due asks old new (begun.Write mark end) → AreMarksPlain (option_to_list mark)
+due-plain route (asking.at_once reply) asks old new mark end b = marks-are mark (Some Plain) (let x = b.0 in cc) (refl, tt)
+due-plain route (asking.works job) asks old new mark end b = let wrong = b.0 in absurd cc
 
 met-plain : (meeting : Meeting) (route : Route) (offset : ℕ) (read : Option Request) (old new : Served) (mark : Option Mark) (end : Option End)
     → IsMetBegun meeting route offset read old new (begun.Write mark end) → AreMarksPlain (option_to_list mark)
@@ -85,7 +85,7 @@ met-plain at.bad route offset read old new mark end b = marks-are mark None (let
 met-plain (at.beyond asks) route offset read old new mark end b = marks-are mark None (let x = b.0 in cc) tt
 met-plain (at.closing close) route offset read old new mark end b = marks-are mark (Some Plain) (let x = b.0 in cc) (refl, tt)
 met-plain (at.due asks) route offset read old new mark end b =
-    due-plain (asked_with (hits_named old.session.sets) route (client_of old.session) asks) asks old new mark end b
+    due-plain route (asked_with (hits_named old.session.sets) route (client_of old.session) asks) asks old new mark end b
 
 -- ---- lists
 

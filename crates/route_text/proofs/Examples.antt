@@ -1,5 +1,5 @@
 -- Configurations worked out from their octets by computation alone: routes, and refusals.
-use Rattle.std.proofs.Common.{◌≡◌, ℕ, List, [], ◌∷◌, ◌++◌, Option, Some, None, option_map, map, codes, refl}
+use Rattle.std.proofs.Common.{◌≡◌, ℕ, false, List, [], ◌∷◌, ◌++◌, Option, Some, None, option_map, map, codes, refl}
 use Rattle.std.specs.Option.{option_and_then}
 use Rattle.std.specs.List.{flat_map}
 use Rattle.z_types.specs.declared.address.Address.TheVariants.{Test}
@@ -8,7 +8,7 @@ use Rattle.toml.specs.Parse.{parse_document}
 use Rattle.route_config.specs.declared.route.Route.{Route}
 use Rattle.route_config.specs.Smallest.{smallest_text, smallest_route}
 use Rattle.route_text.specs.declared.fault.RouteFault.{RouteFault}
-use Rattle.route_text.specs.declared.fault.RouteFault.TheVariants.{Missing, WrongKind, OutOfRange, TooMany, Unknown, Twice, NoSuchTarget, TtlOrder}
+use Rattle.route_text.specs.declared.fault.RouteFault.TheVariants.{Missing, WrongKind, OutOfRange, TooMany, Unknown, Twice, NoSuchTarget, TtlOrder, NoSuchUser, NoSuchDatabase}
 use Rattle.route_text.specs.Values.{values_in}
 use Rattle.route_text.specs.RouteOf.{route_of}
 use Rattle.route_text.specs.Configuration.{first_fault}
@@ -96,6 +96,31 @@ leading-zero = refl
 twice-database : refused (smallest_and (codes "[[database]]" ∷ codes "name = \"dEFAULT\"" ∷ codes "[[database.leg]]" ∷ codes "via = \"alpha\"" ∷ codes "databases = [\"Default\"]" ∷ [])) ≡ Some (Twice (codes "dEFAULT"))
 unfolding configuration_on_literals
 twice-database = refl
+
+-- a user, and a rule for it; a rule for nobody that is there, and one for no database
+abbrev ann : List (List ℕ)
+ann = codes "[[user]]" ∷ codes "name = \"ann\"" ∷ codes "password = \"pw\"" ∷ []
+
+abbrev rule : (user databases : List ℕ) → List (List ℕ)
+rule user databases =
+    codes "[[rule]]" ∷ codes "name = \"r\"" ∷ codes "effect = \"deny\"" ∷ user ∷ databases ∷ []
+
+ruled : refused (smallest_and (ann ++ rule (codes "user = \"ann\"") (codes "databases = [\"*\", \"DEFAULT\"]"))) ≡ None
+unfolding configuration_on_literals
+ruled = refl
+
+ruled-route : option_map (λ route. route.rules) (route (smallest_and (ann ++ rule (codes "user = \"ann\"") (codes "databases = [\"DEFAULT\"]"))))
+    ≡ Some ((record { name = codes "r"; allow = false; user = codes "ann"; databases = codes "DEFAULT" ∷ [] }) ∷ [])
+unfolding configuration_on_literals
+ruled-route = refl
+
+no-such-user : refused (smallest_and (ann ++ rule (codes "user = \"Ann\"") (codes "databases = [\"x\"]"))) ≡ Some (NoSuchUser (codes "Ann"))
+unfolding configuration_on_literals
+no-such-user = refl
+
+no-such-database : refused (smallest_and (rule (codes "user = \"anonymous\"") (codes "databases = [\"Default\", \"x\"]"))) ≡ Some (NoSuchDatabase (codes "x"))
+unfolding configuration_on_literals
+no-such-database = refl
 
 -- two targets in a group, a third, and two databases: two classes, of two addresses and of one, and three legs
 abbrev realistic : List ℕ

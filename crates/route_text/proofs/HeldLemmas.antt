@@ -6,6 +6,8 @@ use Rattle.z_types.specs.declared.schemas.Schema.{Schema}
 use Rattle.route_config.specs.declared.route.Target.{Target}
 use Rattle.route_config.specs.declared.route.PoolNumbers.{PoolNumbers}
 use Rattle.route_config.specs.declared.route.Index.{Index}
+use Rattle.route_config.specs.declared.route.User.{User}
+use Rattle.route_config.specs.declared.route.Rule.{Rule}
 use Rattle.route_config.specs.Smallest.{smallest_route}
 use Rattle.toml.specs.Data.{Data, Members, as_table, get}
 use Rattle.route_text.specs.declared.values.GroupValues.{GroupValues}
@@ -14,7 +16,7 @@ use Rattle.route_text.specs.Kinds.{required, default, Table, Keys, key_names}
 use Rattle.route_text.specs.Keys.{empty, nothing, index_keys, schema_keys, top_keys, default_indexes, default_schemas}
 use Rattle.route_text.specs.declared.fault.RouteFault.{RouteFault}
 use Rattle.route_text.specs.Refusal.{refusal, of_keys, of_others}
-use Rattle.route_text.specs.Values.{held, list, target_in, group_in, database_in, pool_in, limits_in, index_in, schema_in, values_in}
+use Rattle.route_text.specs.Values.{held, list, target_in, group_in, database_in, pool_in, limits_in, index_in, schema_in, user_in, rule_in, values_in}
 
 -- a list that is given where a key is not there, and is what its default is read as
 pub held-list : {A : Type 0} (found : Data → A) (other : Data) (given : List A) (here : Option Data) → given ≡ list found other → unwrap_or (option_map (list found) here) given ≡ list found (held (default other) here)
@@ -31,7 +33,7 @@ unfolding schema_keys default_schemas schema_in
 schemas-held = refl
 
 -- the values of a file, one by one
-pub values-in : (file : Data) (targets : List Target) (groups : List GroupValues) (databases : List DatabaseValues) (pool : PoolNumbers) (limits : Limits) (indexes : List Index) (schemas : List Schema)
+pub values-in : (file : Data) (targets : List Target) (groups : List GroupValues) (databases : List DatabaseValues) (pool : PoolNumbers) (limits : Limits) (indexes : List Index) (schemas : List Schema) (users : List User) (rules : List Rule)
     → targets ≡ list target_in (held required (get (codes "target") file))
     → groups ≡ list group_in (held nothing (get (codes "group") file))
     → databases ≡ list database_in (held required (get (codes "database") file))
@@ -39,9 +41,11 @@ pub values-in : (file : Data) (targets : List Target) (groups : List GroupValues
     → limits ≡ limits_in (held empty (get (codes "limit") file))
     → indexes ≡ list index_in (held (default default_indexes) (get (codes "index") file))
     → schemas ≡ list schema_in (held (default default_schemas) (get (codes "schema") file))
-    → record { targets = targets; groups = groups; databases = databases; pool = pool; limits = limits; indexes = indexes; schemas = schemas } ≡ values_in file
+    → users ≡ list user_in (held nothing (get (codes "user") file))
+    → rules ≡ list rule_in (held nothing (get (codes "rule") file))
+    → record { targets = targets; groups = groups; databases = databases; pool = pool; limits = limits; indexes = indexes; schemas = schemas; users = users; rules = rules } ≡ values_in file
 unfolding top_keys values_in
-values-in file targets groups databases pool limits indexes schemas a b c d e f g = rw (a, b, c, d, e, f, g)
+values-in file targets groups databases pool limits indexes schemas users rules a b c d e f g h i = rw (a, b, c, d, e, f, g, h, i)
 
 -- of two refusals, one after the other, there is none where each is none
 pub both : {one other : Option RouteFault} → one ≡ None → other ≡ None → option_or one other ≡ None

@@ -10,16 +10,16 @@ use Rattle.route_config.specs.Names.{is_name, is_database_name}
 use Rattle.route_config.specs.Sound.{HasFrom, IsTarget, IsGroup, IsDatabase, IsLeg, IsIndex, IsSchema, IsUser, IsRule, KeepsItems}
 use Rattle.route_text.specs.declared.fault.RouteFault.TheVariants.{OutOfRange}
 use Rattle.route_text.specs.declared.rule.TextRule.{TextRule}
-use Rattle.route_text.specs.declared.rule.TextRule.TheVariants.{Name, DatabaseName, UpTo, IndexName}
+use Rattle.route_text.specs.declared.rule.TextRule.TheVariants.{Name, DatabaseName, UpTo, IndexName, UserName}
 use Rattle.route_text.specs.declared.values.GroupValues.{GroupValues}
 use Rattle.route_text.specs.declared.values.LegValues.{LegValues}
 use Rattle.route_text.specs.declared.values.DatabaseValues.{DatabaseValues}
 use Rattle.route_text.specs.Texts.{fits}
 use Rattle.route_text.specs.Path.{key_path}
 use Rattle.route_text.specs.Kinds.{Text, Number, Array, Table}
-use Rattle.route_text.specs.Keys.{target_keys, group_keys, leg_keys, database_keys, index_keys, schema_keys, top_keys, default_indexes, default_schemas}
+use Rattle.route_text.specs.Keys.{target_keys, group_keys, leg_keys, database_keys, index_keys, schema_keys, user_keys, rule_keys, top_keys, default_indexes, default_schemas}
 use Rattle.route_text.specs.Refusal.{refusal, of_kind, unless}
-use Rattle.route_text.specs.Values.{at, text, target_in, group_in, leg_in, database_in, index_in, schema_in, values_in}
+use Rattle.route_text.specs.Values.{at, text, target_in, group_in, leg_in, database_in, index_in, schema_in, user_in, rule_in, values_in}
 use Rattle.route_text.specs.Whole.{target_names}
 use Rattle.route_text.specs.RouteOf.{place_of, group_of, databases_from, leg_of, legs_from, class_names, route_of}
 use Rattle.route_text.specs.Configuration.{first_fault}
@@ -105,6 +105,27 @@ schema_item path value h =
       text_size 128 (key_path path (codes "element")) (at schema_keys (codes "element") value) (required-passed check (key_path path (codes "element")) (get (codes "element") value) three.0),
     )
 
+user_item : (path : List ℕ) (value : Data) → refusal (Table user_keys) path value ≡ None → IsUser (user_in value)
+unfolding user_in user_keys
+user_item path value h =
+    let keys = neither _ _ (keys-passed user_keys path value h) in
+    let name = key_path path (codes "name") in
+    let password = key_path path (codes "password") in
+    let named = required-passed (refusal (Text UserName)) name (get (codes "name") value) keys.0 in
+    let held = required-passed (refusal (Text (UpTo 64))) password (get (codes "password") value) (neither _ None keys.1).0 in
+    (text-fits UserName name (at user_keys (codes "name") value) named, text_size 64 password (at user_keys (codes "password") value) held)
+
+rule_item : (path : List ℕ) (value : Data) → refusal (Table rule_keys) path value ≡ None → IsRule (rule_in value)
+unfolding rule_in rule_keys
+rule_item path value h =
+    let one = neither _ _ (keys-passed rule_keys path value h) in
+    let three = neither _ _ (neither _ _ one.1).1 in
+    let name = key_path path (codes "name") in
+    let place = key_path path (codes "databases") in
+    let named = required-passed (refusal (Text Name)) name (get (codes "name") value) one.0 in
+    let held = required-passed (refusal (Array 1 64 (Text (UpTo 64)))) place (get (codes "databases") value) (neither _ None three.1).0 in
+    (text-fits Name name (at rule_keys (codes "name") value) named, list-within text (Text (UpTo 64)) 1 64 place (at rule_keys (codes "databases") value) held)
+
 kept_groups : (names : List (List ℕ)) (groups : List GroupValues) → AllByRecursion AreMembers groups → All IsGroup (map (group_of names) groups)
 kept_groups names [] all = All-nil IsGroup
 kept_groups names (group ∷ groups) all =
@@ -143,12 +164,16 @@ kept-items tree h =
     let two = neither _ _ one.1 in
     let three = neither _ _ two.1 in
     let six = neither _ _ (neither _ _ (neither _ _ three.1).1).1 in
-    let seven = neither _ None six.1 in
+    let seven = neither _ _ six.1 in
+    let eight = neither _ _ seven.1 in
+    let nine = neither _ None eight.1 in
     let targets = required-passed (refusal (Array 1 64 (Table target_keys))) (codes "target") (get (codes "target") tree) one.0 in
     let groups = default-passed (array no_items) (refusal (Array 0 64 (Table group_keys))) (codes "group") (get (codes "group") tree) refl two.0 in
     let databases = required-passed (refusal (Array 1 64 (Table database_keys))) (codes "database") (get (codes "database") tree) three.0 in
     let indexes = default-passed default_indexes (refusal (Array 0 64 (Table index_keys))) (codes "index") (get (codes "index") tree) indexes-pass six.0 in
     let schemas = default-passed default_schemas (refusal (Array 1 16 (Table schema_keys))) (codes "schema") (get (codes "schema") tree) schemas-pass seven.0 in
+    let users = default-passed (array no_items) (refusal (Array 0 1000 (Table user_keys))) (codes "user") (get (codes "user") tree) refl eight.0 in
+    let rules = default-passed (array no_items) (refusal (Array 0 1000 (Table rule_keys))) (codes "rule") (get (codes "rule") tree) refl nine.0 in
     let kept = array-all database_in (Table database_keys) KeepsLegs database_item 1 64 (codes "database") (at top_keys (codes "database") tree) databases in
     record {
       targets = All-from_recursion IsTarget values.targets (array-all target_in (Table target_keys) IsTarget target_item 1 64 (codes "target") (at top_keys (codes "target") tree) targets);
@@ -158,6 +183,6 @@ kept-items tree h =
       classes = classes-kept values (sizes tree h);
       indexes = All-from_recursion IsIndex values.indexes (array-all index_in (Table index_keys) IsIndex index_item 0 64 (codes "index") (at top_keys (codes "index") tree) indexes);
       schemas = All-from_recursion IsSchema values.schemas (array-all schema_in (Table schema_keys) IsSchema schema_item 1 16 (codes "schema") (at top_keys (codes "schema") tree) schemas);
-      users = All-nil IsUser;
-      rules = All-nil IsRule;
+      users = All-from_recursion IsUser values.users (array-all user_in (Table user_keys) IsUser user_item 0 1000 (codes "user") (at top_keys (codes "user") tree) users);
+      rules = All-from_recursion IsRule values.rules (array-all rule_in (Table rule_keys) IsRule rule_item 0 1000 (codes "rule") (at top_keys (codes "rule") tree) rules);
     }

@@ -5,6 +5,7 @@ pub mod RangeLemmas
 pub mod SizeLemmas
 pub mod KeptItems
 pub mod PlaceLemmas
+pub mod RuleLemmas
 pub mod SoundLemmas
 pub mod TreeLemmas
 pub mod FirstLemmas

@@ -1,19 +1,19 @@
 -- The route of a tree that is refused for nothing keeps its ranges, sizes and places.
 use Rattle.std.proofs.Common.{◌≡◌, ℕ, ◌≤◌, pos, nat_le, true, false, List, [], ◌++◌, codes, None, map, refl, arith}
 use Rattle.std.proofs.lemmas.List.{length-map}
-use Rattle.std.proofs.lemmas.List.Elements.{All-nil}
 use Rattle.std.proofs.lemmas.Bool.Decides.{nat_tests}
 use Rattle.toml.specs.Data.{Data, get, integer, array, no_items, table, no_members}
 use Rattle.route_text.specs.declared.fault.RouteFault.TheVariants.{TtlOrder}
 use Rattle.route_text.specs.declared.values.Values.{Values}
 use Rattle.route_text.specs.Path.{key_path}
 use Rattle.route_text.specs.Kinds.{Number, Array, Table}
-use Rattle.route_text.specs.Keys.{number as number_of, pool_keys, limit_keys, index_keys, schema_keys, group_keys, top_keys, default_indexes, default_schemas}
+use Rattle.route_text.specs.Keys.{number as number_of, pool_keys, limit_keys, index_keys, schema_keys, group_keys, user_keys, rule_keys, top_keys, default_indexes, default_schemas}
 use Rattle.route_text.specs.Refusal.{refusal, of_key, of_keys}
-use Rattle.route_text.specs.Values.{held, number, pool_in, limits_in, group_in, index_in, schema_in, values_in, at}
-use Rattle.route_text.specs.Whole.{twice, no_such, target_names, group_names, member_names, vias, of_whole}
+use Rattle.route_text.specs.Values.{held, number, pool_in, limits_in, group_in, index_in, schema_in, user_in, rule_in, values_in, at}
+use Rattle.route_text.specs.Whole.{twice, no_such_target, no_such_user, no_such_database, target_names, group_names, member_names, vias, ruled_users, ruled_databases, of_whole}
 use Rattle.route_text.specs.RouteOf.{route_of}
 use Rattle.route_config.specs.Sound.{IsFrom, ArePoolNumbers, AreLimits, IsSound}
+use Rattle.route_text.proofs.RuleLemmas.{users_named, databases_named}
 use Rattle.route_text.specs.Configuration.{first_fault}
 use Rattle.route_text.proofs.RangeLemmas.{neither, passed, list-within, keys-passed, default-passed, number-within}
 use Rattle.route_text.proofs.SizeLemmas.{sizes}
@@ -59,18 +59,31 @@ limit_numbers value h =
       sets = number_held 1 1000 32 (codes "limit") (codes "sets") value refl four.0;
     }
 
--- result sets are kept no longer than their sessions, where the whole is refused for nothing
-ttl_order : (values : Values) → of_whole values ≡ None → values.pool.set_ttl ≤ values.pool.session_ttl
+-- what the whole is not refused for: rules name what is there, and result sets are kept no longer than their sessions
+record HoldsWhole (values : Values) : Type 0 where
+  users : no_such_user (map (λ user. user.name) values.users) (ruled_users values) ≡ None
+  databases : no_such_database (map (λ database. database.name) values.databases) (ruled_databases values) ≡ None
+  order : values.pool.set_ttl ≤ values.pool.session_ttl
+
+whole_holds : (values : Values) → of_whole values ≡ None → HoldsWhole values
 unfolding of_whole
-ttl_order values h =
+whole_holds values h =
     let names = target_names values ++ group_names values in
     let one = (neither (twice false names) _ h).1 in
     let two = (neither (twice true (map (λ database. database.name) values.databases)) _ one).1 in
     let three = (neither (twice true (map (λ index. index.name) values.indexes)) _ two).1 in
     let four = (neither (twice false (map (λ schema. schema.name) values.schemas)) _ three).1 in
-    let five = (neither (no_such (target_names values) (member_names values)) _ four).1 in
-    let six = (neither (no_such names (vias values)) _ five).1 in
-    grind (arith, nat_tests, passed (nat_le values.pool.set_ttl values.pool.session_ttl) TtlOrder (neither _ None six).0)
+    let five = (neither (twice false (map (λ user. user.name) values.users)) _ four).1 in
+    let six = (neither (twice false (map (λ rule. rule.name) values.rules)) _ five).1 in
+    let seven = (neither (no_such_target (target_names values) (member_names values)) _ six).1 in
+    let eight = neither (no_such_target names (vias values)) _ seven in
+    let nine = neither (no_such_user (map (λ user. user.name) values.users) (ruled_users values)) _ eight.1 in
+    let ten = neither (no_such_database (map (λ database. database.name) values.databases) (ruled_databases values)) _ nine.1 in
+    record {
+      users = nine.0;
+      databases = ten.0;
+      order = grind (arith, nat_tests, passed (nat_le values.pool.set_ttl values.pool.session_ttl) TtlOrder (neither _ None ten.1).0);
+    }
 
 empty_pool : refusal (Table pool_keys) (codes "pool") (table no_members) ≡ None
 unfolding pool_keys
@@ -91,11 +104,16 @@ sound tree h =
     let four = neither _ _ three.1 in
     let five = neither _ _ four.1 in
     let six = neither _ _ five.1 in
-    let seven = neither _ None six.1 in
+    let seven = neither _ _ six.1 in
+    let eight = neither _ _ seven.1 in
+    let nine = neither _ None eight.1 in
+    let whole = whole_holds (values_in tree) (neither _ _ h).1 in
     let pool = default-passed (table no_members) (refusal (Table pool_keys)) (codes "pool") (get (codes "pool") tree) empty_pool four.0 in
     let limits = default-passed (table no_members) (refusal (Table limit_keys)) (codes "limit") (get (codes "limit") tree) empty_limits five.0 in
     let indexes = default-passed default_indexes (refusal (Array 0 64 (Table index_keys))) (codes "index") (get (codes "index") tree) indexes-pass six.0 in
     let schemas = default-passed default_schemas (refusal (Array 1 16 (Table schema_keys))) (codes "schema") (get (codes "schema") tree) schemas-pass seven.0 in
+    let users = default-passed (array no_items) (refusal (Array 0 1000 (Table user_keys))) (codes "user") (get (codes "user") tree) refl eight.0 in
+    let rules = default-passed (array no_items) (refusal (Array 0 1000 (Table rule_keys))) (codes "rule") (get (codes "rule") tree) refl nine.0 in
     let groups = default-passed (array no_items) (refusal (Array 0 64 (Table group_keys))) (codes "group") (get (codes "group") tree) refl two.0 in
     record {
       places = places (values_in tree) kept;
@@ -105,12 +123,18 @@ sound tree h =
         databases = rw (databases_length 0 (values_in tree).databases) kept.databases;
         indexes = list-within index_in (Table index_keys) 0 64 (codes "index") (at top_keys (codes "index") tree) indexes;
         schemas = list-within schema_in (Table schema_keys) 1 16 (codes "schema") (at top_keys (codes "schema") tree) schemas;
-        users = (omega (arith), omega (arith));
-        rules = (omega (arith), omega (arith));
+        users = list-within user_in (Table user_keys) 0 1000 (codes "user") (at top_keys (codes "user") tree) users;
+        rules = list-within rule_in (Table rule_keys) 0 1000 (codes "rule") (at top_keys (codes "rule") tree) rules;
       };
       items = kept-items tree h;
-      pool = pool_numbers (at top_keys (codes "pool") tree) (keys-passed pool_keys (codes "pool") (at top_keys (codes "pool") tree) pool) (ttl_order (values_in tree) (neither _ _ h).1);
+      pool = pool_numbers (at top_keys (codes "pool") tree) (keys-passed pool_keys (codes "pool") (at top_keys (codes "pool") tree) pool) whole.order;
       limits = limit_numbers (at top_keys (codes "limit") tree) (keys-passed limit_keys (codes "limit") (at top_keys (codes "limit") tree) limits);
-      rules = record { users = All-nil _; databases = All-nil _ };
-      cache = record { records = (omega (arith), omega (arith)); record_bytes = (omega (arith), omega (arith)) };
+      rules = record {
+        users = users_named (values_in tree).users (values_in tree).rules whole.users;
+        databases = databases_named (values_in tree).databases (values_in tree).rules whole.databases;
+      };
+      cache = record {
+        records = (omega arith, omega arith);
+        record_bytes = (omega arith, omega arith);
+      };
     }

@@ -3,7 +3,7 @@
 use Rattle.std.specs.Prelude.{ℕ, List, [], ◌∷◌, ◌++◌, codes}
 use Rattle.std.specs.Fmt.{decimal}
 use Rattle.route_text.specs.declared.fault.RouteFault.{RouteFault}
-use Rattle.route_text.specs.declared.fault.RouteFault.TheVariants.{Toml, Missing, WrongKind, OutOfRange, Twice, NoSuchTarget, TooMany, TtlOrder, Unknown, Memory}
+use Rattle.route_text.specs.declared.fault.RouteFault.TheVariants.{Toml, Missing, WrongKind, OutOfRange, Twice, NoSuchTarget, TooMany, TtlOrder, Unknown, NoSuchUser, NoSuchDatabase, Memory}
 
 abbrev pub fault_number : RouteFault → ℕ
 fault_number Toml = 1
@@ -15,6 +15,8 @@ fault_number (NoSuchTarget name) = 6
 fault_number (TooMany path count) = 7
 fault_number TtlOrder = 8
 fault_number (Unknown path) = 9
+fault_number (NoSuchUser name) = 10
+fault_number (NoSuchDatabase name) = 11
 fault_number Memory = 0
 
 -- two texts with a space between them
@@ -31,4 +33,6 @@ fault_text (NoSuchTarget name) = name
 fault_text (TooMany path count) = spaced path (decimal count)
 fault_text TtlOrder = codes "pool.set_ttl"
 fault_text (Unknown path) = path
+fault_text (NoSuchUser name) = name
+fault_text (NoSuchDatabase name) = name
 fault_text Memory = []

@@ -3,7 +3,7 @@
 use Rattle.std.specs.Prelude.{ℕ, List, [], ◌∷◌, codes, pos, Bool, false}
 use Rattle.z_types.specs.Bounds.{most_number}
 use Rattle.toml.specs.Data.{Data, string, integer, boolean, array, table, no_items, item, no_members, member}
-use Rattle.route_text.specs.declared.rule.TextRule.TheVariants.{Any, Name, DatabaseName, UpTo, IndexName}
+use Rattle.route_text.specs.declared.rule.TextRule.TheVariants.{Any, Name, DatabaseName, UpTo, IndexName, UserName, Effect}
 use Rattle.route_text.specs.Kinds.{Need, required, default, Text, Address, Number, Flag, Array, Table, Keys, keys}
 
 -- the defaults: an integer, no items, an empty table
@@ -67,6 +67,18 @@ schema_keys = keys (
     (codes "uri", required, Text (UpTo 128)) ∷
     (codes "element", required, Text (UpTo 128)) ∷ [])
 
+unfoldable pub user_keys : Keys
+user_keys = keys (
+    (codes "name", required, Text UserName) ∷
+    (codes "password", required, Text (UpTo 64)) ∷ [])
+
+unfoldable pub rule_keys : Keys
+rule_keys = keys (
+    (codes "name", required, Text Name) ∷
+    (codes "effect", required, Text Effect) ∷
+    (codes "user", required, Text (UpTo 64)) ∷
+    (codes "databases", required, Array 1 64 (Text (UpTo 64))) ∷ [])
+
 -- an index and a schema, as the file would write them
 abbrev pub index : List ℕ → ℕ → Data
 index name use_attribute =
@@ -102,4 +114,6 @@ top_keys = keys (
     (codes "pool", empty, Table pool_keys) ∷
     (codes "limit", empty, Table limit_keys) ∷
     (codes "index", default default_indexes, Array 0 64 (Table index_keys)) ∷
-    (codes "schema", default default_schemas, Array 1 16 (Table schema_keys)) ∷ [])
+    (codes "schema", default default_schemas, Array 1 16 (Table schema_keys)) ∷
+    (codes "user", nothing, Array 0 1000 (Table user_keys)) ∷
+    (codes "rule", nothing, Array 0 1000 (Table rule_keys)) ∷ [])

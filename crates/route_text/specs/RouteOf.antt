@@ -90,8 +90,8 @@ route_of values = record {
   limits = values.limits;
   indexes = values.indexes;
   schemas = values.schemas;
-  users = [];
-  rules = [];
+  users = values.users;
+  rules = values.rules;
   cache_records = 0;
   cache_record_bytes = 4096;
 }

@@ -1,14 +1,14 @@
 -- What each text of the configuration may be (this project's own).
 use Rattle.z_types.specs.Same.{is_same}
-use Rattle.std.specs.Prelude.{◌≡◌, ◌<◌, ◌≤◌, MatchOption, ℕ, ◌==◌, ◌&&◌, Bool, true, false, not, List, [], ◌∷◌, length, Option, Some, None, codes, if◌then◌else◌}
+use Rattle.std.specs.Prelude.{◌≡◌, ◌<◌, ◌≤◌, MatchOption, ℕ, ◌==◌, ◌&&◌, ◌||◌, Bool, true, false, not, List, [], ◌∷◌, length, Option, Some, None, codes, if◌then◌else◌}
 use Rattle.std.specs.List.{list_all, slice_split}
 use Rattle.std.specs.Option.{option_map}
 use Rattle.z_types.specs.Digits.{number_after}
 use Rattle.z_types.specs.declared.address.Address.{Address}
 use Rattle.z_types.specs.declared.address.Address.TheVariants.{Test, Tcp}
-use Rattle.route_config.specs.Names.{is_from, is_name, is_database_name, is_index_name}
+use Rattle.route_config.specs.Names.{is_from, is_name, is_database_name, is_index_name, is_user_name}
 use Rattle.route_text.specs.declared.rule.TextRule.{TextRule}
-use Rattle.route_text.specs.declared.rule.TextRule.TheVariants.{Any, Name, DatabaseName, UpTo, IndexName}
+use Rattle.route_text.specs.declared.rule.TextRule.TheVariants.{Any, Name, DatabaseName, UpTo, IndexName, UserName, Effect}
 
 abbrev pub is_digit : ℕ → Bool
 is_digit c = is_from 48 57 c
@@ -53,6 +53,13 @@ parts = slice_split (λ c. c == 58)
 abbrev pub address : List ℕ → Option Address
 address text = address_of (parts text)
 
+-- what an access rule does: it allows, or it denies
+abbrev pub is_allow : List ℕ → Bool
+is_allow text = is_same text (codes "allow")
+
+abbrev pub is_effect : List ℕ → Bool
+is_effect text = is_allow text || is_same text (codes "deny")
+
 -- the text keeps the rule
 abbrev pub fits : TextRule → List ℕ → Bool
 fits Any text = true
@@ -60,3 +67,5 @@ fits Name text = is_name text
 fits DatabaseName text = is_database_name text
 fits (UpTo most) text = is_from 1 most (length text)
 fits IndexName text = is_index_name text
+fits UserName text = is_user_name text
+fits Effect text = is_effect text

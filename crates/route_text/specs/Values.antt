@@ -9,14 +9,16 @@ use Rattle.z_types.specs.declared.schemas.Schema.{Schema}
 use Rattle.route_config.specs.declared.route.Target.{Target}
 use Rattle.route_config.specs.declared.route.PoolNumbers.{PoolNumbers}
 use Rattle.route_config.specs.declared.route.Index.{Index}
+use Rattle.route_config.specs.declared.route.User.{User}
+use Rattle.route_config.specs.declared.route.Rule.{Rule}
 use Rattle.route_text.specs.declared.values.GroupValues.{GroupValues}
 use Rattle.route_text.specs.declared.values.LegValues.{LegValues}
 use Rattle.route_text.specs.declared.values.DatabaseValues.{DatabaseValues}
 use Rattle.route_text.specs.declared.values.Values.{Values}
 use Rattle.z_types.specs.Same.{is_same}
-use Rattle.route_text.specs.Texts.{address}
+use Rattle.route_text.specs.Texts.{address, is_allow}
 use Rattle.route_text.specs.Kinds.{Need, required, default, Keys, no_keys, key}
-use Rattle.route_text.specs.Keys.{target_keys, group_keys, leg_keys, database_keys, pool_keys, limit_keys, index_keys, schema_keys, top_keys}
+use Rattle.route_text.specs.Keys.{target_keys, group_keys, leg_keys, database_keys, pool_keys, limit_keys, index_keys, schema_keys, user_keys, rule_keys, top_keys}
 
 -- what a key holds, or its default; any value where a required key is not there, which is refused
 abbrev pub held : Need → Option Data → Data
@@ -110,6 +112,20 @@ schema_in value = record {
   element = text (at schema_keys (codes "element") value);
 }
 
+unfoldable pub user_in : Data → User
+user_in value = record {
+  name = text (at user_keys (codes "name") value);
+  password = text (at user_keys (codes "password") value);
+}
+
+unfoldable pub rule_in : Data → Rule
+rule_in value = record {
+  name = text (at rule_keys (codes "name") value);
+  allow = is_allow (text (at rule_keys (codes "effect") value));
+  user = text (at rule_keys (codes "user") value);
+  databases = list text (at rule_keys (codes "databases") value);
+}
+
 -- the whole file
 unfoldable pub values_in : Data → Values
 values_in value = record {
@@ -120,4 +136,6 @@ values_in value = record {
   limits = limits_in (at top_keys (codes "limit") value);
   indexes = list index_in (at top_keys (codes "index") value);
   schemas = list schema_in (at top_keys (codes "schema") value);
+  users = list user_in (at top_keys (codes "user") value);
+  rules = list rule_in (at top_keys (codes "rule") value);
 }

@@ -29,6 +29,10 @@ pub enum RouteFault {
     TtlOrder,
     /// The key of this path is none of its table's.
     Unknown(Text),
+    /// A rule is for this, which is no user.
+    NoSuchUser(Text),
+    /// A rule is for this, which is no virtual database.
+    NoSuchDatabase(Text),
     /// No memory could be had.
     Memory,
 }
@@ -36,7 +40,7 @@ pub enum RouteFault {
 impl RouteFault {
     ghost use Rattle.route_text.specs.Fault.{fault_number, fault_text};
 
-    /// The number of the refusal, 1 to 9, and 0 for want of memory.
+    /// The number of the refusal, 1 to 11, and 0 for want of memory.
     pub fn number(&self) -> u32
         ensures { result ≡ fault_number self.now }
     {
@@ -50,6 +54,8 @@ impl RouteFault {
             RouteFault::TooMany(_, _) => 7,
             RouteFault::TtlOrder => 8,
             RouteFault::Unknown(_) => 9,
+            RouteFault::NoSuchUser(_) => 10,
+            RouteFault::NoSuchDatabase(_) => 11,
             RouteFault::Memory => 0,
         }
     }
@@ -72,6 +78,8 @@ impl RouteFault {
             }
             RouteFault::TtlOrder => Text::copy_of(alloc, b"pool.set_ttl"),
             RouteFault::Unknown(path) => copy(path),
+            RouteFault::NoSuchUser(name) => copy(name),
+            RouteFault::NoSuchDatabase(name) => copy(name),
             RouteFault::Memory => Ok(Text::new(alloc)),
         }
     }

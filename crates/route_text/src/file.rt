@@ -32,12 +32,14 @@ pub fn values_in(alloc: Global, file: &Value) -> Result<Values, RouteFault>
     let limits = entry_or_empty(alloc, TOP, file, "limit")?;
     let indexes = entries_or(alloc, TOP, file, "index", 0, 64, default_indexes(alloc)?)?;
     let schemas = entries_or(alloc, TOP, file, "schema", 1, 16, default_schemas(alloc)?)?;
+    let users = entries_or(alloc, TOP, file, "user", 0, 1000, List::new(alloc))?;
+    let rules = entries_or(alloc, TOP, file, "rule", 0, 1000, List::new(alloc))?;
     no_others(
         alloc,
         TOP,
         members,
         &[
-            "target", "group", "database", "pool", "limit", "index", "schema",
+            "target", "group", "database", "pool", "limit", "index", "schema", "user", "rule",
         ],
     )?;
     Ok(Values {
@@ -48,5 +50,7 @@ pub fn values_in(alloc: Global, file: &Value) -> Result<Values, RouteFault>
         limits,
         indexes,
         schemas,
+        users,
+        rules,
     })
 }

@@ -1,6 +1,7 @@
 //! The configuration file: a route, read from the tree of its TOML by the table of keys.
 #![tactic(auto)]
 
+mod access;
 mod address;
 mod class;
 mod database;

@@ -3,10 +3,10 @@
 ghost use Rattle.std.specs.Prelude.{◌≡◌, ◌++◌, ℕ, List as ListOf, [], map, not, OnOk, IfOk};
 ghost use Rattle.std.specs.List.{find, list_any};
 ghost use Rattle.std.specs.Option.{option_copied};
-ghost use Rattle.route_text.specs.Whole.{again, sameness, is_among};
+ghost use Rattle.route_text.specs.Whole.{again, sameness, is_among, is_ruled_database, is_ruled_user};
 
 use crate::{DatabaseValues, GroupValues, LegValues};
-use route_config::{Index, Target};
+use route_config::{ANONYMOUS, EVERY, Index, Rule, Target, User};
 use std::alloc::Global;
 use z_types::{List, Memory, Schema, Text};
 
@@ -75,6 +75,22 @@ impl Named for Schema {
     }
 }
 
+impl Named for User {
+    ghost named = { λ user. user.name };
+
+    fn name(&self) -> &[u8] {
+        self.name.as_slice()
+    }
+}
+
+impl Named for Rule {
+    ghost named = { λ rule. rule.name };
+
+    fn name(&self) -> &[u8] {
+        self.name.as_slice()
+    }
+}
+
 /// Puts the names of things at the end of others.
 pub fn push_names<T: Named>(
     alloc: Global,
@@ -137,4 +153,35 @@ pub fn stranger<'a>(known: &[Text], names: &'a [Text]) -> Option<&'a Text>
     names
         .iter()
         .find(|name| !is_known(false, known, name.as_slice()))
+}
+
+/// The first name that no rule may have for its user.
+pub fn no_user<'a>(users: &[Text], names: &'a [Text]) -> Option<&'a Text>
+    ensures { option_copied result ≡ find (λ name. not (is_ruled_user users.now name)) names.now }
+{
+    names
+        .iter()
+        .find(|name| !is_ruled_user(users, name.as_slice()))
+}
+
+fn is_ruled_user(users: &[Text], name: &[u8]) -> bool
+    ensures { result ≡ is_ruled_user users.now name.now }
+{
+    name == EVERY || name == ANONYMOUS || is_known(false, users, name)
+}
+
+/// The first name that no rule may have for a database.
+pub fn no_database<'a>(databases: &[Text], names: &'a [Text]) -> Option<&'a Text>
+    ensures { option_copied result
+        ≡ find (λ name. not (is_ruled_database databases.now name)) names.now }
+{
+    names
+        .iter()
+        .find(|name| !is_ruled_database(databases, name.as_slice()))
+}
+
+fn is_ruled_database(databases: &[Text], name: &[u8]) -> bool
+    ensures { result ≡ is_ruled_database databases.now name.now }
+{
+    name == EVERY || is_known(true, databases, name)
 }

@@ -12,7 +12,7 @@ use crate::route::{firsts, groups_of};
 use crate::whole::vias;
 use route_config::RouteParts;
 use std::alloc::Global;
-use z_types::{List, Memory};
+use z_types::Memory;
 
 /// What the route is made of, of the values of a configuration that is refused for nothing.
 #[tactic(auto, unfolding(crate::specs::RouteOf::route_of), using(crate::proofs::SizeLemmas::counts))]
@@ -37,8 +37,8 @@ pub fn route_of(alloc: Global, values: Values) -> Result<RouteParts, Memory>
         limits: values.limits,
         indexes: values.indexes,
         schemas: values.schemas,
-        users: List::new(alloc),
-        rules: List::new(alloc),
+        users: values.users,
+        rules: values.rules,
         cache_records: 0,
         cache_record_bytes: 4096,
     })

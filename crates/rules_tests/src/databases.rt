@@ -3,7 +3,7 @@
 use case_files::{Answer, NoAnswer, number_of};
 use route_config::{Database, Route, RouteLeg, RouteParts};
 use std::alloc::Global;
-use virt_db::{DbFault, LentLeg, leg_at, legs_of};
+use virt_db::{DbFault, LentLeg, databases_of, leg_at, legs_of};
 use z_types::{Address, List, Memory, Text};
 
 /// Whether a call is one of these. Its answer is put at the end.
@@ -25,12 +25,18 @@ pub(crate) fn is_answered(
 /// The places of the legs that names stand for, or why there are none.
 fn put_legs(alloc: Global, out: &mut Answer, letters: &str) -> Result<(), NoAnswer> {
     let names = named(alloc, letters.as_bytes())?;
-    match legs_of(alloc, &route(alloc)?, &names) {
+    match legs_named(alloc, &route(alloc)?, &names) {
         Ok(legs) => out.put_numbers(" ", legs.as_slice()),
         Err(DbFault::Memory) => return Err(NoAnswer::Memory),
         Err(fault) => put_fault(out, &fault),
     }
     Ok(())
+}
+
+/// The places of the legs of the databases of these names, or why there are none.
+fn legs_named(alloc: Global, route: &Route, names: &List<Text>) -> Result<List<u32>, DbFault> {
+    let databases = databases_of(alloc, route, names)?;
+    legs_of(alloc, route, &databases)
 }
 
 /// Why there are no legs.

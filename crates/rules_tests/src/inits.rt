@@ -1,13 +1,14 @@
 //! Inits and what they are answered. A subject is the versions and options that are asked for, in hexadecimal
-//! digits, and the size; each has the referenceId `ab`, the exceptional size 7 and a login.
+//! digits, and the size; each has the referenceId `ab`, the exceptional size 7 and no login, and comes under the
+//! smallest route.
+
+ghost use Rattle.std.specs.Prelude.{◌≡◌, IfOk, None};
 
 use case_files::{Answer, NoAnswer};
 use front_session::gateway_rules::{init_reply, is_accepted};
+use route_config::Route;
 use std::alloc::Global;
 use z_types::{Init, Reply, Text};
-
-/// The login of each Init: an open idAuthentication, the VisibleString `a`.
-const LOGIN: &[u8] = b"\x1a\x01a";
 
 /// Whether a call is one of these. Its answer is put at the end.
 pub(crate) fn is_answered(
@@ -17,15 +18,29 @@ pub(crate) fn is_answered(
     out: &mut Answer,
 ) -> Result<bool, NoAnswer> {
     match call {
-        "init_reply" => put_reply(out, &init_reply(&init_of(alloc, words)?)?),
-        "is_accepted" => out.print(&is_accepted(&init_of(alloc, words)?)),
+        "init_reply" => put_reply(out, &reply_to(alloc, words)?),
+        "is_accepted" => out.print(&is_accepted_by(alloc, words)?),
         _ => return Ok(false),
     }
     Ok(true)
 }
 
+/// The reply to an Init.
+fn reply_to(alloc: Global, words: &str) -> Result<Reply, NoAnswer> {
+    let init = init_of(alloc, words)?;
+    Ok(init_reply(&Route::smallest(alloc)?, &init)?)
+}
+
+/// Whether an Init is accepted.
+fn is_accepted_by(alloc: Global, words: &str) -> Result<bool, NoAnswer> {
+    let init = init_of(alloc, words)?;
+    Ok(is_accepted(&Route::smallest(alloc)?, &init))
+}
+
 /// An Init.
-fn init_of(alloc: Global, words: &str) -> Result<Init, NoAnswer> {
+fn init_of(alloc: Global, words: &str) -> Result<Init, NoAnswer>
+    ensures { IfOk result (λ init. init.login ≡ None) }
+{
     let Some((versions, words)) = words.split_once(' ') else {
         return Err(NoAnswer::Misspelt);
     };
@@ -38,7 +53,7 @@ fn init_of(alloc: Global, words: &str) -> Result<Init, NoAnswer> {
         options: bits_of(options)?,
         preferred: size.parse().or(Err(NoAnswer::Misspelt))?,
         exceptional: 7,
-        login: Some(Text::copy_of(alloc, LOGIN)?),
+        login: None,
     })
 }
 

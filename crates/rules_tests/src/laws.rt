@@ -6,7 +6,8 @@ ghost use Rattle.z_types.specs.Bounds.{most_number};
 
 use case_files::{Answer, NoAnswer};
 use front_session::gateway_rules::{
-    fair_legs, one_answer, one_end, one_reading, rest_ends, runs_go_on, some_answer, units_end,
+    access_is_kept, courses_ask_open, fair_legs, one_answer, one_end, one_reading, rest_ends,
+    runs_go_on, some_answer, units_end,
 };
 use z_types::World;
 
@@ -44,6 +45,8 @@ pub(crate) fn is_answered(call: &str, words: &str, out: &mut Answer) -> Result<b
         "units_end" => units_end::<EmptyWorld>(),
         "rest_ends" => rest_ends::<EmptyWorld>(),
         "fair_legs" => fair_legs::<EmptyWorld>(),
+        "access_is_kept" => access_is_kept::<EmptyWorld>(),
+        "courses_ask_open" => courses_ask_open::<EmptyWorld>(),
         _ => return Err(NoAnswer::Misspelt),
     }
     out.put("called");

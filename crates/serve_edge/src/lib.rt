@@ -4,6 +4,7 @@
 
 mod crossing;
 mod listening;
+mod passwords;
 mod serving;
 mod targets;
 #[cfg(test)]

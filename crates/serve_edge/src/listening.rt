@@ -1,18 +1,20 @@
 //! The listener of a port.
 
 use log::{Log, error};
+use route_config::Route;
 use serve_top::ServeWords;
 use std::io::Result;
 use std::net::{IpAddr, Net, SocketAddr, TcpListener, TcpStream};
 
 /// A listener at an address of this machine and the port that is asked for, or nothing where the system
-/// refuses it. The standard error is told which, and of an address that is not loopback that there clients
-/// of other machines may ask, as nothing else says who may.
+/// refuses it. The standard error is told which, and of an address that is not loopback, where the route has
+/// no rules, that nothing says which clients of other machines may search.
 pub(crate) fn listen<R: Net<Listener = TcpListener, Stream = TcpStream> + Eprint, L: Log>(
     runtime: &R,
     log: &L,
     address: IpAddr,
     asked: ServeWords,
+    route: &Route,
 ) -> Option<TcpListener> {
     let (port, workers) = (asked.port, asked.workers);
     match bind(runtime, address, port) {
@@ -20,9 +22,9 @@ pub(crate) fn listen<R: Net<Listener = TcpListener, Stream = TcpStream> + Eprint
             let _ = eprintln!(runtime;
                 "listening on {address}, port {port}, with {workers} workers"
             );
-            if !address.is_loopback() {
+            if !address.is_loopback() && route.parts().rules.is_empty() {
                 let _ = eprintln!(runtime;
-                    "clients of other machines may connect, and no rules say who may ask"
+                    "clients of other machines may connect, and no rules say who may search"
                 );
             }
             Some(listener)

@@ -4,6 +4,7 @@ ghost use Rattle.gateway_config.specs.Outside.{sink_writes};
 ghost use Rattle.serve_top.specs.Outcome.{IsPrinted};
 
 use crate::listening::listen;
+use crate::passwords::tell_passwords;
 use crate::targets::{add_targets, tell_limit};
 use crate::workers::{Edge, workers};
 use gateway_config::{ConfigRead, Status, read_config};
@@ -50,6 +51,7 @@ pub fn serve<
     let (listener, count) = match asked_of(words) {
         Some(asked) => {
             let route = route_of(alloc, words, files);
+            tell_passwords(runtime, log, route.as_ref(), words.get(1));
             let listener = open(runtime, log, address, asked, route, &mut totals);
             (listener.map(Mutex::new), asked.workers)
         }
@@ -84,7 +86,7 @@ fn open<R: Net<Listener = TcpListener, Stream = TcpStream> + Eprint, L: Log>(
     let route = route?;
     let _ = add_targets(totals, &route);
     tell_limit(log, &route, asked.workers);
-    listen(runtime, log, address, asked)
+    listen(runtime, log, address, asked, &route)
 }
 
 /// Serves over the system's files and sockets.

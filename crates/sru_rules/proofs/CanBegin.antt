@@ -1,5 +1,5 @@
 -- What a GET searches for is within the bounds of works, and both its works can begin.
-use Rattle.std.proofs.Common.{◌≡◌, ◌≤◌, ◌+◌, ◌-◌, ◌==◌, ◌||◌, ◌&&◌, ℕ, zero, suc, Bool, true, false, List, [], ◌∷◌, length, cond, min, max, find, slice_get, option_map, codes, Option, Some, None, Result, Ok, Err, refl, subst, arith, All}
+use Rattle.std.proofs.Common.{◌≡◌, ◌≤◌, ◌+◌, ◌-◌, ◌==◌, ◌||◌, ◌&&◌, ℕ, zero, suc, Bool, true, false, List, [], ◌∷◌, length, cond, min, max, find, slice_get, option_map, codes, Option, Some, None, Result, Ok, Err, refl, ap, subst, arith, All}
 use Rattle.std.specs.Prelude.{nat_lt, nat_le}
 use Rattle.std.specs.List.{AllByRecursion}
 use Rattle.std.specs.Option.{option_and_then}
@@ -13,6 +13,7 @@ use Rattle.z_types.specs.MergedOrder.{total}
 use Rattle.z_types.specs.QueryMeasures.{tree_depth, tree_cost}
 use Rattle.z_types.specs.Tree as rpn
 use Rattle.z_types.specs.Tree.{tree_size}
+use Rattle.z_types.specs.declared.diagnostic.Diag.{Diag}
 use Rattle.z_types.specs.declared.query.RpnQuery.{RpnQuery}
 use Rattle.z_types.specs.declared.schemas.Schema.{Schema}
 use Rattle.z_types.specs.declared.sru.SruAnswer.{SruAnswer}
@@ -24,6 +25,8 @@ use Rattle.route_config.specs.Sound.{IsSound, IsDatabase, IsIndex, IsSchema}
 use Rattle.route_config.specs.declared.route.Database.{Database}
 use Rattle.route_config.specs.declared.route.Index.{Index}
 use Rattle.route_config.specs.declared.route.Route.{Route}
+use Rattle.access_rules.specs.declared.who.Who.TheVariants.{Anonymous}
+use Rattle.access_rules.specs.Denials.{first_denial}
 use Rattle.limit_rules.specs.Limits.{most_records}
 use Rattle.gateway_rules.specs.Checks.{is_too_long}
 use Rattle.cql_map.specs.Bib1.{bib1_attributes}
@@ -38,7 +41,7 @@ use Rattle.z_types.specs.Digits.{number_after}
 use Rattle.sru_request.specs.Parameters.{parameters_of, value_of}
 use Rattle.sru_rules.specs.declared.retrieval.Retrieval.{Retrieval}
 use Rattle.sru_rules.specs.Course.{IsGetOf}
-use Rattle.sru_rules.specs.Asking.{is_too_large, within_limits, unless_faulty, rpn_of, fetched_count, fetch_work}
+use Rattle.sru_rules.specs.Asking.{is_too_large, within_limits, unless_faulty, rpn_of, unless_denied, open_query, fetched_count, fetch_work}
 use Rattle.sru_rules.specs.Laws.{GetIsRetrieval, SearchCanBegin, FetchCanBegin}
 use Rattle.sru_rules.specs.Reading.{CqlText, broken, deep, parsed, Reading, refused, taken}
 use Rattle.sru_rules.specs.Run.{searches, due, due_by}
@@ -137,6 +140,17 @@ most_of (Some number) n is = let e : min number 100 ≡ n = cc in omega (arith, 
 
 -- ---- a GET
 
+-- a query that is open was read so
+opened : (version : List ℕ) (denial : Option Diag) (query found : RpnQuery) → unless_denied version denial query ≡ Ok found → query ≡ found
+opened version None query found h = cc
+opened version (Some diag) query found h = absurd cc
+
+read_so : (route : Route) (database : Database) (version : List ℕ) (read : Result RpnQuery SruDiag) (query : RpnQuery)
+    → open_query route database version read ≡ Ok query → read ≡ Ok query
+read_so route database version (Err diag) query h = absurd cc
+read_so route database version (Ok found) query h =
+    ap Ok (opened version (first_denial route Anonymous (database.name ∷ [])) found query h)
+
 of_query : (route : Route) (database : Database) (asked : SruQuery) (read : Result RpnQuery SruDiag) (retrieval : Retrieval)
     → length database.legs ≤ most_legs → 1 ≤ asked.start → asked.maximum ≤ most_records
     → ((query : RpnQuery) → read ≡ Ok query → IsAskableQuery query) → due_by database asked read ≡ searches retrieval
@@ -156,12 +170,14 @@ of_reading : (route : Route) (get : Get) (database : Database) (reading : Readin
 of_reading route get database (refused diag) retrieval sound has is = absurd cc
 of_reading route get database (taken asked text) retrieval sound has is =
     let fields = has.is_reading.0.is in
-    of_query route database asked (rpn_of asked.version route.indexes text) retrieval
+    let read = rpn_of asked.version route.indexes text in
+    of_query route database asked (open_query route database asked.version read) retrieval
     (few_legs route (name_of get.path) database sound has.found)
     (start_from_one (value_of (codes "startRecord") (parameters_of get.query)) asked.start fields.start)
     (most_of _ asked.maximum fields.maximum)
-    (λ query. askable asked.version route.indexes text query
-    (have_numbers route.indexes (recursion_from_All IsIndex route.indexes sound.items.indexes)))
+    (λ query found. askable asked.version route.indexes text query
+    (have_numbers route.indexes (recursion_from_All IsIndex route.indexes sound.items.indexes))
+    (read_so route database asked.version read query found))
     is
 
 pub get_is_retrieval : GetIsRetrieval

@@ -7,4 +7,5 @@ mod Stays
 mod BothWorks
 mod Classes
 mod Mapped
+mod Opened
 pub mod CanBegin

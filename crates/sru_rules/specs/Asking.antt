@@ -7,19 +7,24 @@ use Rattle.z_types.specs.QueryMeasures.{tree_depth, tree_cost}
 use Rattle.z_types.specs.Tree as rpn
 use Rattle.z_types.specs.Tree.{tree_size}
 use Rattle.z_types.specs.MergedOrder.{total}
+use Rattle.z_types.specs.declared.diagnostic.Diag.{Diag}
 use Rattle.z_types.specs.declared.query.RpnQuery.{RpnQuery}
 use Rattle.z_types.specs.declared.schemas.Schema.{Schema}
 use Rattle.z_types.specs.declared.sru.SruDiag.{SruDiag}
 use Rattle.z_types.specs.declared.work.Work.{Work}
 use Rattle.z_types.specs.declared.work.Work.TheVariants as work
+use Rattle.route_config.specs.declared.route.Database.{Database}
 use Rattle.route_config.specs.declared.route.Index.{Index}
+use Rattle.route_config.specs.declared.route.Route.{Route}
+use Rattle.access_rules.specs.declared.who.Who.TheVariants.{Anonymous}
+use Rattle.access_rules.specs.Denials.{first_denial}
 use Rattle.cql_map.specs.Bib1.{bib1_attributes}
 use Rattle.cql_map.specs.declared.fault.MapFault.{MapFault}
 use Rattle.cql_map.specs.Faults.{all_faults}
 use Rattle.cql_map.specs.Mapped.{mapped}
 use Rattle.sru_request.specs.declared.query.SruQuery.{SruQuery}
 use Rattle.sru_rules.specs.declared.retrieval.Retrieval.{Retrieval}
-use Rattle.sru_rules.specs.Diagnostics.{query_syntax_error, query_feature_unsupported, not_mapped}
+use Rattle.sru_rules.specs.Diagnostics.{query_syntax_error, query_feature_unsupported, not_mapped, of_target}
 use Rattle.sru_rules.specs.Reading.{CqlText, broken, deep, parsed}
 
 -- ---- the query
@@ -49,6 +54,21 @@ rpn_of version indexes (broken place) = Err (query_syntax_error version place)
 rpn_of version indexes deep = Err (query_feature_unsupported version)
 rpn_of version indexes (parsed tree) =
     unless_faulty version (all_faults indexes tree) (within_limits version (mapped indexes tree))
+
+-- ---- access
+
+-- a query, unless access is denied: 236, by the table from bib-1 to SRU
+abbrev pub unless_denied : (version : List ℕ) → Option Diag → RpnQuery → Result RpnQuery SruDiag
+unless_denied version None query = Ok query
+unless_denied version (Some diag) query = Err (of_target version diag)
+
+-- the query of a GET of a virtual database, which is nobody's: behind all its checks, whether
+-- anyone may search it
+abbrev pub open_query : Route → Database → (version : List ℕ) → Result RpnQuery SruDiag
+    → Result RpnQuery SruDiag
+open_query route database version (Err diag) = Err diag
+open_query route database version (Ok query) =
+    unless_denied version (first_denial route Anonymous (database.name ∷ [])) query
 
 -- ---- the search
 

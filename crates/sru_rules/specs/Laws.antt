@@ -10,6 +10,8 @@ use Rattle.z_types.specs.declared.world.World as world
 use Rattle.route_config.specs.declared.route.Database.{Database}
 use Rattle.route_config.specs.declared.route.Route.{Route}
 use Rattle.route_config.specs.Sound.{IsSound}
+use Rattle.access_rules.specs.declared.who.Who.TheVariants.{Anonymous}
+use Rattle.access_rules.specs.Access.{MaySearch}
 use Rattle.gateway_rules.specs.Answers.{kind_of, letter}
 use Rattle.gateway_rules.specs.Marks.{Cause, IsAllowed}
 use Rattle.gateway_rules.specs.OneAnswer.{AreMarksPlain}
@@ -169,6 +171,13 @@ GetIsRetrieval =
     (route : Route) (get : Get) (database : Database) (reading : Reading) (retrieval : Retrieval)
     → IsSound route → IsGetOf route get database reading
     → due route database reading ≡ searches retrieval → IsRetrieval retrieval
+
+-- what a GET searches is a database that anyone may search, and the legs are that database's
+abbrev pub GetIsOpen : Type 0
+GetIsOpen =
+    (route : Route) (database : Database) (reading : Reading) (retrieval : Retrieval)
+    → due route database reading ≡ searches retrieval
+    → MaySearch route Anonymous database.name × (retrieval.legs ≡ database.legs)
 
 -- the search can begin
 abbrev pub SearchCanBegin : Type 0

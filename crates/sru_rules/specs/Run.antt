@@ -17,7 +17,7 @@ use Rattle.sru_reply.specs.Bare.{bare}
 use Rattle.sru_reply.specs.Reply.{reply}
 use Rattle.sru_request.specs.declared.query.SruQuery.{SruQuery}
 use Rattle.sru_rules.specs.declared.retrieval.Retrieval.{Retrieval}
-use Rattle.sru_rules.specs.Asking.{rpn_of, search_work}
+use Rattle.sru_rules.specs.Asking.{rpn_of, open_query, search_work}
 use Rattle.sru_rules.specs.Course.{Course, ends, answers}
 use Rattle.sru_rules.specs.Reading.{Reading, refused, taken}
 use Rattle.sru_rules.specs.Settling.{Next, answered, fetches, refusal, fetch_answer, after_search}
@@ -39,7 +39,8 @@ due_by database asked (Ok query) =
 abbrev pub due : Route → Database → Reading → Due
 due route database (refused diag) = at_once (refusal diag)
 due route database (taken asked text) =
-    due_by database asked (rpn_of asked.version route.indexes text)
+    due_by database asked
+    (open_query route database asked.version (rpn_of asked.version route.indexes text))
 
 -- what follows the search under a cause
 abbrev pub next_of : {W : Type 0} → world.Ghosts W → Route → Retrieval → Cause → Next

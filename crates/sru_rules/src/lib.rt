@@ -12,7 +12,7 @@ pub use laws::{
     some_answer,
 };
 pub use retrieval::Retrieval;
-pub use works::{works_answer, works_can_begin};
+pub use works::{get_is_open, works_answer, works_can_begin};
 
 // Handed on: crates above name these through this one.
 pub use gateway_rules;

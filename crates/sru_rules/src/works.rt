@@ -4,6 +4,7 @@ ghost use Rattle.sru_rules.specs.Laws.{
   FetchAnswers,
   FetchCanBegin,
   FoundIsMeant,
+  GetIsOpen,
   GetIsRetrieval,
   MarkIsKept,
   SearchAnswers,
@@ -25,4 +26,9 @@ pub fn works_can_begin()
     ensures retrieval { GetIsRetrieval }
     ensures search { SearchCanBegin }
     ensures fetch { FetchCanBegin }
+{}
+
+/// The targets are asked for a GET only of a database that the route opens to anyone.
+pub fn get_is_open()
+    ensures { GetIsOpen }
 {}

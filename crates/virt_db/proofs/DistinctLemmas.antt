@@ -1,13 +1,10 @@
 -- Names of which each differs from the others, in any case of ASCII letters
-use Rattle.std.proofs.Common.{◌≡◌, ◌<◌, ◌+◌, ℕ, List, [], ◌∷◌, ◌++◌, find, filter, not, refl, Bool, true, false, cond, ◌||◌, length, take, get_or, is_none, sym, ap, ◌∙◌, add-one}
-use Rattle.std.specs.Str.{str_eq_ignore_ascii_case, bytes_eq, str_to_ascii_lowercase}
+use Rattle.std.proofs.Common.{◌≡◌, ◌<◌, ◌+◌, ℕ, List, [], ◌∷◌, ◌++◌, filter, not, refl, Bool, true, false, cond, ◌||◌, length, take, get_or, sym, ap, ◌∙◌, add-one}
+use Rattle.std.specs.Str.{str_eq_ignore_ascii_case}
 use Rattle.std.proofs.lemmas.List.Elements.{filter-append}
 use Rattle.std.proofs.lemmas.List.{append-nil}
 use Rattle.std.proofs.Math.Seq.{take-suc}
-use Rattle.z_types.specs.equality.Tests.{text_exact}
-use Rattle.route_config.specs.Lookup.{database_named}
-use Rattle.route_config.specs.declared.route.Route.{Route}
-use Rattle.virt_db.specs.Legs.{distinct, first_unknown}
+use Rattle.virt_db.specs.Legs.{distinct}
 use Rattle.virt_db.specs.Names.{is_named_among}
 
 kept_last : (same : Bool) (kept : List (List ℕ)) (x : List ℕ) (p : List ℕ → Bool) → p x ≡ not same → kept ++ filter p (x ∷ []) ≡ cond same kept (kept ++ x ∷ [])
@@ -30,44 +27,6 @@ distinct-push [] x = refl
 distinct-push (name ∷ names) x =
     ap (λ rest. name ∷ filter (λ other. not (str_eq_ignore_ascii_case name other)) rest) (distinct-push names x)
     ∙ with_last (str_eq_ignore_ascii_case name x) (is_named_among x names) name x (distinct names) refl
-
--- ---- the first that passes a test which does not see case
-
-find_kept_one : (here kept : Bool) (x : List ℕ) (xs : List (List ℕ)) (p q : List ℕ → Bool) → p x ≡ here → q x ≡ kept → (here ≡ true → kept ≡ true) → find p (filter q xs) ≡ find p xs → find p (filter q (x ∷ xs)) ≡ find p (x ∷ xs)
-find_kept_one true true x xs p q e f h rest = rw (f, e) refl
-find_kept_one false true x xs p q e f h rest = rw (f, e) rest
-find_kept_one false false x xs p q e f h rest = rw (f, e) rest
-find_kept_one true false x xs p q e f h rest = cc (h refl)
-
-find-kept : (p q : List ℕ → Bool) (xs : List (List ℕ)) → ((x : List ℕ) → p x ≡ true → q x ≡ true) → find p (filter q xs) ≡ find p xs
-find-kept p q [] h = refl
-find-kept p q (x ∷ xs) h = find_kept_one (p x) (q x) x xs p q refl refl (h x) (find-kept p q xs h)
-
-differs_one : (same here there : Bool) → (same ≡ true → here ≡ there) → here ≡ false → there ≡ true → not same ≡ true
-differs_one true here there h e f = let q = h refl in cc
-differs_one false here there h e f = refl
-
-find_head_one : (here : Bool) (p : List ℕ → Bool) (name : List ℕ) (names kept : List (List ℕ)) → p name ≡ here → (here ≡ false → find p kept ≡ find p names) → find p (name ∷ kept) ≡ find p (name ∷ names)
-find_head_one true p name names kept e h = rw e refl
-find_head_one false p name names kept e h = rw e (h refl)
-
--- is the first of all
-pub find-distinct : (p : List ℕ → Bool) → ((a b : List ℕ) → str_eq_ignore_ascii_case a b ≡ true → p a ≡ p b) → (names : List (List ℕ)) → find p (distinct names) ≡ find p names
-find-distinct p respects [] = refl
-find-distinct p respects (name ∷ names) =
-    find_head_one (p name) p name names (filter (λ other. not (str_eq_ignore_ascii_case name other)) (distinct names)) refl
-    (λ e. find-kept p (λ other. not (str_eq_ignore_ascii_case name other)) (distinct names)
-    (λ x f. differs_one (str_eq_ignore_ascii_case name x) (p name) (p x) (respects name x) e f)
-    ∙ find-distinct p respects names)
-
-unknown_respects : (route : Route) (a b : List ℕ) → str_eq_ignore_ascii_case a b ≡ true → is_none (database_named route a) ≡ is_none (database_named route b)
-unknown_respects route a b h =
-    let e : str_to_ascii_lowercase a ≡ str_to_ascii_lowercase b = text_exact (str_to_ascii_lowercase a) (str_to_ascii_lowercase b) h in
-    ap (λ lower. is_none (find (λ database. bytes_eq (str_to_ascii_lowercase database.name) lower) route.databases)) e
-
--- the first unknown name
-pub first_unknown-distinct : (route : Route) (names : List (List ℕ)) → first_unknown route (distinct names) ≡ first_unknown route names
-first_unknown-distinct route names = find-distinct (λ name. is_none (database_named route name)) (unknown_respects route) names
 
 -- ---- a name more
 

@@ -1,3 +1,2 @@
 pub mod DistinctLemmas
 pub mod SeenLemmas
-pub mod LegLemmas

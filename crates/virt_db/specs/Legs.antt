@@ -1,5 +1,5 @@
 -- Which legs a list of database names is, and where each goes (this project's own)
-use Rattle.std.specs.Prelude.{◌≡◌, ℕ, ◌==◌, not, List, [], ◌∷◌, length, Option, None, Some, option_map, option_and_then, filter, find}
+use Rattle.std.specs.Prelude.{ℕ, ◌==◌, not, List, [], ◌∷◌, length, Option, None, Some, option_map, option_and_then, filter, find}
 use Rattle.std.specs.Prelude.{flat_map, is_none, slice_get, nat_lt, Result, Ok, Err, if◌then◌else◌}
 use Rattle.std.specs.Str.{str_eq_ignore_ascii_case}
 use Rattle.z_types.specs.Bounds.{most_databases, most_legs}
@@ -10,7 +10,7 @@ use Rattle.route_config.specs.declared.route.Database.{Database}
 use Rattle.route_config.specs.declared.route.Class.{Class}
 use Rattle.route_config.specs.Lookup.{database_named}
 use Rattle.virt_db.specs.declared.fault.DbFault.{DbFault}
-use Rattle.virt_db.specs.declared.fault.DbFault.TheVariants.{Unknown, TooMany, Memory}
+use Rattle.virt_db.specs.declared.fault.DbFault.TheVariants.{Unknown, TooMany}
 
 -- ---- the legs of names
 
@@ -24,37 +24,35 @@ distinct (name ∷ names) =
 abbrev pub first_unknown : Route → List (List ℕ) → Option (List ℕ)
 first_unknown route names = find (λ name. is_none (database_named route name)) names
 
+-- why names of which each differs from the others are no databases: there is none, there are too
+-- many, or one is not there
+abbrev pub fault_among : Route → List (List ℕ) → Option DbFault
+fault_among route names =
+    if length names == 0 then Some (Unknown [])
+    else if nat_lt most_databases (length names) then Some (TooMany (length names))
+    else option_map Unknown (first_unknown route names)
+
+-- why names are no databases
+abbrev pub why_none : Route → List (List ℕ) → Option DbFault
+why_none route names = fault_among route (distinct names)
+
 -- the legs of a virtual database, by their places in the route
 abbrev pub legs_behind : Option Database → List ℕ
 legs_behind None = []
 legs_behind (Some database) = database.legs
 
+-- the legs of the virtual databases of names of which each differs from the others, in the order
+-- named
+abbrev pub legs_among : Route → List (List ℕ) → List ℕ
+legs_among route names = flat_map (λ name. legs_behind (database_named route name)) names
+
 -- the legs of the virtual databases of these names, in the order named
 abbrev pub legs_of : Route → List (List ℕ) → List ℕ
-legs_of route names = flat_map (λ name. legs_behind (database_named route name)) (distinct names)
+legs_of route names = legs_among route (distinct names)
 
 -- legs that are not too many
 abbrev pub few_legs : List ℕ → Result (List ℕ) DbFault
 few_legs legs = if nat_lt most_legs (length legs) then Err (TooMany (length legs)) else Ok legs
-
--- the legs of databases that are all there
-abbrev pub known_legs : Route → List (List ℕ) → Option (List ℕ) → Result (List ℕ) DbFault
-known_legs route names (Some unknown) = Err (Unknown unknown)
-known_legs route names None = few_legs (legs_of route names)
-
--- the legs of databases: some, not too many, each of them there, with not too many legs; or the
--- first of these that fails
-abbrev pub found_legs : Route → List (List ℕ) → Result (List ℕ) DbFault
-found_legs route names =
-    let databases = length (distinct names) in
-    if databases == 0 then Err (Unknown [])
-    else if nat_lt most_databases databases then Err (TooMany databases)
-    else known_legs route names (first_unknown route names)
-
--- the legs of databases, or why there are none; want of memory has no cause
-abbrev pub AreLegsOf : Route → List (List ℕ) → Result (List ℕ) DbFault → Type 0
-AreLegsOf route names (Err Memory) = Unit {0}
-AreLegsOf route names answer = answer ≡ found_legs route names
 
 -- ---- where a leg goes
 

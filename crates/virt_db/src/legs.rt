@@ -1,11 +1,12 @@
-//! The legs that database names stand for.
+//! The databases that names stand for, and their legs.
 
-ghost use Rattle.std.specs.Prelude.{◌≡◌, ℕ, List, ◌∷◌, [], ◌++◌, not, find, IfOk, OnOk, is_none};
+ghost use Rattle.std.specs.Prelude.{◌≡◌, ℕ, List, ◌∷◌, [], ◌++◌, not, find, option_map, IfOk, OnOk, is_none};
 ghost use Rattle.std.specs.Option.{option_copied};
 ghost use Rattle.route_config.specs.Lookup.{database_named};
+ghost use Rattle.virt_db.specs.declared.fault.DbFault.TheVariants.{Unknown};
 ghost use Rattle.virt_db.specs.Fault.{IsOrMemory};
-ghost use Rattle.virt_db.specs.Legs.{AreLegsOf, distinct, few_legs, first_unknown};
-ghost use Rattle.virt_db.specs.Names.{is_named_among, HasNames, legs_among, known_among};
+ghost use Rattle.virt_db.specs.Legs.{distinct, fault_among, few_legs, first_unknown, legs_among};
+ghost use Rattle.virt_db.specs.Names.{AreDatabasesOf, is_named_among, HasNames};
 
 use crate::DbFault;
 use route_config::{Route, database_named};
@@ -13,23 +14,29 @@ use std::alloc::Global;
 use std::collections::BTreeSet;
 use z_types::{List, MOST_DATABASES, MOST_LEGS, Memory, Text, copy};
 
-/// The places in the route of the legs that database names stand for: the legs of each virtual database
-/// in the order named. Case of ASCII letters makes no difference, and a name that was named before is
-/// left out. It fails with `Unknown` of the empty text where nothing is named, then with `TooMany`
-/// where more than 16 databases are, then with `Unknown` of the first name that is no virtual database,
-/// then with `TooMany` where there are more than 16 legs. For n names of m octets it takes m log n steps.
-pub fn legs_of(alloc: Global, route: &Route, names: &List<Text>) -> Result<List<u32>, DbFault>
-    ensures { AreLegsOf route.now names.now result }
+/// The virtual databases of names in the order named: of names that differ in the case of ASCII
+/// letters alone the first stands for all. It fails with `Unknown` of the empty text where nothing
+/// is named, then with `TooMany` where more than 16 databases are, then with `Unknown` of the first
+/// name that is no virtual database. For n names of m octets it takes m log n steps.
+pub fn databases_of(alloc: Global, route: &Route, names: &List<Text>) -> Result<List<Text>, DbFault>
+    ensures { AreDatabasesOf route.now names.now result }
 {
     let named = distinct_names(alloc, names.as_slice())?;
-    let databases = named.len() as u64;
-    if databases == 0 {
-        Err(DbFault::Unknown(Text::new(alloc)))
-    } else if databases > MOST_DATABASES as u64 {
-        Err(DbFault::TooMany(databases))
-    } else {
-        known_legs(alloc, route, named.as_slice())
+    match fault_among(alloc, route, named.as_slice())? {
+        Some(fault) => {
+            drop(named);
+            Err(fault)
+        }
+        None => Ok(named),
     }
+}
+
+/// The places in the route of the legs of virtual databases, in the order of these; each is named
+/// once. It fails with `TooMany` where there are more than 16 legs.
+pub fn legs_of(alloc: Global, route: &Route, databases: &List<Text>) -> Result<List<u32>, DbFault>
+    ensures { IsOrMemory (few_legs (legs_among route.now databases.now)) result }
+{
+    test_legs(legs_among(alloc, route, databases.as_slice())?)
 }
 
 /// The names in order, one that was named before left out.
@@ -57,13 +64,28 @@ fn see(alloc: Global, seen: &mut BTreeSet<Vec<u8>>, name: &Text) -> Result<bool,
     Ok(seen.insert(lower)?)
 }
 
-/// The legs of names of which each differs from the others, or why there are none.
-fn known_legs(alloc: Global, route: &Route, names: &[Text]) -> Result<List<u32>, DbFault>
-    ensures { IsOrMemory (known_among route.now names.now) result }
+/// Why names of which each differs from the others are no databases.
+fn fault_among(alloc: Global, route: &Route, names: &[Text]) -> Result<Option<DbFault>, Memory>
+    ensures { IfOk result (λ fault. fault ≡ fault_among route.now names.now) }
+{
+    let count = names.len() as u64;
+    if count == 0 {
+        Ok(Some(DbFault::Unknown(Text::new(alloc))))
+    } else if count > MOST_DATABASES as u64 {
+        Ok(Some(DbFault::TooMany(count)))
+    } else {
+        unknown_among(route, names)
+    }
+}
+
+/// A fault where one of the names is no virtual database.
+fn unknown_among(route: &Route, names: &[Text]) -> Result<Option<DbFault>, Memory>
+    ensures { IfOk result (λ fault. fault
+        ≡ option_map Unknown (first_unknown route.now names.now)) }
 {
     match unknown_name(route, names) {
-        Some(name) => Err(DbFault::Unknown(copy(name)?)),
-        None => test_legs(legs_among(alloc, route, names)?),
+        Some(name) => Ok(Some(DbFault::Unknown(copy(name)?))),
+        None => Ok(None),
     }
 }
 

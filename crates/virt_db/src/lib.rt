@@ -7,5 +7,5 @@ mod legs;
 mod place;
 
 pub use fault::DbFault;
-pub use legs::legs_of;
+pub use legs::{databases_of, legs_of};
 pub use place::{LentLeg, leg_at};

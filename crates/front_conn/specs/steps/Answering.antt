@@ -298,7 +298,7 @@ pub record IsAnsweredUnder {W : Type 0} (w : world.Ghosts W) (route : Route) (re
       ≡ old.out ++ spell_reply (answered w route (client_of old.session) request cause).reply
   pub client : client_of new.session
       ≡ (answered w route (client_of old.session) request cause).client
-  pub accepted : new.session.accepted ≡ (old.session.accepted || accepts (Some request))
+  pub accepted : new.session.accepted ≡ (old.session.accepted || accepts route (Some request))
   pub units : new.session.units ≡ old.session.units + 1
   pub waits_not : new.session.waiting ≡ None
   pub sets : HaveMeantHits w route new.session

@@ -102,8 +102,8 @@ IsConnOf w t route most state =
 abbrev pub HasMeantHits : {W : Type 0} → world.Ghosts W → Route → KnownSet → Type 0
 HasMeantHits w route set = hits_of w route set.legs set.query ≡ Ok set.hits
 
--- before an Init is accepted no set is kept; behind it each has the hits that the targets mean under
--- the login that it settled
+-- before an Init is accepted no set is kept; behind it each has the hits that the targets mean
+-- under the login that it settled
 pub record HaveMeantHits {W : Type 0} (w : world.Ghosts W) (route : Route)
     (session : SessionState) : Type 0 where
   pub none_before : session.accepted ≡ false → session.sets ≡ []
@@ -161,7 +161,7 @@ module _ {W S : Type 0} (w : world.Ghosts W) (route : Route) (fed written : List
         ≡ due request
     pub asks : asked w route (client_of before) request ≡ works view.work
     pub waits : state.session
-        ≡ waits before request (record { request = request; work = view.work })
+        ≡ waits route before request (record { request = request; work = view.work })
 
   -- the octets begin with a GET, and the package is for the work that it waits for; nothing was
   -- written, and no mark listed

@@ -1,5 +1,5 @@
 use Rattle.std.proofs.Common.{◌≡◌, take}
-use Rattle.virt_db.specs.Names.{legs_among}
+use Rattle.virt_db.specs.Legs.{legs_among}
 use Rattle.virt_db.proofs.legs.legs_among.Given as goal
 
 abbrev pub invariant-loop-name : goal.invariant-loop-name

@@ -7,8 +7,8 @@ use Rattle.front_session.proofs.session.FrontSession.wait.Goals as goal
 
 pub invariant_of-self : goal.invariant_of-self
 invariant_of-self c =
-    let is : state_of c.self.inside ≡ counted c.args.self.now c.args.request.now = cc in
-    let waits = wait_kept c.args.self.now (state_of c.self.inside) c.args.request.now (waiting_of c.args.pending) is c.requires.kept c.requires.begins c.requires.asks c.requires.records in
+    let is : state_of c.self.inside ≡ counted c.args.route.now c.args.self.now c.args.request.now = cc in
+    let waits = wait_kept c.args.route.now c.args.self.now (state_of c.self.inside) c.args.request.now (waiting_of c.args.pending) is c.requires.kept c.requires.begins c.requires.asks c.requires.records in
     record {
       sets = c.self.invariant.sets;
       of_searches = c.self.invariant.of_searches;
