@@ -28,10 +28,13 @@ use Rattle.pool_core.specs.contracts.spot.Spot as Spot
 use Rattle.pool_core.proofs.spot.Spot.TheSendSync as spot
 use Rattle.pool_keys.specs.declared.digest.Digest as Digest
 use Rattle.pool_keys.proofs.index.KeyIndex.TheSendSync as index
-use Rattle.pool_index.specs.contracts.berth.Berth as Berth
-use Rattle.pool_index.proofs.berth.Berth.TheSendSync as berth
-use Rattle.pool_index.specs.contracts.roster.Roster as Roster
-use Rattle.pool_index.specs.contracts.roster.Roster.TheInside as roster_inside
+use Rattle.pool_roster.specs.contracts.berth.Berth as Berth
+use Rattle.pool_roster.proofs.berth.Berth.TheSendSync as berth
+use Rattle.pool_roster.specs.contracts.roster.Roster as Roster
+use Rattle.pool_roster.specs.contracts.roster.Roster.TheInside as roster_inside
+use Rattle.pool_index.specs.contracts.tally.Tally as Tally
+use Rattle.pool_index.specs.contracts.register.Register as Register
+use Rattle.pool_index.specs.contracts.register.Register.TheInside as register_inside
 use Rattle.pool_index.specs.contracts.pool.IndexedPool as IndexedPool
 use Rattle.pool_index.specs.contracts.pool.IndexedPool.TheInside as indexed_inside
 use Rattle.std.specs.contracts.alloc.Global as Global
@@ -73,6 +76,12 @@ module _ (W S : RattleType) (w : World.Ghosts W.Denot) (s : Sitting.Ghosts S.Den
       (recorded_send (pool_inside.the_field W S w s).row _ _ (pool_inside.the_type W S w s).to_one
       (struct_send (Declared.shape (pool_inside.the_type W S w s)) (sessions_send b, search sendable depth 20)))
 
+tally_send : IsSend Tally.the_row
+tally_send = search (crossing.crosses, knot.crosses, address.the_field_send, sendable) depth 60 fits 20000
+
+tallies_send : IsSend (Vec.the_row Tally.the_row Global.the_row global.ghosts)
+tallies_send = let t = tally_send in search (t, crossing.crosses, sendable) depth 60 fits 20000
+
 module _ (W S D : RattleType) (w : World.Ghosts W.Denot) (s : Sitting.Ghosts S.Denot W.Denot) (d : Digest.Ghosts D.Denot) where
   berths_send : IsSend S → IsSend (Vec.the_row (Berth.the_row (Open.the_row (Pooled.the_row W S w s) Spot.the_row)) Global.the_row global.ghosts)
   berths_send b =
@@ -86,12 +95,18 @@ module _ (W S D : RattleType) (w : World.Ghosts W.Denot) (s : Sitting.Ghosts S.D
       (struct_send (Declared.shape (roster_inside.the_type W S D w s d))
       (berths_send b, search (index.the_send, phantom.the_field_send D, sendable) depth 20)))
 
+  register_send : IsSend S → IsSend (Register.the_row W S D w s d)
+  register_send b =
+      view_send (register_inside.the_row W S D w s d) _ _ _ _
+      (recorded_send (register_inside.the_field W S D w s d).row _ _ (register_inside.the_type W S D w s d).to_one
+      (struct_send (Declared.shape (register_inside.the_type W S D w s d)) (roster_send b, (index.the_send, (tallies_send, tt)))))
+
   -- a pool of them by indexes
   pub indexed_send : IsSend S → IsSend (IndexedPool.the_row W S D w s d)
   indexed_send b =
       view_send (indexed_inside.the_row W S D w s d) _ _ _ _
       (recorded_send (indexed_inside.the_field W S D w s d).row _ _ (indexed_inside.the_type W S D w s d).to_one
-      (struct_send (Declared.shape (indexed_inside.the_type W S D w s d)) (roster_send b, search sendable depth 20)))
+      (struct_send (Declared.shape (indexed_inside.the_type W S D w s d)) (register_send b, search sendable depth 20)))
 
 -- what a value that owns no borrow leaves behind is nothing of one thread
 pub unseen_quiet : {D : Type 0} (m : Bool) (x : D) (w : Last (if_kept m (unseen {D = D}) (unseen {D = D})) x) → Keyless (left (if_kept m (unseen {D = D}) (unseen {D = D})) x w)

@@ -1,7 +1,4 @@
-pub mod Lazy
-pub mod Settling
-pub mod Seeking
-pub mod Counting
-pub mod Rosters
-pub mod Spending
-pub mod Given
+pub mod Tallies
+pub mod Found
+pub mod Registers
+pub mod There

@@ -1,2 +1,2 @@
-pub mod Told
-pub mod RosterView
+pub mod Tallies
+pub mod RegisterView

@@ -1,14 +1,11 @@
-//! The pool of one thread by indexes: it finds the session that holds a set, and what expires, without
-//! looking at each session.
+//! The pool of one thread by indexes: it finds the session that it gives, and what expires, without
+//! looking at others.
 #![tactic(auto)]
 
-mod berth;
-mod berths;
 mod door;
-mod listing;
+mod idlers;
 mod pool;
-mod roster;
-mod seek;
+mod register;
+mod tally;
 
-pub use berth::{Berth, Expiries};
 pub use pool::IndexedPool;

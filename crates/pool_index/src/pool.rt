@@ -10,7 +10,7 @@ ghost use Rattle.pool_sets.specs.Doors.{TakenFits};
 ghost use Rattle.pool_sets.specs.Kept.{TableKept};
 ghost use Rattle.pool_core.specs.PoolView.{Gives, own_place, holder_place, idle_number, without_named, with_out, new_pool, pool_after, with_pool, counts_of, after_book, after_redial};
 
-use crate::roster::Roster;
+use crate::register::Register;
 use pool_core::{Spot, berth_for};
 use pool_keys::{Digest, KeyDigest};
 use pool_sets::{Parts, Pooled, Seat, Taken};
@@ -19,11 +19,11 @@ use std::alloc::Global;
 use std::marker::Model;
 use z_types::{Address, Memory, SetKey, Sitting, Text, World};
 
-/// A pool of sessions with the targets of a world, for one thread, which finds a set by the digest of
-/// its key.
+/// A pool of sessions with the targets of a world, for one thread, which looks at those sessions alone
+/// that it chooses.
 #[derive(Drop)]
 pub struct IndexedPool<W: World, S: Sitting<W>, D: Digest = KeyDigest> {
-    roster: Roster<W, S, D>,
+    register: Register<W, S, D>,
     given: u64,
     max_sessions: u32,
     sets_max: u32,
@@ -43,19 +43,19 @@ impl<W: World, S: Sitting<W>, D: Digest> Model for IndexedPool<W, S, D> {
 
     ghost view = { λ p. record {
       pool = record {
-        sessions = p.roster.sessions;
+        sessions = p.register.sessions;
         given = p.given;
         max_sessions = p.max_sessions;
         sets_max = p.sets_max;
-        session_ttl = p.roster.session_ttl;
-        set_ttl = p.roster.set_ttl;
+        session_ttl = p.register.session_ttl;
+        set_ttl = p.register.set_ttl;
       };
       fulls = p.fulls;
       opens = p.opens;
       booked = p.booked;
     } };
 
-    ghost invariant = { λ p. IsPool S.Sitting p.roster.sessions p.given p.opens };
+    ghost invariant = { λ p. IsPool S.Sitting p.register.sessions p.given p.opens };
 }
 
 impl<W: World, S: Sitting<W>, D: Digest> IndexedPool<W, S, D> {
@@ -72,7 +72,7 @@ impl<W: World, S: Sitting<W>, D: Digest> IndexedPool<W, S, D> {
         ensures { result ≡ pool_after numbers last }
     {
         IndexedPool {
-            roster: Roster::new(alloc, numbers.session_ttl, numbers.set_ttl),
+            register: Register::new(alloc, numbers.session_ttl, numbers.set_ttl),
             given: last,
             max_sessions: numbers.max_sessions,
             sets_max: numbers.sets_max,
@@ -104,11 +104,11 @@ impl<W: World, S: Sitting<W>, D: Digest> IndexedPool<W, S, D> {
             ≡ after_take (Some key.now) result (counts_of self.old) }
         ensures bound { length self.new.pool.sessions ≤ self.new.opens }
     {
-        let Some(spot) = self.roster.spot(alloc, place) else {
+        let Some(spot) = self.register.spot(alloc, place) else {
             return Taken::Memory;
         };
-        let number = self.roster.number(place);
-        let Some(mut pooled) = self.roster.lend(place, spot) else {
+        let number = self.register.number(place);
+        let Some(mut pooled) = self.register.lend(place, spot) else {
             unreachable!()
         };
         let Some((slot, hits)) = pooled.find(key, now) else {
@@ -140,11 +140,11 @@ impl<W: World, S: Sitting<W>, D: Digest> IndexedPool<W, S, D> {
         ensures counts { counts_of self.new ≡ after_take None result (counts_of self.old) }
         ensures bound { length self.new.pool.sessions ≤ self.new.opens }
     {
-        let Some(spot) = self.roster.spot(alloc, place) else {
+        let Some(spot) = self.register.spot(alloc, place) else {
             return Taken::Memory;
         };
-        let number = self.roster.number(place);
-        let Some(pooled) = self.roster.lend(place, spot) else {
+        let number = self.register.number(place);
+        let Some(pooled) = self.register.lend(place, spot) else {
             unreachable!()
         };
         Taken::Fresh {
@@ -165,10 +165,11 @@ impl<W: World, S: Sitting<W>, D: Digest> IndexedPool<W, S, D> {
         ensures counts { counts_of self.new ≡ after_take None result (counts_of self.old) }
         ensures bound { length self.new.pool.sessions ≤ self.new.opens }
     {
+        self.tally(alloc, class, at);
         if self.may_open(class, at) {
             return self.dial_without(alloc, class, at, login, None);
         }
-        if let Some(number) = self.first_idle(class, at) {
+        if let Some(number) = self.first_idle(alloc, class, at) {
             return self.dial_without(alloc, class, at, login, Some(number));
         }
         self.fulls = self.fulls.saturating_add(1);
@@ -200,7 +201,7 @@ impl<W: World, S: Sitting<W>, D: Digest> IndexedPool<W, S, D> {
         ensures counts { counts_of self.new ≡ after_take None result (counts_of self.old) }
         ensures bound { length self.new.pool.sessions ≤ self.new.opens }
     {
-        if self.roster.len() >= u32::MAX as usize || self.given == u64::MAX {
+        if self.register.len() >= u32::MAX as usize || self.given == u64::MAX {
             return Taken::Memory;
         }
         let Some((address, login)) = berth_for(alloc, at, login) else {
@@ -227,7 +228,7 @@ impl<W: World, S: Sitting<W>, D: Digest> IndexedPool<W, S, D> {
     {
         let number = self.given + 1;
         let sets = self.sets_max as usize * 2;
-        let Ok(()) = self.roster.add_out(number, class, login, address, sets) else {
+        let Ok(()) = self.register.add_out(number, class, login, address, sets) else {
             return Err(Memory);
         };
         self.given = number;
@@ -241,7 +242,7 @@ impl<W: World, S: Sitting<W>, D: Digest> IndexedPool<W, S, D> {
             (with_sessions (without_named number self.old.pool.sessions) self.old.pool) self.old }
     {
         if let Some(number) = number {
-            self.roster.drop_number(number);
+            self.register.drop_number(number);
         }
     }
 
@@ -250,22 +251,30 @@ impl<W: World, S: Sitting<W>, D: Digest> IndexedPool<W, S, D> {
         ensures { result ≡ nat_lt (open_of class at.now self.now.pool.sessions)
             self.now.pool.max_sessions }
     {
-        self.roster.open_in(class, at) < self.max_sessions as usize
+        self.register.open_in(class, at) < self.max_sessions as usize
     }
 
     /// The number of the first idle session of the class, whatever its login.
-    fn first_idle(&self, class: u32, at: &[Address]) -> Option<u64>
-        ensures number { result ≡ idle_number class at.now self.now.pool.sessions }
-        ensures given { IfSome result (λ n. n ≤ self.now.pool.given) }
+    fn first_idle(&mut self, alloc: Global, class: u32, at: &[Address]) -> Option<u64>
+        ensures number { result ≡ idle_number class at.now self.old.pool.sessions }
+        ensures given { IfSome result (λ n. n ≤ self.old.pool.given) }
+        ensures same { self.new ≡ self.old }
     {
-        self.roster.idle(class, at)
+        self.register.idle(alloc, class, at)
+    }
+
+    /// Has a tally of the class, as far as memory can be had.
+    fn tally(&mut self, alloc: Global, class: u32, at: &[Address])
+        ensures { self.new ≡ self.old }
+    {
+        self.register.tally(alloc, class, at);
     }
 
     /// Drops the sessions, and forgets the sets, that were unused for too long.
     pub(crate) fn forget_old(&mut self, now: u64)
         ensures { self.new ≡ with_pool (expire now self.old.pool) self.old }
     {
-        self.roster.expire(now);
+        self.register.expire(now);
     }
 
     /// The place of the first idle session of the class and login that holds the key.
@@ -281,15 +290,22 @@ impl<W: World, S: Sitting<W>, D: Digest> IndexedPool<W, S, D> {
             self.old.pool.sessions }
         ensures same { self.new ≡ self.old }
     {
-        self.roster.holder(alloc, class, at, login, key)
+        self.register.holder(alloc, class, at, login, key)
     }
 
     /// The place of the first idle session of the class and login.
-    fn own(&self, class: u32, at: &[Address], login: Option<&Text>) -> Option<usize>
-        ensures { result
-            ≡ own_place class at.now (option_copied login.entry) self.now.pool.sessions }
+    fn own(
+        &mut self,
+        alloc: Global,
+        class: u32,
+        at: &[Address],
+        login: Option<&Text>,
+    ) -> Option<usize>
+        ensures place { result
+            ≡ own_place class at.now (option_copied login.entry) self.old.pool.sessions }
+        ensures same { self.new ≡ self.old }
     {
-        self.roster.own(class, at, login)
+        self.register.own(alloc, class, at, login)
     }
 
     /// Counts an answer to who wanted a set.
@@ -319,7 +335,7 @@ impl<W: World, S: Sitting<W>, D: Digest> IndexedPool<W, S, D> {
         ensures counts { counts_of self.new ≡ after_take None result (counts_of self.old) }
         ensures bound { length self.new.pool.sessions ≤ self.new.opens }
     {
-        if let Some(place) = self.own(class, at, login) {
+        if let Some(place) = self.own(alloc, class, at, login) {
             return self.fresh(alloc, class, at, login, place);
         }
         self.dial(alloc, class, at, login)
@@ -359,7 +375,7 @@ impl<W: World, S: Sitting<W>, D: Digest> IndexedPool<W, S, D> {
     pub(crate) fn drop_seat(&mut self, seat: &Seat)
         ensures { self.new ≡ with_pool (lost seat.now self.old.pool) self.old }
     {
-        self.roster.drop_seat(seat);
+        self.register.drop_seat(seat);
     }
 
     /// Puts the session of the seat back, where it is out.
@@ -372,8 +388,8 @@ impl<W: World, S: Sitting<W>, D: Digest> IndexedPool<W, S, D> {
             self.drop_seat(&seat);
             return;
         }
-        if let Some(place) = self.roster.seat(&seat) {
-            self.roster.rest(place, Pooled::join(parts), now);
+        if let Some(place) = self.register.seat(&seat) {
+            self.register.rest(place, Pooled::join(parts), now);
         }
     }
 
@@ -399,11 +415,11 @@ impl<W: World, S: Sitting<W>, D: Digest> IndexedPool<W, S, D> {
         ensures within { result < length at.now }
         ensures plain { self.new ≡ with_pool (redial seat.now at.now self.old.pool) self.old }
     {
-        let Some(place) = self.roster.seat(seat) else {
+        let Some(place) = self.register.seat(seat) else {
             return 0;
         };
-        let member = self.roster.member_for(seat.class, at, Some(seat));
-        self.roster.move_to(place, member, &at[member as usize]);
+        let member = self.register.member_for(seat.class, at, Some(seat));
+        self.register.move_to(place, member, &at[member as usize]);
         member
     }
 }

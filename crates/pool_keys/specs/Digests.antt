@@ -41,8 +41,10 @@ tree_mixed (and l r) digest = tree_mixed r (tree_mixed l (mixed digest 6))
 tree_mixed (or l r) digest = tree_mixed r (tree_mixed l (mixed digest 7))
 tree_mixed (and_not l r) digest = tree_mixed r (tree_mixed l (mixed digest 8))
 
--- the number of a key of a class and a login: that of both, of the key's databases and of its
--- query
-abbrev pub key_digest : Sharers → SetKey → ℕ
-key_digest (class, login) key =
-    tree_mixed key.query.root (names_mixed (login_mixed (mixed 0 class) login) key.dbs)
+-- the number of a class and a login, or none
+abbrev pub own_digest : Sharers → ℕ
+own_digest (class, login) = login_mixed (mixed 0 class) login
+
+-- the number of a key: that of who shares it, changed by the key's databases and its query
+abbrev pub key_digest : ℕ → SetKey → ℕ
+key_digest own key = tree_mixed key.query.root (names_mixed own key.dbs)

@@ -2,18 +2,25 @@
 
 ghost use Rattle.std.specs.Prelude.{◌≡◌, ℕ, option_copied, fold};
 ghost use Rattle.z_types.specs.declared.key.SetKey.{SetKey};
-ghost use Rattle.pool_keys.specs.Digests.{Sharers, mixed, login_mixed, names_mixed, attributes_mixed, term_mixed, tree_mixed, key_digest};
+ghost use Rattle.pool_keys.specs.Digests.{Sharers, mixed, login_mixed, names_mixed, attributes_mixed, term_mixed, tree_mixed, own_digest, key_digest};
 
 use z_types::{Attr, Node, Rpn, SetKey, Term, Text};
 
 /// A number for each key of a class and a login, by which a set is found. Two keys may have one number.
 pub trait Digest: Drop {
-    /// The number.
-    ghost digest: { Sharers → SetKey → ℕ };
+    /// The number of a class and a login, or none.
+    ghost own: { Sharers → ℕ };
 
-    /// The number of a key of a class and a login, or none.
-    fn digest(class: u32, login: Option<&Text>, key: &SetKey) -> u64
-        ensures { result ≡ digest (class, option_copied login.entry) key.now };
+    /// The number of a key of who shares it, by their number.
+    ghost digest: { ℕ → SetKey → ℕ };
+
+    /// The number of a class and a login, or none.
+    fn own(class: u32, login: Option<&Text>) -> u64
+        ensures { result ≡ own (class, option_copied login.entry) };
+
+    /// The number of a key, by that of its class and login.
+    fn digest(base: u64, key: &SetKey) -> u64
+        ensures { result ≡ digest base key.now };
 }
 
 /// A number that the class, the login and each part of a key change.
@@ -21,11 +28,16 @@ pub trait Digest: Drop {
 pub struct KeyDigest {}
 
 impl Digest for KeyDigest {
+    ghost own = { own_digest };
+
     ghost digest = { key_digest };
 
-    fn digest(class: u32, login: Option<&Text>, key: &SetKey) -> u64 {
-        let own = mix_login(mix(0, u64::from(class)), login);
-        let names = mix_names(own, key.dbs.as_slice());
+    fn own(class: u32, login: Option<&Text>) -> u64 {
+        mix_login(mix(0, u64::from(class)), login)
+    }
+
+    fn digest(base: u64, key: &SetKey) -> u64 {
+        let names = mix_names(base, key.dbs.as_slice());
         mix_tree(names, &key.query.root)
     }
 }

@@ -169,6 +169,14 @@ impl KeyIndex {
         room
     }
 
+    /// Takes all pairs out. The index lacks pairs then.
+    pub fn forget(&mut self)
+        ensures lacks { self.new ≡ (record { pairs = []; whole = false }) }
+    {
+        self.whole = false;
+        self.pairs.clear();
+    }
+
     /// Holds these pairs in place of its own, in order, and is whole.
     pub fn refill(&mut self, mut pairs: Vec<Pair>)
         ensures pairs { IsPermutation pairs.items self.new.pairs }

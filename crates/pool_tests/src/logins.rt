@@ -61,7 +61,8 @@ pub(crate) fn login_of(alloc: Global, who: Who) -> Result<Option<Text>, Memory>
 /// The digest of one key for who asks.
 fn digest_for(alloc: Global, who: Who) -> Result<u64, Memory> {
     let login = login_of(alloc, who)?;
-    Ok(KeyDigest::digest(0, login.as_ref(), &key_for(alloc, 3)?))
+    let own = KeyDigest::own(0, login.as_ref());
+    Ok(KeyDigest::digest(own, &key_for(alloc, 3)?))
 }
 
 /// All who ask.

@@ -62,14 +62,20 @@ pub(crate) enum Kind {
 /// All pools, which answer alike.
 pub(crate) const KINDS: [Kind; 3] = [Kind::Plain, Kind::Indexed, Kind::OneDigest];
 
-/// The digest of each key is 7.
+/// The digest of each key is 7, and that of each class and login.
 #[derive(Drop)]
 struct Seven {}
 
 impl Digest for Seven {
+    ghost own = { λ _. 7 };
+
     ghost digest = { λ _ _. 7 };
 
-    fn digest(_: u32, _: Option<&Text>, _: &SetKey) -> u64 {
+    fn own(_: u32, _: Option<&Text>) -> u64 {
+        7
+    }
+
+    fn digest(_: u64, _: &SetKey) -> u64 {
         7
     }
 }

@@ -5,27 +5,35 @@ use Rattle.pool_sets.specs.Sessions.{idle_with}
 use Rattle.pool_core.proofs.First.{first_at}
 use Rattle.pool_core.proofs.Chosen.{reuse_plain, is_held, idle_has_parts, holder_has_set, ready_at, has_used}
 use Rattle.pool_core.proofs.Seats.{pool_out}
-use Rattle.pool_index.proofs.Given.{some_item}
+use Rattle.pool_roster.proofs.Given.{some_item}
+use Rattle.pool_index.proofs.There.{there_again}
 use Rattle.pool_index.proofs.pool.IndexedPool.reuse.Goals as goal
 
 pub spot-requires : goal.spot-requires
 spot-requires g c = record {
-  within = (first_at (idle_with c.args.class c.args.at.now (option_copied c.args.login) c.args.key.now) c.self.inside.roster.sessions c.args.place (rw (← c.self.view_is) at c.requires.first)).within;
+  within = (first_at (idle_with c.args.class c.args.at.now (option_copied c.args.login) c.args.key.now) c.self.inside.register.sessions c.args.place (rw (← c.self.view_is) at c.requires.first)).within;
 }
 
 pub number-number-requires : goal.number-number-requires
 number-number-requires g c = record {
-  within = (first_at (idle_with c.args.class c.args.at.now (option_copied c.args.login) c.args.key.now) c.self.inside.roster.sessions c.args.place (rw (← c.self.view_is) at c.requires.first)).within;
+  within = (first_at (idle_with c.args.class c.args.at.now (option_copied c.args.login) c.args.key.now) c.self.inside.register.sessions c.args.place (rw (← c.self.view_is) at c.requires.first)).within;
 }
 
 pub lend-requires : goal.lend-requires
-lend-requires g c = record {
-  within = (first_at (idle_with c.args.class c.args.at.now (option_copied c.args.login) c.args.key.now) c.self.inside.roster.sessions c.args.place (rw (← c.self.view_is) at c.requires.first)).within;
-}
+lend-requires g c =
+    let os = c.self.inside.register.sessions in
+    let first = first_at (idle_with c.args.class c.args.at.now (option_copied c.args.login) c.args.key.now) os c.args.place (rw (← c.self.view_is) at c.requires.first) in
+    record {
+      within = first.within;
+      there = λ d.
+          let o = get_or os c.args.place d in
+          let h = is_held c.args.class c.args.at.now (option_copied c.args.login) c.args.key.now os c.args.place o first (get_or_default os c.args.place d o first.within) in
+          there_again c.args.class c.args.at.now o h.0 c.in-Some.spot h.2.own.idle (c.in-Some.ensures d);
+    }
 
 pub unreachable-requires : goal.unreachable-requires
 unreachable-requires g c =
-    let os = c.self.inside.roster.sessions in
+    let os = c.self.inside.register.sessions in
     let first = first_at (idle_with c.args.class c.args.at.now (option_copied c.args.login) c.args.key.now) os c.args.place (rw (← c.self.view_is) at c.requires.first) in
     let d = some_item os c.args.place first.within in
     let o = get_or os c.args.place d in
@@ -34,7 +42,7 @@ unreachable-requires g c =
 
 pub unreachable-requires-in_default-find : goal.unreachable-requires-in_default-find
 unreachable-requires-in_default-find g c =
-    let os = c.self.inside.roster.sessions in
+    let os = c.self.inside.register.sessions in
     let first = first_at (idle_with c.args.class c.args.at.now (option_copied c.args.login) c.args.key.now) os c.args.place (rw (← c.self.view_is) at c.requires.first) in
     let d = some_item os c.args.place first.within in
     let o = get_or os c.args.place d in
@@ -43,7 +51,7 @@ unreachable-requires-in_default-find g c =
 
 pub invariant_of-self : goal.invariant_of-self
 invariant_of-self g c =
-    let os = c.self.inside.roster.sessions in
+    let os = c.self.inside.register.sessions in
     let first = first_at (idle_with c.args.class c.args.at.now (option_copied c.args.login) c.args.key.now) os c.args.place (rw (← c.self.view_is) at c.requires.first) in
     let d = some_item os c.args.place first.within in
     let o = get_or os c.args.place d in
@@ -51,7 +59,7 @@ invariant_of-self g c =
 
 pub returns-clause-plain : goal.returns-clause-plain
 returns-clause-plain g c =
-    let os = c.self.inside.roster.sessions in
+    let os = c.self.inside.register.sessions in
     let first = first_at (idle_with c.args.class c.args.at.now (option_copied c.args.login) c.args.key.now) os c.args.place (rw (← c.self.view_is) at c.requires.first) in
     let d = some_item os c.args.place first.within in
     let o = get_or os c.args.place d in
@@ -62,7 +70,7 @@ returns-clause-plain g c =
 
 pub returns-clause-fits : goal.returns-clause-fits
 returns-clause-fits g c =
-    let os = c.self.inside.roster.sessions in
+    let os = c.self.inside.register.sessions in
     let first = first_at (idle_with c.args.class c.args.at.now (option_copied c.args.login) c.args.key.now) os c.args.place (rw (← c.self.view_is) at c.requires.first) in
     let d = some_item os c.args.place first.within in
     let o = get_or os c.args.place d in
@@ -76,7 +84,7 @@ returns-clause-fits g c =
 
 pub returns-clause-bound : goal.returns-clause-bound
 returns-clause-bound g c =
-    let os = c.self.inside.roster.sessions in
+    let os = c.self.inside.register.sessions in
     let first = first_at (idle_with c.args.class c.args.at.now (option_copied c.args.login) c.args.key.now) os c.args.place (rw (← c.self.view_is) at c.requires.first) in
     let d = some_item os c.args.place first.within in
     let o = get_or os c.args.place d in

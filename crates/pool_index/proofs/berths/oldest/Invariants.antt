@@ -1,6 +1,0 @@
-use Rattle.std.proofs.Common.{All, take}
-use Rattle.pool_index.specs.Told.{StandSince}
-use Rattle.pool_index.proofs.berths.oldest.Given as goal
-
-abbrev pub invariant-loop-berth : goal.invariant-loop-berth
-invariant-loop-berth g l = All (λ b. StandSince l.oldest b.session.stand) (take l.berth-index l.berths)

@@ -1,6 +1,0 @@
-use Rattle.std.proofs.Common.{All, take}
-use Rattle.pool_index.specs.Told.{sharers_of, AreGathered, sets_of}
-use Rattle.pool_index.proofs.listing.gather_all.Given as goal
-
-abbrev pub invariant-loop-berth : goal.invariant-loop-berth
-invariant-loop-berth g l = All (λ b. AreGathered (g.D.Digest.digest (sharers_of b.session)) l.pairs.items b.session.number (sets_of b.session.stand)) (take l.berth-index l.berths)
