@@ -1,0 +1,5 @@
+pub mod KnownLemmas
+pub mod ViewLemmas
+pub mod StandLemmas
+pub mod CachedLemmas
+pub mod PresentLemmas

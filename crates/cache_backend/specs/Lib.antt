@@ -1,0 +1,5 @@
+pub mod Known
+pub mod Held
+pub mod Sessions
+pub mod Steps
+pub mod Looks
