@@ -1,7 +1,5 @@
 -- What a store answers and keeps, by what is asked (this project's own)
 use Rattle.std.proofs.Common.{◌≡◌, ◌∙◌, ℕ, ◌+◌, ◌^◌, ◌<◌, ◌≤◌, List, [], ◌∷◌, length, Option, None, Some, IfSome, IsSome, refl, sym, ap, subst, arith}
-use Rattle.z_types.specs.Counts.{one_more}
-use Rattle.z_types.specs.Pending.{resting}
 use Rattle.z_types.specs.declared.ask.Ask.{Ask}
 use Rattle.z_types.specs.declared.ask.Ask.TheVariants.{Search, Present, Scan}
 use Rattle.z_types.specs.declared.key.SetKey.{SetKey}
@@ -13,9 +11,7 @@ use Rattle.gw_outside.specs.Sessions.{Made}
 use Rattle.gw_outside.specs.declared.backends.Began.{Began}
 use Rattle.gw_outside.specs.declared.backends.Began.TheVariants as began
 use Rattle.record_cache.specs.declared.keys.RecordKey.{RecordKey}
-use Rattle.record_cache.specs.Runs.{AreWorldsRun, Runs}
-use Rattle.cache_backend.specs.declared.sessions.Awaited.{Awaited}
-use Rattle.cache_backend.specs.declared.sessions.Awaited.TheVariants.{Beneath, Records, Run, Broken}
+use Rattle.record_cache.specs.Runs.{Runs}
 use Rattle.cache_backend.specs.declared.sessions.CachedParts.{CachedParts}
 use Rattle.cache_backend.specs.Known.{known_under}
 use Rattle.cache_backend.specs.Looks.{Cached, IsCachedStart, IsFetched, IsGiven, IsServed, IsServedBy, IsServedFrom, IsServedIf}

@@ -1,8 +1,7 @@
 -- The keys that a session searched last, by the names of their result sets (this project's own)
-use Rattle.std.proofs.Common.{◌≡◌, ◌∙◌, ℕ, ◌+◌, Bool, true, false, cond, not, List, [], ◌∷◌, drop, Option, None, Some, refl, sym, ap}
+use Rattle.std.proofs.Common.{◌≡◌, ◌∙◌, ℕ, ◌+◌, Bool, true, false, cond, not, List, [], ◌∷◌, drop, Some, refl, sym, ap}
 use Rattle.std.proofs.lemmas.Cmp.{nat_list_eq_equiv}
 use Rattle.z_types.specs.equality.Tests.{text_exact}
-use Rattle.z_types.specs.declared.key.SetKey.{SetKey}
 use Rattle.z_types.specs.Same.{is_same}
 use Rattle.cache_backend.specs.declared.known.Searched.{Searched}
 use Rattle.cache_backend.specs.Known.{known_under, without}

@@ -1,5 +1,5 @@
 -- What a cached session keeps to as it goes on (this project's own)
-use Rattle.std.proofs.Common.{◌≡◌, ◌∙◌, ℕ, ◌+◌, ◌^◌, ◌<◌, ◌≤◌, length, Bool, true, false, List, [], ◌∷◌, Option, None, Some, IfSome, refl, sym, ap, subst, arith}
+use Rattle.std.proofs.Common.{◌≡◌, ◌∙◌, ℕ, true, false, List, ◌∷◌, Option, None, Some, IfSome, refl, sym, ap, subst, arith}
 use Rattle.z_types.specs.equality.Tests.{text_exact}
 use Rattle.z_types.specs.Pending.{Pending, resting, opening, asked, broken, IsPending}
 use Rattle.z_types.specs.Same.{is_same}

@@ -1,10 +1,10 @@
 -- How a session is seen goes on as the one beneath it does (this project's own)
-use Rattle.std.proofs.Common.{◌≡◌, ◌≢◌, ◌⊎◌, ◌∙◌, ℕ, ◌≤◌, Bool, true, false, List, [], ◌∷◌, length, Option, None, Some, inl, inr, refl, sym, ap, subst, arith}
+use Rattle.std.proofs.Common.{◌≡◌, ℕ, ◌≤◌, Bool, true, List, length, Option, Some, inl, inr, refl, sym, subst, arith}
 use Rattle.z_types.specs.Links.{LinkView}
-use Rattle.z_types.specs.Pending.{Pending, resting, opening, asked, broken}
+use Rattle.z_types.specs.Pending.{resting}
 use Rattle.z_types.specs.declared.address.Address.{Address}
 use Rattle.z_types.specs.declared.ask.Ask.{Ask}
-use Rattle.z_types.specs.declared.ask.Ask.TheVariants.{Search, Present, Scan}
+use Rattle.z_types.specs.declared.ask.Ask.TheVariants.{Present}
 use Rattle.z_types.specs.declared.records.Item.{Item}
 use Rattle.z_types.specs.declared.sitting.Sitting as sitting
 use Rattle.z_types.specs.declared.world.World as world
@@ -13,7 +13,7 @@ use Rattle.gw_outside.specs.Happened.{Happened, AreLess, AreSame}
 use Rattle.gw_outside.specs.Peers.{AreRecords}
 use Rattle.gw_outside.specs.Sessions.{RecordsOf}
 use Rattle.z_types.specs.declared.key.SetKey.{SetKey}
-use Rattle.gw_outside.specs.Steady.{AsksSteadily, IsTakenOrSpared, IsSpared, LooksSteadily, TakesAsk, TakesUnlessCut}
+use Rattle.gw_outside.specs.Steady.{AsksSteadily, LooksSteadily, TakesUnlessCut}
 use Rattle.gw_outside.specs.declared.backends.Began.{Began}
 use Rattle.gw_outside.specs.declared.backends.Began.TheVariants as began
 use Rattle.gw_outside.specs.declared.backends.Heard.{Heard}

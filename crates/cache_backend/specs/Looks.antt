@@ -3,7 +3,7 @@
 use Rattle.std.specs.Prelude.{◌≡◌, ℕ, ◌+◌, ◌^◌, ◌<◌, Bool, true, List, [], ◌∷◌, length, Option, None, Some}
 use Rattle.z_types.specs.Counts.{one_more}
 use Rattle.z_types.specs.declared.ask.Ask.{Ask}
-use Rattle.z_types.specs.declared.ask.Ask.TheVariants.{Search, Present, Scan}
+use Rattle.z_types.specs.declared.ask.Ask.TheVariants.{Present}
 use Rattle.z_types.specs.declared.key.SetKey.{SetKey}
 use Rattle.z_types.specs.declared.records.Item.{Item}
 use Rattle.gw_outside.specs.declared.backends.Began.{Began}

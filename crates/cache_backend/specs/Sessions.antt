@@ -1,7 +1,7 @@
 -- Sessions whose Presents may be answered from a store (this project's own)
 use Rattle.std.specs.Prelude.{◌≡◌, ℕ, ◌+◌, ◌^◌, ◌<◌, ◌≤◌, false, List, ◌∷◌, length, Option, Some, IfSome}
 use Rattle.z_types.specs.Links.{LinkView}
-use Rattle.z_types.specs.Pending.{Pending, resting, opening, asked, broken}
+use Rattle.z_types.specs.Pending.{Pending, resting, asked, broken}
 use Rattle.z_types.specs.Same.{is_same}
 use Rattle.z_types.specs.declared.ask.Ask.{Ask}
 use Rattle.z_types.specs.declared.ask.Ask.TheVariants.{Search, Present, Scan}

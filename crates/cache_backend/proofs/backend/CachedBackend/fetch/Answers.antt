@@ -1,4 +1,4 @@
-use Rattle.std.proofs.Common.{◌≡◌, ◌∙◌, true, refl, subst, sym}
+use Rattle.std.proofs.Common.{◌≡◌, ◌∙◌, refl, subst, sym}
 use Rattle.cache_backend.specs.Known.{known_under}
 use Rattle.cache_backend.specs.Looks.{awaited_from}
 use Rattle.cache_backend.specs.Sessions.{StandsBy}

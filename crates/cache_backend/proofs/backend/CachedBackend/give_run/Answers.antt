@@ -1,5 +1,5 @@
 use Rattle.std.proofs.Common.{true, refl, subst, sym}
-use Rattle.cache_backend.specs.declared.sessions.Awaited.TheVariants.{Beneath, Run}
+use Rattle.cache_backend.specs.declared.sessions.Awaited.TheVariants.{Run}
 use Rattle.cache_backend.specs.Known.{known_under}
 use Rattle.cache_backend.specs.Sessions.{KnowsBy, StandsBy}
 use Rattle.cache_backend.specs.Steps.{Looks, view_by}

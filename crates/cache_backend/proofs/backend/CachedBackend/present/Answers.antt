@@ -1,4 +1,4 @@
-use Rattle.std.proofs.Common.{true, ◌∙◌, ap, refl}
+use Rattle.std.proofs.Common.{true, ap, refl}
 use Rattle.cache_backend.specs.Known.{known_under}
 use Rattle.cache_backend.specs.Sessions.{count_of}
 use Rattle.cache_backend.specs.Steps.{outside_of}

@@ -1,4 +1,4 @@
-use Rattle.std.proofs.Common.{◌≡◌, [], true, refl, subst, sym}
+use Rattle.std.proofs.Common.{[], true, refl, subst, sym}
 use Rattle.record_cache.specs.declared.keys.RecordKey.{RecordKey}
 use Rattle.record_cache.specs.Runs.{Runs}
 use Rattle.cache_backend.specs.Known.{known_under}
