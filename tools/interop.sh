@@ -212,15 +212,15 @@ asks() {
 }
 asks 'a login goes to a target that wants one' 'auth ann/pw' "$port" Closed map 'Number of hits: '
 asks 'and so does one of name and password apart' 'auth ann pw' "$port" Closed map 'Number of hits: '
-asks 'a session of that login serves nobody without it' 'auth -' "$port" Closed map 'Database unavailable'
+asks 'a session of that login serves nobody without it' 'format xml' "$port" Closed map 'Database unavailable'
 asks 'nor another login' 'auth ann/no' "$port" Closed map 'Database unavailable'
 
 "$gateway" serve "$examples/members.toml" "$members" 2 2>"$room/members.log" >"$room/members.out" &
 for _ in $(seq 60); do grep -q '^listening' "$room/members.log" && break; sleep 1; done
 asks 'examples/members.toml: a user' 'auth ann/pw' "$members" All a 'Number of hits: '
 asks 'examples/members.toml: a user by name and password apart' 'auth ann pw' "$members" All a 'Number of hits: '
-asks 'examples/members.toml: who has not logged in is told the rule' 'auth -' "$members" All a 'members-only'
-asks 'examples/members.toml: and may search what is open' 'auth -' "$members" Books a 'Number of hits: 3'
+asks 'examples/members.toml: who has not logged in is told the rule' 'format xml' "$members" All a 'members-only'
+asks 'examples/members.toml: and may search what is open' 'format xml' "$members" Books a 'Number of hits: 3'
 asks 'examples/members.toml: a wrong password' 'auth ann/no' "$members" Books a 'Connection rejected by v3 target'
 tells 'examples/members.toml: ZOOM with user and password' 'hits' zoomsh 'set user ann' 'set password pw' "connect 127.0.0.1:$members/All" 'search @attr 1=4 a' quit
 tells 'examples/members.toml: ZOOM with a wrong password' 'Init rejected' zoomsh 'set user ann' 'set password no' "connect 127.0.0.1:$members/Books" 'search @attr 1=4 a' quit
