@@ -17,7 +17,7 @@ pub record HasItems {W : Type 0} (w : world.Ghosts W) (old new : Option Cache) (
   pub run : Runs old new key count items
 
 -- a run from a key on, or where that is empty the key
-abbrev pub IsHeld : {W : Type 0} → world.Ghosts W → Option Cache → Option Cache → RecordKey → ℕ → Held
-    → Type 0
+abbrev pub IsHeld : {W : Type 0} → world.Ghosts W → Option Cache → Option Cache → RecordKey → ℕ
+    → Held → Type 0
 IsHeld w old new key count (held.Items items) = HasItems w old new key count items
 IsHeld w old new key count (held.Nothing own) = (own ≡ key) × Runs old new key count []

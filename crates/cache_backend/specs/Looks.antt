@@ -1,5 +1,5 @@
--- A cached look (this project's own): which Presents a store answers, and what it keeps of those that
--- the backend beneath answers
+-- A cached look (this project's own): which Presents a store answers, and what it keeps of those
+-- that the backend beneath answers
 use Rattle.std.specs.Prelude.{◌≡◌, ℕ, ◌+◌, ◌^◌, ◌<◌, Bool, true, List, [], ◌∷◌, length, Option, None, Some}
 use Rattle.z_types.specs.Counts.{one_more}
 use Rattle.z_types.specs.declared.ask.Ask.{Ask}

@@ -1,5 +1,5 @@
 -- Sessions whose Presents may be answered from a store (this project's own)
-use Rattle.std.specs.Prelude.{◌≡◌, ℕ, ◌+◌, ◌^◌, ◌<◌, ◌≤◌, false, List, ◌∷◌, length, Option, Some, IfSome}
+use Rattle.std.specs.Prelude.{◌≡◌, ℕ, ◌+◌, ◌^◌, ◌<◌, ◌≤◌, false, true, List, ◌∷◌, length, Option, Some, IfSome}
 use Rattle.z_types.specs.Links.{LinkView}
 use Rattle.z_types.specs.Pending.{Pending, resting, asked, broken}
 use Rattle.z_types.specs.Same.{is_same}
@@ -39,14 +39,24 @@ module _ {W S : Type 0} (t : sitting.Ghosts S W) where
   abbrev pub link_of : CachedParts S → LinkView
   link_of parts = link_by parts.awaited parts.inner
 
+-- sessions that keep records, over those beneath, as proofs see them
+abbrev pub keeping : {W S : Type 0} → sitting.Ghosts S W → sitting.Ghosts (CachedParts S) W
+keeping t = record {
+  address = λ session. t.address session.inner;
+  made = λ session. t.made session.inner;
+  pending = λ session. pending_of t session;
+  link = λ session. link_of t session;
+  keeps = true;
+}
+
 -- ---- what it keeps to
 
 -- under each name stands the key of the set that was made under it
 abbrev pub KnowsAll : Made → (List ℕ → Option SetKey) → Type 0
 KnowsAll made known = (name : List ℕ) → IfSome (made name) (λ set. known name ≡ Some set.0)
 
--- under the name of a search that is awaited stands its own key; of a session that is broken nothing
--- is kept
+-- under the name of a search that is awaited stands its own key; of a session that is broken
+-- nothing is kept
 abbrev pub KnowsBy : Pending → Made → (List ℕ → Option SetKey) → Type 0
 KnowsBy (asked (Search own key)) made known =
     (known own ≡ Some key)

@@ -86,6 +86,8 @@ impl<W, B: Watched, T> Watched for CachedBackend<W, B, T> {
 impl<W: World, B: Backend<W>, T: Store<W>> Backend<W> for CachedBackend<W, B, T> {
     type Session = CachedSession<W, B::Session>;
 
+    ghost served = { λ backend. backend.served };
+
     fn open_(&mut self, alloc: Global, address: &Address) -> Opening<CachedSession<W, B::Session>> {
         let Ok(own) = copy(address) else {
             return Opening::Memory;
@@ -162,6 +164,10 @@ impl<W: World, B: Backend<W>, T: Store<W>> Backend<W> for CachedBackend<W, B, T>
         ensures octets { self.new.record_bytes ≡ self.old.record_bytes }
     {
         self.hear(alloc, &mut session.parts)
+    }
+
+    fn served_from_cache(&self) -> u64 {
+        self.served
     }
 }
 

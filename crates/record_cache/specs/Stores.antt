@@ -21,10 +21,11 @@ FindsWorlds w key (found.Item item) = IsWorldsRecord w key item
 FindsWorlds w key found.None = Unit {0}
 FindsWorlds w key found.Memory = Unit {0}
 
--- the item of a key is found, and comes to the front; there is none where the key has none; and where
--- no memory is had for a copy of what it has, nothing changes but that this is counted
+-- the item of a key is found, and comes to the front; there is none where the key has none; and
+-- where no memory is had for a copy of what it has, nothing changes but that this is counted
 abbrev pub FindsIn : Cache → Cache → RecordKey → Found → Type 0
-FindsIn old new key (found.Item item) = (item_of key old ≡ Some item) × (new ≡ after_found key item old)
+FindsIn old new key (found.Item item) =
+    (item_of key old ≡ Some item) × (new ≡ after_found key item old)
 FindsIn old new key found.None = (item_of key old ≡ None) × (new ≡ old)
 FindsIn old new key found.Memory =
     IsSome (item_of key old) × (new ≡ record old { wants = one_more true old.wants })

@@ -1,6 +1,6 @@
 //! The parts of a key, fed to a hasher.
 
-ghost use Rattle.std.specs.Prelude.{◌≡◌, fold, flat_map};
+ghost use Rattle.std.specs.Prelude.{◌≡◌, fold};
 ghost use Rattle.std.specs.Hash as fed;
 ghost use Rattle.record_cache.specs.Keys.{
   address_input,
