@@ -39,11 +39,15 @@ fn class_report(
     })
 }
 
-/// A report of these clients and classes.
-fn report(alloc: Global, (clients, classes): (&[Client], &[Class])) -> Result<Report, Memory> {
+/// What is told of a run: its clients, its classes, and the Presents that kept records answered.
+type Told<'a> = (&'a [Client<'a>], &'a [Class<'a>], Option<u64>);
+
+/// A report of this.
+fn report(alloc: Global, (clients, classes, cache_hits): Told) -> Result<Report, Memory> {
     let mut report = Report {
         clients: List::new(alloc),
         classes: List::new(alloc),
+        cache_hits,
     };
     for client in clients {
         report.clients.push(client_report(alloc, *client)?)?;
@@ -54,8 +58,8 @@ fn report(alloc: Global, (clients, classes): (&[Client], &[Class])) -> Result<Re
     Ok(report)
 }
 
-/// Whether this is printed of these clients and classes.
-fn prints(alloc: Global, told: (&[Client], &[Class]), page: &[u8]) -> Result<bool, Memory> {
+/// Whether this page is printed of a report of this.
+fn prints(alloc: Global, told: Told, page: &[u8]) -> Result<bool, Memory> {
     let report = report(alloc, told)?;
     is_printed(alloc, &report, page)
 }
@@ -88,33 +92,50 @@ const CLASSES: &[u8] = b"class a b dials 0 searches 0 gones 0 faults 0\n\
 class beta dials 1 searches 20 gones 300 faults 18446744073709551615\n\
 clients 0 requests 0\n";
 
-/// Clients and classes, and the page of them: none, a client without octets and marks, three clients, and
-/// two classes.
-const PAGES: [(&[Client<'static>], &[Class<'static>], &[u8]); 4] = [
-    (&[], &[], b"clients 0 requests 0\n"),
-    (&[(1, &[], &[], End::Finished)], &[], SILENT),
+/// The pages of a run of nobody without kept records, with none that was asked for, and with the greatest number.
+const NOBODY: &[u8] = b"clients 0 requests 0\n";
+
+const NO_HITS: &[u8] = b"cache hits 0\nclients 0 requests 0\n";
+
+const MOST_HITS: &[u8] = b"class a b dials 0 searches 0 gones 0 faults 0\n\
+cache hits 18446744073709551615\n\
+clients 0 requests 0\n";
+
+/// What is told, and the page of it: nobody, a client without octets and marks, three clients, two classes, and
+/// kept records that answered no Present and the greatest number of them.
+const PAGES: [(Told<'static>, &[u8]); 6] = [
+    ((&[], &[], None), NOBODY),
+    ((&[(1, &[], &[], End::Finished)], &[], None), SILENT),
     (
-        &[
-            (2, &[0, 0xab], MARKS, End::Cut(12)),
-            (30, &[0xff], &[Mark::Plain], End::Malformed(0)),
-            (10000, &[], &[], End::Closed),
-        ],
-        &[],
+        (
+            &[
+                (2, &[0, 0xab], MARKS, End::Cut(12)),
+                (30, &[0xff], &[Mark::Plain], End::Malformed(0)),
+                (10000, &[], &[], End::Closed),
+            ],
+            &[],
+            None,
+        ),
         SEVERAL,
     ),
     (
-        &[],
-        &[(b"a b", [0; 4]), (b"beta", [1, 20, 300, u64::MAX])],
+        (
+            &[],
+            &[(b"a b", [0; 4]), (b"beta", [1, 20, 300, u64::MAX])],
+            None,
+        ),
         CLASSES,
     ),
+    ((&[], &[], Some(0)), NO_HITS),
+    ((&[], &[(b"a b", [0; 4])], Some(u64::MAX)), MOST_HITS),
 ];
 
 #[test]
 fn a_page_has_the_lines_of_each_client_and_class_and_one_of_sums(
     rt: HostRuntime,
 ) -> Result<(), Fail> {
-    for (clients, classes, page) in PAGES {
-        assert!(rt; prints(rt.alloc(), (clients, classes), page)?, "{page:?}");
+    for (told, page) in PAGES {
+        assert!(rt; prints(rt.alloc(), told, page)?, "{page:?}");
     }
     Ok(())
 }

@@ -21,7 +21,7 @@ use Rattle.replay_shares.specs.replay.Report.{IsAnswered}
 use Rattle.replay_shares.specs.replay.Undisturbed.{BefallsNothing, IsUntroubled}
 use Rattle.replay_shares.specs.replay.Wires.{AreWireSums, HaveWireCauses, IsFullCaused}
 use Rattle.replay_shares.specs.replay.declared.reports.Report.{Report}
-use Rattle.replay_laws.specs.Borne.{AreBorneMarks, HasBorneNumber}
+use Rattle.replay_laws.specs.Borne.{AreBorneMarks, HasBorneNumber, keeps_records}
 use Rattle.replay_laws.specs.Quiet.{IsQuiet}
 use Rattle.replay_shares.specs.Shares.{SharesIfOrderly}
 use Rattle.replay_top.specs.Outside.{WireCalls}
@@ -71,8 +71,8 @@ pub record IsReplayOverTests {W : Type 0} (w : world.Ghosts W) (config script : 
   pub causes : HaveWireCauses true route.pool report 0 no_counts behind
   pub fulls : IsFullCaused route.pool report 0 behind
   pub untroubled : AllByRecursion BefallsNothing events → IsUntroubled route report
-  pub borne : AllByRecursion (HasBorneNumber false route.pool) events → IsQuiet events
-      → DialsGoOn behind → AreBorneMarks route report
+  pub borne : AllByRecursion (HasBorneNumber (keeps_records route) route.pool) events
+      → IsQuiet events → DialsGoOn behind → AreBorneMarks route report
   pub shared : MembersAreAlike w route → SharesIfOrderly w route events report
 
 -- `replay` at Ok: the files that it names were replayed so, where they are told

@@ -1,5 +1,5 @@
 -- What is printed of a report (this project's own)
-use Rattle.std.specs.Prelude.{ℕ, List, [], ◌∷◌, ◌++◌, length, codes, sum_by}
+use Rattle.std.specs.Prelude.{ℕ, List, [], ◌∷◌, ◌++◌, Option, None, Some, length, codes, sum_by}
 use Rattle.std.specs.List.{flat_map}
 use Rattle.std.specs.Fmt.{decimal}
 use Rattle.hex.specs.Hex.{encode_lower}
@@ -74,8 +74,13 @@ sums_line clients =
     codes "clients " ++ decimal (length clients)
     ++ line (codes " requests ") (decimal (requests clients))
 
--- the clients in order, the classes in order, and the sums
+-- the line of the Presents that kept records answered, where these are told
+abbrev pub hits_line : Option ℕ → List ℕ
+hits_line None = []
+hits_line (Some hits) = line (codes "cache hits ") (decimal hits)
+
+-- the clients in order, the classes in order, the hits, and the sums
 abbrev pub page : Report → List ℕ
 page report =
     flat_map client_lines report.clients ++ flat_map class_line report.classes
-    ++ sums_line report.clients
+    ++ hits_line report.cache_hits ++ sums_line report.clients

@@ -16,7 +16,7 @@ mod runs;
 pub use laws::{read_twice, uncaused_is_plain};
 pub use page::print;
 pub use reports::{ClassReport, ClientReport, Report};
-pub use runs::run_over;
+pub use runs::{run_over, run_with_hits};
 
 // Handed on: crates above name these through this one.
 pub use front_conn_costs;

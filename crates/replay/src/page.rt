@@ -3,19 +3,21 @@
 ghost use Rattle.std.specs.Prelude.{◌≡◌, ◌∷◌, ◌++◌, IfOk, OnOk, codes};
 ghost use Rattle.std.specs.List.{flat_map};
 ghost use Rattle.std.specs.Fmt.{decimal};
-ghost use Rattle.replay.specs.Page.{page, class_line, counts_text, client_lines, sums_line, requests, mark_text, marks_text, octets_text, end_text, line};
+ghost use Rattle.replay.specs.Page.{page, class_line, hits_line, counts_text, client_lines, sums_line, requests, mark_text, marks_text, octets_text, end_text, line};
 
 use crate::{ClassReport, ClientReport, Report};
 use std::alloc::Global;
 use z_types::{End, List, Mark, Memory, Text};
 
-/// What is printed of a report: four lines for each client, a line for each class, and a line of sums.
+/// What is printed of a report: four lines for each client, a line for each class, one of the Presents that kept
+/// records answered, where these are told, and a line of sums.
 pub fn print(alloc: Global, report: &Report) -> Result<Text, Memory>
     ensures { IfOk result (λ text. text ≡ page report.now) }
 {
     let mut out = Text::new(alloc);
     put_clients(alloc, &mut out, &report.clients)?;
     put_classes(alloc, &mut out, &report.classes)?;
+    put_hits(alloc, &mut out, report.cache_hits)?;
     put_sums(alloc, &mut out, &report.clients)?;
     Ok(out)
 }
@@ -107,6 +109,19 @@ fn put_counts(alloc: Global, out: &mut Text, class: &ClassReport) -> Result<(), 
     put_count(alloc, out, b" gones ", class.gones)?;
     put_count(alloc, out, b" faults ", class.faults)?;
     out.append(b"\n")
+}
+
+/// The line of the Presents that kept records answered, where these are told.
+fn put_hits(alloc: Global, out: &mut Text, hits: Option<u64>) -> Result<(), Memory>
+    ensures { OnOk result (out.new ≡ out.old ++ hits_line hits) }
+{
+    match hits {
+        Some(hits) => {
+            put_count(alloc, out, b"cache hits ", hits)?;
+            out.append(b"\n")
+        }
+        None => Ok(()),
+    }
 }
 
 /// A word, and a number in decimal.

@@ -18,15 +18,21 @@ pub(crate) fn report<W: World, S: Sitting<W>>(
     alloc: Global,
     route: &Route,
     clients: &mut [Option<Client<W, S>>],
+    cache_hits: Option<u64>,
 ) -> Result<Report, Memory>
     requires few { length clients.old ≤ most_clients }
     requires ended { AreEnded clients.old }
-    ensures { IfOk result (IsReported route.now clients.old) }
+    ensures reported { IfOk result (IsReported route.now clients.old) }
+    ensures hits { IfOk result (λ report. report.cache_hits ≡ cache_hits) }
 {
     let mut costs = no_costs(alloc, route)?.into_vec();
     let clients = report_all(alloc, clients, costs.as_mut_slice())?;
     let classes = List::from_vec(costs);
-    Ok(Report { clients, classes })
+    Ok(Report {
+        clients,
+        classes,
+        cache_hits,
+    })
 }
 
 /// Reports each client that is there, in ascending order, and adds what its requests cost.

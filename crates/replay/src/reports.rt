@@ -37,4 +37,6 @@ pub struct Report {
     pub clients: List<ClientReport>,
     /// The classes of the route, in its order.
     pub classes: List<ClassReport>,
+    /// How many Presents to targets were answered by records that were kept, where some may be.
+    pub cache_hits: Option<u64>,
 }

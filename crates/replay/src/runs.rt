@@ -1,6 +1,7 @@
 //! A whole replay.
 
-ghost use Rattle.std.specs.Prelude.{ℕ, IfOk, OnOk};
+ghost use Rattle.std.specs.Prelude.{◌≡◌, ℕ, None, IfOk, OnOk};
+ghost use Rattle.std.specs.Bool.{then_some};
 ghost use Rattle.script.specs.Events.{AreEvents};
 ghost use Rattle.replay.specs.Counts.{AreDialled, AreSums, HaveCauses};
 ghost use Rattle.replay.specs.Marks.{AreMarksOf};
@@ -69,12 +70,60 @@ pub fn run_over<W: World, B: Backend<W> + Events, D: Door<W, B::Session>>(
     ensures run { IfOk result (IsRunOf W.World B.Session.Sitting B.exact route.now events.now
         (outside_of D.Door B.Watched door.old backend.old)
         (outside_of D.Door B.Watched door.new backend.new)) }
+
+    // No record is kept, or no hit is told.
+    ensures hits { IfOk result (λ report. report.cache_hits ≡ None) }
+{
+    run_with_hits(alloc, route, events, backend, door, false)
+}
+
+/// The same; the report has how many Presents the backend's records answered, where that is to be told.
+pub fn run_with_hits<W: World, B: Backend<W> + Events, D: Door<W, B::Session>>(
+    alloc: Global,
+    route: &Route,
+    events: &List<Event>,
+    backend: &mut B,
+    door: &mut D,
+    tells_hits: bool,
+) -> Result<Report, Memory>
+    requires { (targets : ℕ) × AreEvents targets events.now }
+    ensures report { IfOk result (IsReportOf W.World route.now events.now) }
+    ensures sums { IfOk result (λ report. AreSums B.exact report
+        (outside_of D.Door B.Watched door.old backend.old)
+        (outside_of D.Door B.Watched door.new backend.new)) }
+    ensures causes { IfOk result (λ report. HaveCauses route.now.pool report
+        (outside_of D.Door B.Watched door.old backend.old)
+        (outside_of D.Door B.Watched door.new backend.new)) }
+    ensures dialled { IfOk result (λ report. AreDialled
+        (outside_of D.Door B.Watched door.old backend.old)
+        (outside_of D.Door B.Watched door.new backend.new)) }
+    ensures marks { IfOk result (λ report. AreMarksOf route.now.pool
+        (D.counts door.old).most report.clients) }
+    ensures calm { OnOk result (GoesWell W.World B.Session.Sitting B.exact route.now events.now
+        (outside_of D.Door B.Watched door.old backend.old)
+        (outside_of D.Door B.Watched door.new backend.new)) }
+    ensures room { IfOk result (λ report. FindsRoom route.now report
+        (outside_of D.Door B.Watched door.old backend.old)
+        (outside_of D.Door B.Watched door.new backend.new)) }
+    ensures run { IfOk result (IsRunOf W.World B.Session.Sitting B.exact route.now events.now
+        (outside_of D.Door B.Watched door.old backend.old)
+        (outside_of D.Door B.Watched door.new backend.new)) }
+    ensures hits { IfOk result (λ report. report.cache_hits
+        ≡ then_some tells_hits (B.Backend.served backend.new)) }
 {
     run_laws::<W, B::Session>();
     let _ = route.parts();
     let mut clients = no_clients(alloc, MOST_CLIENTS as usize)?;
     let slots = clients.as_mut_slice();
-    match play_all(alloc, route, events.as_slice(), backend, door, slots) {
+    match play_all(
+        alloc,
+        route,
+        events.as_slice(),
+        backend,
+        door,
+        slots,
+        tells_hits,
+    ) {
         Ok(report) => Ok(report),
         Err(memory) => {
             give_up_all(clients.as_mut_slice(), door);
@@ -91,6 +140,7 @@ fn play_all<W: World, B: Backend<W> + Events, D: Door<W, B::Session>>(
     backend: &mut B,
     door: &mut D,
     clients: &mut [Option<Client<W, B::Session>>],
+    tells_hits: bool,
 ) -> Result<Report, Memory>
     requires events { (targets : ℕ) × AreEvents targets events.now }
     requires nobody { AreNobody clients.old }
@@ -107,10 +157,13 @@ fn play_all<W: World, B: Backend<W> + Events, D: Door<W, B::Session>>(
     ensures run { IfOk result (IsRunOf W.World B.Session.Sitting B.exact route.now events.now
         (outside_of D.Door B.Watched door.old backend.old)
         (outside_of D.Door B.Watched door.new backend.new)) }
+    ensures hits { IfOk result (λ report. report.cache_hits
+        ≡ then_some tells_hits (B.Backend.served backend.new)) }
 {
     connection_laws::<W, B::Session>();
     cost_laws::<W, B::Session>();
     let now = play(alloc, route, events, backend, door, clients)?;
     close_all(alloc, route, backend, door, now, clients)?;
-    report(alloc, route, clients)
+    let hits = tells_hits.then_some(backend.served_from_cache());
+    report(alloc, route, clients, hits)
 }

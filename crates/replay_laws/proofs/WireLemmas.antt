@@ -1,5 +1,5 @@
 -- what befalls the links of a quiet wire, with a new pool, is borne
-use Rattle.std.proofs.Common.{◌≡◌, ◌∙◌, ◌*◌, ◌≤◌, ℕ, Bool, true, false, List, Option, None, Some, Result, Ok, Err, length, refl, sym, ap, subst, arith}
+use Rattle.std.proofs.Common.{◌≡◌, ◌∙◌, ◌*◌, ◌≤◌, ℕ, Bool, true, false, List, [], ◌∷◌, Option, None, Some, Result, Ok, Err, length, refl, sym, ap, subst, arith}
 use Rattle.std.specs.List.{AllByRecursion}
 use Rattle.std.specs.Prelude.{IfOk}
 use Rattle.z_types.specs.Pending.{resting}
@@ -18,6 +18,7 @@ use Rattle.z_client.specs.declared.own.Own.{Own}
 use Rattle.replay.specs.leg.Deeds.{BackendView}
 use Rattle.replay.specs.front_conn.steps.Answering.{Outside}
 use Rattle.script.specs.declared.event.Event.{Event}
+use Rattle.script.specs.declared.event.Event.TheVariants.{Feed, End, Step, Run, Tick, Gone, Cut, Slow}
 use Rattle.replay.specs.package_quiet.steps.Bearing.{AreBearable, AreCutOnceMade, DialsGoOn, FaresAt, IsBearable, IsBorneBy}
 use Rattle.replay.specs.package_quiet.steps.Whole.{AreIdle, IsIdleSession}
 use Rattle.replay.specs.Counts.{HaveCauses}
@@ -28,7 +29,7 @@ use Rattle.replay.specs.steps.Room.{FindsRoom}
 use Rattle.replay.proofs.MovesLemmas.{HasNoSession, IsNewPool}
 use Rattle.replay.proofs.UndisturbedLemmas.{most-as, new-door}
 use Rattle.replay_laws.specs.Between.{DisturbsNobody}
-use Rattle.replay_laws.specs.Borne.{AreBorneMarks, BorneIsPlain, BorneIsPlainOrFull, HasBorneNumber, IsBorneIf, IsBorneRun, MayBeBorne, WasNeverFull, WentThrough, new_door}
+use Rattle.replay_laws.specs.Borne.{AreBorneMarks, BorneIsPlain, BorneIsPlainOrFull, HasBorneNumber, IsBorneIf, IsBorneRun, MayBeBorne, WasNeverFull, WentThrough, keeps_records, new_door}
 use Rattle.replay_laws.specs.Quiet.{QuietDisturbsNobody}
 
 -- ---- at the start
@@ -69,6 +70,27 @@ never-full route report before behind new room enough = record {
   still = room (new-door before.door new.none new.told new.fulls) (most-as route before new enough) ∙ sym new.fulls;
 }
 
+-- ---- which links are cut
+
+-- what is borne by a route is borne by its sessions, which keep records only where the route does
+number-by : (keeps kept : Bool) (pool : PoolNumbers) (event : Event) → (keeps ≡ true → kept ≡ true) → HasBorneNumber kept pool event
+    → HasBorneNumber keeps pool event
+number-by keeps kept pool (Feed client octets) so few = tt
+number-by keeps kept pool (End client) so few = tt
+number-by keeps kept pool (Step client) so few = tt
+number-by keeps kept pool (Run client) so few = tt
+number-by keeps kept pool (Tick seconds) so few = tt
+number-by keeps kept pool (Gone target presents) so few = few
+number-by false kept pool (Cut target) so few = refl
+number-by true kept pool (Cut target) so few = sym (so refl) ∙ few
+number-by keeps kept pool (Slow target looks) so few = few
+
+numbers-by : (keeps kept : Bool) (pool : PoolNumbers) (events : List Event) → (keeps ≡ true → kept ≡ true)
+    → AllByRecursion (HasBorneNumber kept pool) events → AllByRecursion (HasBorneNumber keeps pool) events
+numbers-by keeps kept pool [] so few = tt
+numbers-by keeps kept pool (event ∷ events) so few =
+    (number-by keeps kept pool event so few.0, numbers-by keeps kept pool events so few.1)
+
 -- ---- a replay over a wire
 
 over-dials : (exact : Bool) (wire counts : Counts) (own : Own) → exact ≡ true → counts ≡ counts_over exact wire own → DialsGoOn wire
@@ -78,18 +100,18 @@ over-dials false wire counts own is e go = absurd cc
 
 module _ {W S : Type 0} (w : world.Ghosts W) (t : sitting.Ghosts S W) (exact : Bool) (route : Route) (events : List Event)
     (before behind : Outside S) (report : Report) (run : IsRunOf w t exact route events before behind report) where
-  borne-run : t.keeps ≡ false → IsNewPool route before → ArePoolNumbers route.pool → MayBeBorne w route events before.backend.happened
+  borne-run : (t.keeps ≡ true → keeps_records route ≡ true) → IsNewPool route before → ArePoolNumbers route.pool → MayBeBorne w route events before.backend.happened
       → DisturbsNobody w t exact route events before behind report run → DialsGoOn behind.backend.counts
       → IsBorneRun w t exact route events before behind report run
   borne-run own new numbers may between go = record {
     told = may.told;
-    few = subst (λ (keeps : Bool). AllByRecursion (HasBorneNumber keeps route.pool) events) (sym own) may.few;
+    few = numbers-by t.keeps (keeps_records route) route.pool events own may.few;
     between = between;
     start = new-borne w t route before new numbers may.quiet;
     counted = go;
   }
 
-  borne-marks : t.keeps ≡ false → BorneIsPlainOrFull w t → BorneIsPlain w t → IsNewPool route before → ArePoolNumbers route.pool
+  borne-marks : (t.keeps ≡ true → keeps_records route ≡ true) → BorneIsPlainOrFull w t → BorneIsPlain w t → IsNewPool route before → ArePoolNumbers route.pool
       → (w1 : Counts) (own1 : Own) → behind.backend.counts ≡ counts_over exact w1 own1 → HaveCauses route.pool report before behind
       → FindsRoom route report before behind → exact ≡ true → MayBeBorne w route events before.backend.happened
       → DisturbsNobody w t exact route events before behind report run → DialsGoOn w1 → AreBorneMarks route report
@@ -100,13 +122,14 @@ module _ {W S : Type 0} (w : world.Ghosts W) (t : sitting.Ghosts S W) (exact : B
             plain exact route events before behind report run is one causes (never-full route report before behind new room enough);
       }
 
--- so a replay went through what its backend did, which is over the wire, keeps no records, and counts by the wire behind the replay
+-- so a replay went through what its backend did, which is over the wire, keeps records only where the route does, and counts by the wire
+-- behind the replay
 pub through_ok : {E : Type 0} (W S : Type 0) (w : world.Ghosts W) (t : sitting.Ghosts S W) (exact : Bool) (route : Route) (events : List Event)
     (before behind : Outside S) (result : Result Report E) → IfOk result (IsRunOf w t exact route events before behind)
     → BorneIsPlainOrFull w t → BorneIsPlain w t → IsNewPool route before → before.door ≡ new_door route.pool → ArePoolNumbers route.pool
     → (w1 : Counts) (own1 : Own) → behind.backend.counts ≡ counts_over exact w1 own1
     → IfOk result (λ report. HaveCauses route.pool report before behind) → IfOk result (λ report. FindsRoom route report before behind)
-    → t.keeps ≡ false → IfOk result (WentThrough w t exact route events before.backend.happened w1)
+    → (t.keeps ≡ true → keeps_records route ≡ true) → IfOk result (WentThrough w t exact route events before.backend.happened w1)
 through_ok W S w t exact route events before behind (Ok report) run marks plain new door numbers w1 own1 f causes room own = record {
   before = before;
   behind = behind;

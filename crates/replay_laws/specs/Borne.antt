@@ -1,6 +1,6 @@
 -- What befalls the links of a replay and marks no request but where the pool was full
 -- (this project's own)
-use Rattle.std.specs.Prelude.{◌≡◌, ℕ, ◌*◌, ◌<◌, ◌≤◌, Bool, true, false, List, [], Some, length}
+use Rattle.std.specs.Prelude.{◌≡◌, ℕ, ◌*◌, ◌<◌, ◌≤◌, Bool, true, false, List, [], Some, length, nat_lt}
 use Rattle.std.specs.List.{AllByRecursion}
 use Rattle.z_types.specs.declared.sitting.Sitting as sitting
 use Rattle.z_types.specs.declared.world.World as world
@@ -27,6 +27,10 @@ use Rattle.replay.specs.declared.reports.ClientReport.{ClientReport}
 use Rattle.replay.specs.declared.reports.Report.{Report}
 use Rattle.replay_laws.specs.Between.{DisturbsNobody}
 use Rattle.replay_laws.specs.Quiet.{IsQuiet}
+
+-- whether a route keeps records, so that Presents may be answered without their targets
+abbrev pub keeps_records : Route → Bool
+keeps_records route = nat_lt 0 route.cache_records
 
 -- no more Presents find their sets deleted than the pool repeats, replies come within its patience,
 -- and no link is cut where sessions keep records
@@ -79,11 +83,11 @@ BorneIsPlain {W} {S} w t =
 
 -- ---- over a wire
 
--- over sessions that keep no records: each number of a deletion or a delay is borne, nothing was
--- made to happen to any target before, and each target of the route tells what it answers
+-- each number of a deletion or a delay is borne, no link is cut where the route keeps records,
+-- nothing was made to happen to any target before, and each of the route tells what it answers
 pub record MayBeBorne {W : Type 0} (w : world.Ghosts W) (route : Route) (events : List Event)
     (happened : Happened) : Type 0 where
-  pub few : AllByRecursion (HasBorneNumber false route.pool) events
+  pub few : AllByRecursion (HasBorneNumber (keeps_records route) route.pool) events
   pub quiet : AreQuiet happened
   pub told : AreTold w route
 

@@ -5,8 +5,8 @@ use Rattle.replay.specs.declared.reports.ClassReport.{ClassReport}
 use Rattle.replay.proofs.CostLemmas.{names-costs_upto, names_of, same_length, written_back}
 use Rattle.replay.proofs.reporting.report.Goals as goal
 
-pub returns : goal.returns
-returns g c =
+pub returns-clause-reported : goal.returns-clause-reported
+returns-clause-reported g c =
     let clients = c.args.clients.now in
     let old = c.into_vec-costs.result.items in
     let slice = c.as_mut_slice.result.now in

@@ -35,7 +35,7 @@ returns-clause-report g c =
     (subst (λ (m : ℕ). AreClientsOf g.W.World g.B.Session.Sitting c.args.route.now m c.args.events.now c.play.new.clients) (sym c.play.ensures.most) c.in_ok-now.ensures.stand) in
     IfOk-weaker c.report.result (IsReported c.args.route.now c.close_all.new.clients) (IsReportOf g.W.World c.args.route.now c.args.events.now)
     (λ report reported. is_right g.W.World g.B.Session.Sitting c.args.route.now (g.D.Door.counts c.play.new.door).most
-    c.connection_laws.ensures.answered c.args.events.now c.close_all.new.clients report closed reported) c.report.ensures
+    c.connection_laws.ensures.answered c.args.events.now c.close_all.new.clients report closed reported) c.report.ensures.reported
 
 pub returns-clause-run : goal.returns-clause-run
 returns-clause-run g c =
@@ -58,7 +58,7 @@ returns-clause-run g c =
       closed = subst (λ (n : ℕ). ArePlayed g.W.World g.B.Session.Sitting g.B.Watched.exact c.args.route.now (closings c.args.events.now) n mid finish)
           c.in_ok-now.ensures.moment (c.in_ok-close_all.ensures.played c.args.events.now stand);
       reported = reported;
-    }) c.report.ensures
+    }) c.report.ensures.reported
 
 pub returns-clause-sums : goal.returns-clause-sums
 returns-clause-sums g c =
@@ -70,7 +70,7 @@ returns-clause-sums g c =
     c.in_ok-close_all.ensures.ended reported
     (costed_on g.B.Watched.exact c.args.route.now (record { clients = c.args.clients.now; outside = before })
     (record { clients = c.play.new.clients; outside = outside_of g.D.Door g.B.Watched c.play.new.door c.play.new.backend })
-    (record { clients = c.close_all.new.clients; outside = behind }) c.in_ok-now.ensures.costed c.in_ok-close_all.ensures.costed)) c.report.ensures
+    (record { clients = c.close_all.new.clients; outside = behind }) c.in_ok-now.ensures.costed c.in_ok-close_all.ensures.costed)) c.report.ensures.reported
 
 pub returns-clause-causes : goal.returns-clause-causes
 returns-clause-causes g c =
@@ -81,7 +81,7 @@ returns-clause-causes g c =
     (λ kind. nobody_met c.args.route.now.pool kind c.args.clients.now c.requires.nobody.none) reported
     (costed_on g.B.Watched.exact c.args.route.now (record { clients = c.args.clients.now; outside = before })
     (record { clients = c.play.new.clients; outside = outside_of g.D.Door g.B.Watched c.play.new.door c.play.new.backend })
-    (record { clients = c.close_all.new.clients; outside = behind }) c.in_ok-now.ensures.costed c.in_ok-close_all.ensures.costed)) c.report.ensures
+    (record { clients = c.close_all.new.clients; outside = behind }) c.in_ok-now.ensures.costed c.in_ok-close_all.ensures.costed)) c.report.ensures.reported
 
 pub returns-clause-dialled : goal.returns-clause-dialled
 returns-clause-dialled g c =
@@ -92,4 +92,4 @@ returns-clause-dialled g c =
     c.requires.nobody.none c.in_ok-close_all.ensures.ended
     (costed_on g.B.Watched.exact c.args.route.now (record { clients = c.args.clients.now; outside = before })
     (record { clients = c.play.new.clients; outside = outside_of g.D.Door g.B.Watched c.play.new.door c.play.new.backend })
-    (record { clients = c.close_all.new.clients; outside = behind }) c.in_ok-now.ensures.costed c.in_ok-close_all.ensures.costed)) c.report.ensures
+    (record { clients = c.close_all.new.clients; outside = behind }) c.in_ok-now.ensures.costed c.in_ok-close_all.ensures.costed)) c.report.ensures.reported

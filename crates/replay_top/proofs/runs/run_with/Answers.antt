@@ -40,7 +40,7 @@ returns-clause-through g c =
     (new_pool_is c.args.route.now c.in_ok-door.door _ c.in_ok-door.ensures.new c.parts.ensures.sound.pool)
     (new_door_is c.args.route.now c.in_ok-door.door c.in_ok-door.ensures.new) c.parts.ensures.sound.pool
     (g.N.Watched.counts c.run_over.new.backend.wire) c.run_over.new.backend.own refl
-    c.run_over.ensures.causes c.run_over.ensures.room refl
+    c.run_over.ensures.causes c.run_over.ensures.room (λ is. absurd cc)
 
 pub returns-clause-borne : goal.returns-clause-borne
 returns-clause-borne g c =

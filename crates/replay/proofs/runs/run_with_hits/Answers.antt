@@ -8,7 +8,7 @@ use Rattle.replay.proofs.UndisturbedLemmas.{run-goes}
 use Rattle.replay.proofs.TraceRoom.{finds-room}
 use Rattle.replay.specs.Clients.{ClientState}
 use Rattle.replay.specs.steps.Clients.{AreNobody}
-use Rattle.replay.proofs.runs.run_over.Goals as goal
+use Rattle.replay.proofs.runs.run_with_hits.Goals as goal
 
 pub play_all-requires-clause-nobody : goal.play_all-requires-clause-nobody
 play_all-requires-clause-nobody g c =
