@@ -65,6 +65,23 @@ link.sendall(bytes.fromhex('b413830205e0840301fffe85031000008603100000'))
 sys.exit(link.recv(1) != b'\xb5')"
 }
 
+# Sends octets, in hexadecimal, waits for an answer, and leaves.
+asks() {
+    timeout 10 python3 -c "
+import socket
+link = socket.create_connection(('127.0.0.1', $port))
+link.sendall(bytes.fromhex('$1'))
+link.recv(4096)"
+}
+# Whether the log's last line of a connection that has ended ends so, within two seconds.
+ends() {
+    for _ in $(seq 20); do
+        grep 'ended after' log | tail -n 1 | grep -qE "$1\$" && return
+        sleep 0.1
+    done
+    return 1
+}
+
 for stream in 0 1 2; do
     case $stream in
         0) "$gateway" serve route.toml "$port" 2 <&- >out 2>log & ;;
@@ -139,6 +156,13 @@ chmod 600 route.toml
 start 2
 ! logs passwords && hits 127.0.0.1 Demo && ! hits 127.0.0.1 Away
 row 'nothing is said of a file that is closed; a rule opens one database' $?
+asks b413830205e0840301fffe85031000008603100000 && ends 'Finished, as anonymous'
+row 'the log says that a connection was nobody'"'"'s' $?
+asks b41d830205e0840301fffe85031000008603100000a7081a06616e6e2f7077 && ends 'Finished, as ann'
+row 'or whose it was, and nothing of the password' $?
+wrong=b41d830205e0840301fffe85031000008603100000a7081a06616e6e2f7078
+asks $wrong && ends 'Finished, login refused' && asks $wrong$wrong && ends 'Finished, login refused 2 times' && ! logs 'p[wx]$|ann/'
+row 'or that its logins were refused' $?
 stop
 cp open.toml route.toml
 

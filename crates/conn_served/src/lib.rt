@@ -3,10 +3,14 @@
 #![tactic(auto)]
 
 mod clocks;
+mod listed;
 mod served;
+mod whose;
 
 pub use clocks::Ascending;
+pub use listed::Listed;
 pub use served::Served;
+pub use whose::whose_of;
 
 // Handed on: crates above name these through this one.
 pub use front_conn_costs;

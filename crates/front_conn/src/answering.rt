@@ -4,6 +4,7 @@
 ghost use Rattle.std.specs.Prelude.{◌≡◌, ◌++◌, ◌∷◌, [], IfOk, IfSome, IsSome, None, OnErr, OnOk, Some, is_some, option_to_list, take};
 ghost use Rattle.z_types.specs.declared.marks.End.TheVariants.{Malformed};
 ghost use Rattle.unit_forms.specs.Replies.{spell_reply};
+ghost use Rattle.front_z.specs.front_session.Sessions.{whose_of};
 ghost use Rattle.front_z.specs.gateway_rules.Replies.{bad_unit_reply};
 ghost use Rattle.std.specs.List.{AllByRecursion};
 ghost use Rattle.std.specs.Option.{option_map};
@@ -23,6 +24,7 @@ use crate::totals::{Total, add_accounts, make_totals};
 use front_http::begin_head;
 use front_http::front_sru::{SruState, end_get};
 use front_z::front_session::FrontSession;
+use front_z::gateway_rules::access_rules::Who;
 use front_z::gateway_rules::{bad_unit_reply, mark_of};
 use front_z::z_write::put_reply;
 use front_z::{Begun, begin_unit, end_unit};
@@ -152,6 +154,20 @@ impl<W: World, S: Sitting<W>> Answering<W, S> {
         ensures { result ≡ is_some self.now.in_work }
     {
         self.work.is_some()
+    }
+
+    /// Whose the client is, once an Init was accepted.
+    pub(crate) fn whose(&self) -> Option<Who>
+        ensures { result ≡ whose_of self.now.session }
+    {
+        self.session.whose()
+    }
+
+    /// How many units were begun.
+    pub(crate) fn units(&self) -> u32
+        ensures { result ≡ self.now.session.units }
+    {
+        self.session.units()
     }
 
     /// Under which mark each request was answered, in their order.

@@ -4,7 +4,7 @@ ghost use Rattle.std.specs.Prelude.{◌≡◌, ◌↔◌, ℕ, IfSome, IsSome, I
 ghost use Rattle.std.specs.List.{AllByRecursion};
 ghost use Rattle.std.specs.Option.{option_map};
 ghost use Rattle.route_config.specs.declared.route.Route.{Route};
-ghost use Rattle.front_z.specs.front_session.Sessions.{new_session};
+ghost use Rattle.front_z.specs.front_session.Sessions.{new_session, whose_of};
 ghost use Rattle.package.specs.steps.Ends.{lost_seats};
 ghost use Rattle.package.specs.steps.Packages.{IsPackageOf};
 ghost use Rattle.front_conn.specs.steps.Answering.{legs_in};
@@ -19,6 +19,7 @@ use crate::ends::end_step;
 use crate::{Stepped, Total};
 use front_http::sru_rules::{head_is_refused, works_answer};
 use front_http::{gets_go_on, heads_answer};
+use front_z::gateway_rules::access_rules::Who;
 use gw_outside::{Backend, Clock};
 use package::package_rules::have_members;
 use package::{package_cause_is_allowed, package_outcome_is_true};
@@ -137,6 +138,20 @@ impl<W: World, S: Sitting<W>> Conn<W, S> {
         ensures { result.now ≡ self.now.marks }
     {
         self.answering.marks()
+    }
+
+    /// Whose the client is, once an Init was accepted.
+    pub fn whose(&self) -> Option<Who>
+        ensures { result ≡ whose_of self.now.session }
+    {
+        self.answering.whose()
+    }
+
+    /// How many units were begun. Until an Init is accepted each is an Init that was refused.
+    pub fn units(&self) -> u32
+        ensures { result ≡ self.now.session.units }
+    {
+        self.answering.units()
     }
 
     /// What the legs of its requests counted: a sum for each class of the route, in their order, once a

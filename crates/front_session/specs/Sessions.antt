@@ -1,5 +1,5 @@
 -- What is kept of a client between its requests (this project's own)
-use Rattle.std.specs.Prelude.{◌≡◌, ◌<◌, ◌≤◌, ◌+◌, ◌^◌, ℕ, Bool, false, List, [], map, length, All, Option, None, IfSome}
+use Rattle.std.specs.Prelude.{◌≡◌, ◌<◌, ◌≤◌, ◌+◌, ◌^◌, ℕ, Bool, false, List, [], map, length, All, Option, None, Some, IfSome, if◌then◌else◌}
 use Rattle.z_types.specs.declared.known_set.KnownSet.{KnownSet}
 use Rattle.z_types.specs.declared.requests.Request.{Request}
 use Rattle.z_types.specs.declared.work.Work.{Work}
@@ -9,6 +9,7 @@ use Rattle.z_sets.specs.Sets.{stored}
 use Rattle.limit_rules.specs.declared.spent.Spent.{Spent}
 use Rattle.z_types.specs.Bounds.{most_legs}
 use Rattle.unit_forms.specs.Logins.{IsLoginIf}
+use Rattle.access_rules.specs.declared.who.Who.{Who}
 use Rattle.gateway_rules.specs.State.{ClientState, Progress, no_agreement}
 use Rattle.gateway_rules.specs.declared.agreement.Agreement.{Agreement}
 use Rattle.gateway_rules.specs.Works.{CanBegin, IsAskable}
@@ -49,6 +50,10 @@ client_of s = record {
   records = s.records;
   sets = map stored s.sets;
 }
+
+-- whose it is, once an Init was accepted
+abbrev pub whose_of : SessionState → Option Who
+whose_of s = if s.accepted then Some s.agreed.whose else None
 
 -- how far its units have come, where the next one is at this offset
 abbrev pub progress_of : ℕ → SessionState → Progress

@@ -9,7 +9,7 @@ ghost use Rattle.gateway_rules.specs.Works.{CanBegin, FitsWork, IsAskable};
 ghost use Rattle.front_session.specs.Admitting.{IsAdmitted, IsGivenAdmitted, IsWorkAdmitted, counted, is_in_place_after, waits};
 ghost use Rattle.front_session.specs.Refusals.{IsReady};
 ghost use Rattle.front_session.specs.WaitingOf.{waiting_of};
-ghost use Rattle.front_session.specs.Sessions.{CanWait, IsKeptSet, HasRoomFor, IsKept, new_session, spent_of};
+ghost use Rattle.front_session.specs.Sessions.{CanWait, IsKeptSet, HasRoomFor, IsKept, new_session, spent_of, whose_of};
 ghost use Rattle.front_session.specs.Settling.{FitsWaiting, IsSettledBy, IsSettledWith, ended, sets_ended};
 
 use crate::Admitted;
@@ -17,6 +17,7 @@ use crate::asking::{Asking, due_for};
 use crate::kept::end_sets;
 use crate::limited::are_units_spent;
 use crate::settle::{Answer, Pending, answer_to, searches_behind};
+use access_rules::Who;
 use gateway_rules::{Agreement, Sizes, agreed_by, is_accepted};
 use limit_rules::Spent;
 use route_config::Route;
@@ -66,6 +67,23 @@ impl FrontSession {
             sets: List::new(alloc),
             pending: None,
         }
+    }
+
+    /// Whose its client is, once an Init was accepted.
+    pub fn whose(&self) -> Option<Who>
+        ensures { result ≡ whose_of self.now }
+    {
+        match self.accepted {
+            true => Some(self.agreed.whose),
+            false => None,
+        }
+    }
+
+    /// How many units its client has sent. Until an Init is accepted each is an Init that was refused.
+    pub fn units(&self) -> u32
+        ensures { result ≡ self.now.units }
+    {
+        self.units
     }
 
     /// What a request is admitted as, after what its client has sent before, under one route for all of

@@ -22,3 +22,6 @@ pub use laws::{
 pub use marks::{mark_of, marked_diag};
 pub use replies::{bad_unit_reply, failed_reply, finished_reply, limit_reply};
 pub use sizes::Sizes;
+
+// Handed on: crates above name it through this one.
+pub use access_rules;

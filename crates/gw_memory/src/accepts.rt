@@ -9,11 +9,11 @@ ghost use Rattle.gw_outside.specs.Accepts.{AcceptFits, IsNewConnection, out_afte
 ghost use Rattle.planned_calls.specs.Planned.{new_calls, fails_next, after_call};
 ghost use Rattle.gw_memory.specs.Accepts.{AreUntouched, HandsOut, is_failed_accept};
 
-use gw_outside::{Accept, Accepted, Sink, Source};
+use gw_outside::{Accept, Accepted, Came, Sink, Source};
 use planned_calls::Calls;
 use std::alloc::Global;
 use std::collections::VecDeque;
-use z_types::{End, List, Mark, Memory};
+use z_types::{List, Memory};
 
 /// An acceptor of stated connections, each a source and a sink of which nothing was read or written. It
 /// has room for all that are handed back.
@@ -104,7 +104,7 @@ impl<I: Source, O: Sink> Accept for MemoryAccept<I, O> {
         }
     }
 
-    fn close(&mut self, input: I, output: O, _marks: &[Mark], _end: End)
+    fn close(&mut self, input: I, output: O, _came: Came<'_>)
         requires { IfSome (Some
             (self.old.total - (deque_len self.old.waiting + vec_len self.old.closed)))
             (λ count. 0 < count) }

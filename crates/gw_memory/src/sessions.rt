@@ -128,6 +128,8 @@ impl<T: Targets> Watched for FakeBackend<T> {
 impl<T: Targets> Backend<T> for FakeBackend<T> {
     type Session = FakeSession;
 
+    ghost served = { λ _. 0 };
+
     fn open_(&mut self, alloc: Global, address: &Address) -> Opening<FakeSession>
         ensures session { IfSession result
             (IsNewSession ⟦<FakeSession as Sitting<T>>⟧ address.now) }
@@ -219,6 +221,10 @@ impl<T: Targets> Backend<T> for FakeBackend<T> {
             Waiting::Answer(ask) => self.hear_ask(alloc, session, ask),
             _ => unreachable!(),
         }
+    }
+
+    fn served_from_cache(&self) -> u64 {
+        0
     }
 }
 

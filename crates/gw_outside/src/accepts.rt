@@ -4,8 +4,7 @@ ghost use Rattle.std.specs.Prelude.{◌≡◌, ◌-◌, ◌≤◌, ◌<◌, ℕ,
 ghost use Rattle.z_types.specs.Counts.{Rose};
 ghost use Rattle.gw_outside.specs.Accepts.{AcceptFits, IsNewConnection, out_after};
 
-use crate::{Sink, Source};
-use z_types::{End, Mark};
+use crate::{Came, Sink, Source};
 
 /// What an accept gave.
 #[derive(Drop)]
@@ -49,9 +48,9 @@ pub trait Accept {
         ensures closed { closed self.new ≡ closed self.old }
         ensures out { out self.new ≡ out_after result (out self.old) };
 
-    /// Takes back a connection that was accepted, with what came of it: under which mark each request was
-    /// answered, and how it ended, which an acceptor may tell an operator. It takes no memory and cannot fail.
-    fn close(&mut self, input: Self::In, output: Self::Out, marks: &[Mark], end: End)
+    /// Takes back a connection that was accepted, with what came of it, which an acceptor may tell an
+    /// operator. It takes no memory and cannot fail.
+    fn close(&mut self, input: Self::In, output: Self::Out, came: Came<'_>)
         requires { IfSome (out self.old) (λ count. 0 < count) }
         ensures closed { closed self.new
             ≡ option_map (λ before. before ++ (input, output) ∷ []) (closed self.old) }

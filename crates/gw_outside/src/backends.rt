@@ -70,6 +70,9 @@ pub trait Backend<W: World>: Watched {
     /// One session.
     type Session: Sitting<W>;
 
+    /// How many Presents it has answered by records that it kept, without asking a target.
+    ghost served: { Self → ℕ };
+
     /// Makes a link to an address and sends an Init over it. Inside a login it is the inner address that
     /// the link is made to, and the Init has the login.
     fn open_(&mut self, alloc: Global, address: &Address) -> Opening<Self::Session>
@@ -120,4 +123,8 @@ pub trait Backend<W: World>: Watched {
             (Self.Session.link session.old) (Self.Session.link session.new) result }
         ensures counts { LookCounts Self.exact (W.told (Self.Session.address session.old))
             result (Self.counts self.old) (Self.counts self.new) };
+
+    /// How many Presents it has answered by records that it kept, to tell that.
+    fn served_from_cache(&self) -> u64
+        ensures { result ≡ served self.now };
 }

@@ -5,6 +5,7 @@
 
 mod accepts;
 mod backends;
+mod came;
 mod clocks;
 mod events;
 mod files;
@@ -19,6 +20,7 @@ mod wires;
 
 pub use accepts::{Accept, Accepted};
 pub use backends::{Backend, Began, Heard, Opening};
+pub use came::{Came, Whose};
 pub use clocks::Clock;
 pub use events::Events;
 pub use files::{FileGot, Files};

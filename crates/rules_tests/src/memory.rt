@@ -7,7 +7,9 @@ ghost use Rattle.gw_outside.specs.Accepts.{IsUntouched};
 use crate::words::calls_of;
 use case_files::{Answer, NoAnswer};
 use gw_memory::{MemoryAccept, MemoryClock, MemoryFiles, MemorySink, MemorySource};
-use gw_outside::{Accept, Accepted, Clock, FileGot, Files, Sink, Source, TargetAnswer, write_all};
+use gw_outside::{
+    Accept, Accepted, Came, Clock, FileGot, Files, Sink, Source, TargetAnswer, Whose, write_all,
+};
 use std::alloc::Global;
 use z_types::{Condition, Diag, End, List, Memory, Text};
 
@@ -142,7 +144,13 @@ fn next_octet(accept: &mut MemoryAccept<MemorySource, MemorySink>) -> &'static s
         Accepted::Connection(mut input, output) => {
             let mut octet = [b'?'];
             let _ = input.read(&mut octet);
-            accept.close(input, output, &[], End::Closed);
+            let came = Came {
+                marks: &[],
+                end: Some(End::Closed),
+                whose: Whose::Untold,
+                cached: 0,
+            };
+            accept.close(input, output, came);
             match octet {
                 [b'a'] => "a",
                 [b'b'] => "b",

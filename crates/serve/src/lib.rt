@@ -2,12 +2,11 @@
 //! after another and serves each, over a door to the pool that all workers share.
 #![tactic(auto)]
 
-mod listed;
 mod rounds;
 mod serving;
 mod working;
 
-pub use listed::Listed;
+pub use conn_served::Listed;
 pub use serving::serve_connection;
 pub use working::{Worked, Worker, work};
 

@@ -11,6 +11,7 @@ ghost use Rattle.conn_served.specs.front_conn.steps.Drives.{conn_at, outside_of}
 ghost use Rattle.conn_served.specs.front_conn.steps.States.{nothing_yet};
 
 use crate::rounds::go_on;
+use conn_served::front_conn::gateway_rules::access_rules::Who;
 use conn_served::front_conn::{Conn, stands_at_start};
 use conn_served::front_conn_costs::{costs_nothing, marks_are_met, pays_on, starts_costless};
 use conn_served::front_conn_seats::{connections_give_back, steps_keep_seats};
@@ -75,6 +76,54 @@ pub fn serve_connection<
     // Over a told pool the sessions that are out are those that were out before, whatever its end.
     ensures seats { AreGivenBack (D.pool door.old) (D.pool door.new) }
 {
+    serve_client(rt, alloc, route, door, source, sink, backend, clock).came
+}
+
+/// What came of a connection, and of its client as far as its Inits told.
+#[derive(Drop)]
+pub(crate) struct ServedClient {
+    pub came: Served,
+    /// Whose the client was, once an Init was accepted.
+    pub whose: Option<Who>,
+    /// How many units it sent.
+    pub units: u32,
+}
+
+/// Serves a connection, and tells of its client.
+pub(crate) fn serve_client<
+    R: Wait,
+    W: World,
+    B: Backend<W>,
+    D: Door<W, B::Session>,
+    I: Source,
+    K: Sink,
+    C: Clock,
+>(
+    rt: &R,
+    alloc: Global,
+    route: &Route,
+    door: &mut D,
+    source: &mut I,
+    sink: &mut K,
+    backend: &mut B,
+    clock: &mut C,
+) -> ServedClient
+    ensures served { IsServed W.World route.now
+        (streams I.Source K.Sink source.old sink.old) (streams I.Source K.Sink source.new sink.new)
+        result.came.marks result.came.end }
+    ensures run { IsRun W.World B.Session.Sitting B.exact route.now result.came.marks
+        (outside_of D.Door B.Watched door.old backend.old)
+        (outside_of D.Door B.Watched door.new backend.new) }
+    ensures causes { HaveCauses route.now.pool result.came.marks
+        (tally_of D.Door B.Watched door.old backend.old)
+        (tally_of D.Door B.Watched door.new backend.new) }
+    ensures marks { AreMarksOf route.now.pool (D.counts door.old).most result.came.marks }
+    ensures paid { ArePaid (undialled result.came.end)
+        (tally_of D.Door B.Watched door.old backend.old)
+        (tally_of D.Door B.Watched door.new backend.new) }
+    ensures most { (D.counts door.new).most ≡ (D.counts door.old).most }
+    ensures seats { AreGivenBack (D.pool door.old) (D.pool door.new) }
+{
     steps_keep_seats::<W, B::Session>();
     connections_give_back::<W, B::Session>();
     let mut conn = Conn::new(alloc);
@@ -82,9 +131,13 @@ pub fn serve_connection<
         rt, alloc, route, &mut conn, door, source, sink, backend, clock,
     );
     conn.give_up(door);
-    Served {
-        marks: conn.into_marks(),
-        end,
+    ServedClient {
+        whose: conn.whose(),
+        units: conn.units(),
+        came: Served {
+            marks: conn.into_marks(),
+            end,
+        },
     }
 }
 

@@ -6,8 +6,10 @@ ghost use Rattle.conn_served.specs.Costs.{tally_of};
 ghost use Rattle.conn_served.specs.Seats.{AreGivenBack};
 ghost use Rattle.serve.specs.Working.{HasWorked, HaveCost, IsNoneLeft, worker_view};
 
-use crate::{Listed, serve_connection};
-use gw_outside::{Accept, Accepted, Backend, Clock};
+use crate::Listed;
+use crate::serving::serve_client;
+use conn_served::whose_of;
+use gw_outside::{Accept, Accepted, Backend, Came, Clock};
 use pool_sets::Door;
 use route_config::Route;
 use std::alloc::Global;
@@ -111,9 +113,19 @@ fn serve_all<R: Wait, W: World, B: Backend<W>, D: Door<W, B::Session>, A: Accept
         match accept.accept() {
             Accepted::Connection(mut source, mut sink) => {
                 let (from, to) = (&mut source, &mut sink);
-                let came = serve_connection(rt, alloc, route, door, from, to, backend, clock);
-                accept.close(source, sink, came.marks.as_slice(), came.end);
-                served.push(came);
+                let before = backend.served_from_cache();
+                let client = serve_client(rt, alloc, route, door, from, to, backend, clock);
+                accept.close(
+                    source,
+                    sink,
+                    Came {
+                        marks: client.came.marks.as_slice(),
+                        end: Some(client.came.end),
+                        whose: whose_of(route, client.whose, client.units),
+                        cached: backend.served_from_cache().saturating_sub(before),
+                    },
+                );
+                served.push(client.came);
             }
             Accepted::Ended => return Worked::Ended,
             Accepted::Failed => return Worked::Failed,

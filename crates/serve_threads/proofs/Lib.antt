@@ -1,5 +1,5 @@
-mod Dialled
-mod Lists
+pub mod Dialled
+pub mod Lists
 mod MovedOver
-mod Searched
-mod Together
+pub mod Searched
+pub mod Together

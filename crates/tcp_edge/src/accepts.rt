@@ -7,15 +7,15 @@ use crate::clocks::seconds;
 use crate::repeats::Times;
 use crate::sinks::WriterSink;
 use crate::sources::SocketSource;
+use crate::told::Told;
 use crate::totals::Totals;
-use gw_outside::{Accept, Accepted};
+use gw_outside::{Accept, Accepted, Came};
 use log::{Log, error, info};
 use std::io::{Error, ErrorKind, Result};
 use std::net::{SocketAddr, TcpListener, TcpStream};
 use std::sync::{Mutex, Wait};
 use std::time;
 use std::time::Duration;
-use z_types::{End, Mark};
 
 /// How long a client may send nothing: 15 minutes.
 const SILENT_SECONDS: u64 = 900;
@@ -124,24 +124,22 @@ impl<'a, R: time::Clock + Wait, L: Log> SocketAccept<'a, R, L> {
 
     /// Counts a connection that was lost before it could be served, and logs it, once a second at most.
     fn tell_lost(&self, number: u64, peer: SocketAddr, error: &Error) {
-        self.totals.count_ended(&[]);
+        self.totals.count_ended(&[], 0);
         if let Some(times) = self.totals.lost.count(seconds(self.runtime)) {
             error!(self.log; "connection {number} from {peer} was lost: {error}{times}");
         }
     }
 
-    /// Logs a connection that has ended: how, what it lasted and moved, and its requests, with those among
-    /// them whose mark is not Plain by the kind of their mark. Once a minute the totals follow.
-    fn tell_end(&self, input: &SocketSource, written: u64, marks: &[Mark], end: End) {
+    /// Logs a connection that has ended: what it lasted and moved, and what came of it. Once a minute the
+    /// totals follow.
+    fn tell_end(&self, input: &SocketSource, written: u64, came: Came<'_>) {
         let now = seconds(self.runtime);
         let lasted = now.saturating_sub(input.begun());
-        let [link, silent, gone, full] = counts_of(marks);
         info!(self.log;
-            "connection {} ended after {lasted} seconds, {} octets in, {written} out, {} requests \
-             ({link} Link, {silent} Silent, {gone} Gone, {full} Full), {end:?}",
+            "connection {} ended after {lasted} seconds, {} octets in, {written} out, {}",
             input.number(),
             input.octets(),
-            marks.len(),
+            Told(came),
         );
         self.totals.tell_due(self.log, now);
     }
@@ -180,33 +178,11 @@ impl<R: time::Clock + Wait, L: Log> Accept for SocketAccept<'_, R, L> {
         self.count_fault()
     }
 
-    fn close(
-        &mut self,
-        mut input: SocketSource,
-        output: WriterSink<TcpStream>,
-        marks: &[Mark],
-        end: End,
-    ) {
+    fn close(&mut self, mut input: SocketSource, output: WriterSink<TcpStream>, came: Came<'_>) {
         input.end();
-        self.totals.count_ended(marks);
-        self.tell_end(&input, output.octets(), marks, end);
+        self.totals.count_ended(came.marks, came.cached);
+        self.tell_end(&input, output.octets(), came);
     }
-}
-
-/// How many marks are Link, Silent, Gone and Full.
-fn counts_of(marks: &[Mark]) -> [usize; 4] {
-    let mut counts = [0usize; 4];
-    for mark in marks {
-        let place = match mark {
-            Mark::Plain => continue,
-            Mark::Link => 0,
-            Mark::Silent(_) => 1,
-            Mark::Gone => 2,
-            Mark::Full(_) => 3,
-        };
-        counts[place] = counts[place].saturating_add(1);
-    }
-    counts
 }
 
 /// A connection's two halves, of which each call waits no longer than a client may let it.

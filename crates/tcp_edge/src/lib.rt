@@ -17,6 +17,7 @@ mod standard;
 mod tally;
 #[cfg(test)]
 mod tests;
+mod told;
 mod totals;
 mod waits;
 mod wires;

@@ -4,6 +4,7 @@ mod connections;
 mod files;
 mod lines;
 mod links;
+mod told;
 
 use std::io::Result;
 use std::net::{Net, SocketAddr, TcpListener, TcpStream};

@@ -16,6 +16,7 @@ pub struct Totals {
     accepted: Count,
     ended: Count,
     marked: [Count; KINDS],
+    cached: Count,
     told: Count,
     minutes: Minutes,
     pub(crate) refused: Repeats,
@@ -62,6 +63,11 @@ impl Count {
         self.value.fetch_add(1, Ordering::SeqCst).saturating_add(1)
     }
 
+    /// So many more.
+    fn add(&self, more: u64) {
+        self.value.fetch_add(more, Ordering::SeqCst);
+    }
+
     /// The count.
     fn get(&self) -> u64 {
         self.value.load(Ordering::SeqCst)
@@ -86,6 +92,7 @@ impl Totals {
                 Count::new(),
                 Count::new(),
             ],
+            cached: Count::new(),
             told: Count::new(),
             minutes: Minutes::new(),
             refused: Repeats::new(),
@@ -147,9 +154,11 @@ impl Totals {
         self.accepted.raise()
     }
 
-    /// A connection has ended, whose requests were answered under these marks.
-    pub(crate) fn count_ended(&self, marks: &[Mark]) {
+    /// A connection has ended, whose requests were answered under these marks, and so many Presents by records
+    /// that were kept.
+    pub(crate) fn count_ended(&self, marks: &[Mark], cached: u64) {
         self.ended.raise();
+        self.cached.add(cached);
         for mark in marks {
             self.marked[kind_of(mark)].raise();
         }
@@ -214,7 +223,11 @@ impl fmt::Display for Totals {
             silent.get(),
             gone.get(),
             full.get(),
-        )
+        )?;
+        match self.cached.get() {
+            0 => Ok(()),
+            cached => write!(f, ", {cached} from the cache"),
+        }
     }
 }
 

@@ -5,7 +5,7 @@ use crate::clients::{ANSWERED, INIT, SEARCH};
 use crate::commands::{files_of, texts};
 use gateway_config::Status;
 use gw_memory::{FakeBackend, MemoryClock, MemorySink, MemorySource};
-use gw_outside::{Accept, Accepted, Got, Sink, Source, Took};
+use gw_outside::{Accept, Accepted, Came, Got, Sink, Source, Took};
 use route_config::SMALLEST_TEXT;
 use serve_top::serve::{Listed, Worker};
 use serve_top::top_serve;
@@ -16,7 +16,7 @@ use std::test::Fail;
 use std::thread::{Threads, sleep};
 use std::time::Duration;
 use test_target::TestWorld;
-use z_types::{End, List, Mark, Memory, Text};
+use z_types::{End, List, Memory, Text};
 
 /// How often a client looks whether the other was written enough, a millisecond apart.
 const LOOKS: u32 = 10_000;
@@ -106,7 +106,7 @@ type Ends<'a> = (WaitingSource<'a>, CountedSink<'a>);
 #[derive(Drop)]
 struct OneClient<'a> {
     waiting: Option<Ends<'a>>,
-    closed: Option<(Ends<'a>, usize, End)>,
+    closed: Option<(Ends<'a>, usize, Option<End>)>,
 }
 
 impl<'a> Accept for OneClient<'a> {
@@ -131,14 +131,8 @@ impl<'a> Accept for OneClient<'a> {
         }
     }
 
-    fn close(
-        &mut self,
-        input: WaitingSource<'a>,
-        output: CountedSink<'a>,
-        marks: &[Mark],
-        end: End,
-    ) {
-        self.closed = Some(((input, output), marks.len(), end));
+    fn close(&mut self, input: WaitingSource<'a>, output: CountedSink<'a>, came: Came<'_>) {
+        self.closed = Some(((input, output), came.marks.len(), came.end));
     }
 }
 
@@ -191,7 +185,7 @@ fn have_answered(workers: &[WithOne]) -> bool {
 fn has_answered(worker: &WithOne) -> bool {
     match &worker.accept.closed {
         Some(((_, output), marks, end)) => {
-            output.sink.received() == ANSWERED && *marks == 2 && *end == End::Finished
+            output.sink.received() == ANSWERED && *marks == 2 && *end == Some(End::Finished)
         }
         None => false,
     }

@@ -83,6 +83,8 @@ impl<N: Watched> Watched for ZBackend<N> {
 impl<W: World, N: Wire<W>> Backend<W> for ZBackend<N> {
     type Session = ZSession<W, N::Link>;
 
+    ghost served = { λ _. 0 };
+
     fn open_(&mut self, alloc: Global, address: &Address) -> Opening<ZSession<W, N::Link>>
         requires login { HasLogin address.now }
         ensures session { IfSession result
@@ -200,6 +202,10 @@ impl<W: World, N: Wire<W>> Backend<W> for ZBackend<N> {
                 Heard::Failed
             }
         }
+    }
+
+    fn served_from_cache(&self) -> u64 {
+        0
     }
 }
 

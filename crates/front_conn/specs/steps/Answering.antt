@@ -1,6 +1,5 @@
 -- How a unit or a head is begun and its request answered (ANSI/NISO Z39.50-2003, 4.2; SRU 1.2)
 use Rattle.std.specs.Prelude.{◌≡◌, ◌⊎◌, ℕ, ◌+◌, ◌||◌, Bool, List, [], ◌∷◌, ◌++◌, Option, None, Some, Result, Ok, Err, IfSome, option_to_list, take}
-use Rattle.std.specs.List.{AllByRecursion}
 use Rattle.z_types.specs.declared.marks.End.{End}
 use Rattle.z_types.specs.declared.marks.End.TheVariants as how
 use Rattle.z_types.specs.declared.marks.End.TheVariants.{Closed, Malformed, Limited}

@@ -4,7 +4,7 @@ use super::listening;
 use crate::sinks::WriterSink;
 use crate::sources::SocketSource;
 use crate::{SocketAccept, Totals};
-use gw_outside::{Accept, Accepted, Got, Sink, Source, Took, write_all};
+use gw_outside::{Accept, Accepted, Came, Got, Sink, Source, Took, Whose, write_all};
 use log::Log;
 use log::sink::{Discard, Memory};
 use std::io::{Read, Result, Write};
@@ -200,7 +200,13 @@ fn is_served<R: time::Clock + Wait, L: Log>(
         Accepted::Connection(mut source, mut sink) => {
             let gone = go(case.0, client, &mut source, &mut sink);
             let marks = [Mark::Plain, Mark::Link, Mark::Silent(2), Mark::Link];
-            acceptor.close(source, sink, &marks, End::Finished);
+            let came = Came {
+                marks: &marks,
+                end: Some(End::Finished),
+                whose: Whose::Anonymous,
+                cached: 3,
+            };
+            acceptor.close(source, sink, came);
             gone && reads(client, case.1)
         }
         Accepted::Ended => false,
@@ -248,7 +254,7 @@ fn connections_go_as_their_steps_say(rt: HostRuntime) -> std::result::Result<(),
     assert_eq!(rt;
         told.as_str(),
         "totals: 0 connections open, 4 served, \
-        requests 4 Plain, 8 Link, 4 Silent, 0 Gone, 0 Full"
+        requests 4 Plain, 8 Link, 4 Silent, 0 Gone, 0 Full, 12 from the cache"
     );
     Ok(())
 }
@@ -265,7 +271,8 @@ fn a_connection_is_logged_by_its_number(rt: HostRuntime) -> std::result::Result<
     };
     assert!(rt; begun.as_str().contains("connection 1 from 127.0.0.1:"));
     assert!(rt; ended.as_str().contains("connection 1 ended after "));
-    let told = "6 octets in, 6 out, 4 requests (2 Link, 1 Silent, 0 Gone, 0 Full), Finished";
+    let told = "6 octets in, 6 out, 4 requests (2 Link, 1 Silent, 0 Gone, 0 Full), \
+        3 from the cache, Finished, as anonymous";
     assert!(rt; ended.as_str().ends_with(told));
     Ok(())
 }

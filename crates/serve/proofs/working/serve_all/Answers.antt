@@ -54,31 +54,31 @@ loop-round-preserved g c =
     let old : WorkerView g.row.A-In.Denot g.row.A-Out.Denot = worker_view g.A.Accept c.args.served.now c.args.accept.now in
     let mid : WorkerView g.row.A-In.Denot g.row.A-Out.Denot = worker_view g.A.Accept c.loop-round.served c.loop-round.accept in
     let new : WorkerView g.row.A-In.Denot g.row.A-Out.Denot = worker_view g.A.Accept c.push.new.self c.close.new.self in
-    let came : Served = c.serve_connection-came.result in
+    let came : Served = c.serve_client-client.result.came in
     let closed = c.close.ensures.closed
-    ∙ ap (λ told. option_map (λ earlier. earlier ++ (c.serve_connection-came.new.source, c.serve_connection-came.new.sink) ∷ []) told)
+    ∙ ap (λ told. option_map (λ earlier. earlier ++ (c.serve_client-client.new.source, c.serve_client-client.new.sink) ∷ []) told)
     c.in-Connection.ensures.closed in
     let out = c.close.ensures.out ∙ ap (λ told. option_map (λ count. count - 1) told) c.in-Connection.ensures.out in
     let fits = subst
     (λ (m : Option ℕ). AcceptFits (g.A.Accept.left c.loop-round.accept) m (Connection c.in-Connection.source c.in-Connection.sink))
     (sym c.close.ensures.left) c.in-Connection.ensures.fits in record {
       worked = worked-more g.W.World g.A.In.Source g.A.Out.Sink c.args.route.now old mid new c.in-Connection.source
-          c.in-Connection.sink (c.serve_connection-came.new.source, c.serve_connection-came.new.sink) came
+          c.in-Connection.sink (c.serve_client-client.new.source, c.serve_client-client.new.sink) came
           c.loop-round.invariant.worked
           (c.push.ensures ∙ ap (λ (xs : List Served). xs ++ came ∷ []) c.make_room.ensures.same)
-          closed fits c.in-Connection.ensures.connection out c.serve_connection-came.ensures.served;
+          closed fits c.in-Connection.ensures.connection out c.serve_client-client.ensures.served;
       cost = cost-more c.args.route.now.pool c.args.served.now c.loop-round.served c.push.new.self came
           (tally_of g.D.Door g.B.Watched c.args.door.now c.args.backend.now)
           (tally_of g.D.Door g.B.Watched c.loop-round.door c.loop-round.backend)
-          (tally_of g.D.Door g.B.Watched c.serve_connection-came.new.door c.serve_connection-came.new.backend)
+          (tally_of g.D.Door g.B.Watched c.serve_client-client.new.door c.serve_client-client.new.backend)
           c.loop-round.invariant.cost
           (c.push.ensures ∙ ap (λ (xs : List Served). xs ++ came ∷ []) c.make_room.ensures.same)
-          c.loop-round.invariant.most c.serve_connection-came.ensures.causes c.serve_connection-came.ensures.marks
-          c.serve_connection-came.ensures.paid;
+          c.loop-round.invariant.most c.serve_client-client.ensures.causes c.serve_client-client.ensures.marks
+          c.serve_client-client.ensures.paid;
       seats = back-both (g.D.Door.pool c.args.door.now) (g.D.Door.pool c.loop-round.door)
-          (g.D.Door.pool c.serve_connection-came.new.door) c.loop-round.invariant.seats c.serve_connection-came.ensures.seats;
+          (g.D.Door.pool c.serve_client-client.new.door) c.loop-round.invariant.seats c.serve_client-client.ensures.seats;
       faults = omega (arith, c.loop-round.invariant.faults, c.in-Connection.ensures.faults, c.close.ensures.faults);
-      most = c.serve_connection-came.ensures.most ∙ c.loop-round.invariant.most;
+      most = c.serve_client-client.ensures.most ∙ c.loop-round.invariant.most;
     }
 
 pub returns-then-is_err-clause-cost : goal.returns-then-is_err-clause-cost

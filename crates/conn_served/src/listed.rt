@@ -1,9 +1,9 @@
 //! What came of connections, one after another: kept, or counted and forgotten.
 
 ghost use Rattle.std.specs.Prelude.{◌≡◌, ◌<◌, [], ◌∷◌, ◌++◌, length, IfSome, IsSomeAnd, OnOk};
-ghost use Rattle.conn_served.specs.front_conn_costs.steps.Growth.{last64};
+ghost use Rattle.front_conn_costs.specs.steps.Growth.{last64};
 
-use conn_served::Served;
+use crate::Served;
 use http_server::Log;
 use std::alloc::Global;
 use std::marker::Model;
@@ -71,7 +71,7 @@ impl Listed {
     }
 
     /// Makes room for one connection more.
-    pub(crate) fn make_room(&mut self) -> Result<(), Memory>
+    pub fn make_room(&mut self) -> Result<(), Memory>
         ensures room { OnOk result (length self.new < last64) }
         ensures same { self.new ≡ self.old }
     {
@@ -85,7 +85,7 @@ impl Listed {
     }
 
     /// Lists what came of one connection more. Without memory to keep it, all are counted alone from then on.
-    pub(crate) fn push(&mut self, came: Served)
+    pub fn push(&mut self, came: Served)
         requires { length self.old < last64 }
         ensures { self.new ≡ self.old ++ came ∷ [] }
     {

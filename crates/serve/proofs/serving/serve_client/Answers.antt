@@ -9,7 +9,7 @@ use Rattle.conn_served.specs.front_conn.steps.Drives.{ConnAt, conn_at, given_up_
 use Rattle.conn_served.specs.front_conn.steps.States.{ConnectionState}
 use Rattle.conn_served.specs.Serving.{IsServed, streams}
 use Rattle.conn_served.proofs.SeatLemmas.{run-back}
-use Rattle.serve.proofs.serving.serve_connection.Goals as goal
+use Rattle.serve.proofs.serving.serve_client.Goals as goal
 
 pub returns-clause-served : goal.returns-clause-served
 returns-clause-served g c =
