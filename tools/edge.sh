@@ -81,6 +81,8 @@ ends() {
     done
     return 1
 }
+# Whether a search in Demo shows its first record.
+shows() { curl -g -s -m 10 "http://127.0.0.1:$port/Demo?version=1.2&operation=searchRetrieve&query=dc.title%3Da&maximumRecords=1" | grep -q '<zs:recordPosition>1<'; }
 
 for stream in 0 1 2; do
     case $stream in
@@ -164,6 +166,15 @@ wrong=b41d830205e0840301fffe85031000008603100000a7081a06616e6e2f7078
 asks $wrong && ends 'Finished, login refused' && asks $wrong$wrong && ends 'Finished, login refused 2 times' && ! logs 'p[wx]$|ann/'
 row 'or that its logins were refused' $?
 stop
+
+# Records that are kept: the log tells how many Presents they answered.
+printf '[cache]\nrecords = 10\n' >>open.toml
+cp open.toml route.toml
+start 1
+hits 127.0.0.1 Demo && shows && shows && ends '1 requests \(0 Link, 0 Silent, 0 Gone, 0 Full\), 1 from the cache, Closed'
+row 'records that are kept are given again, and the log says so' $?
+stop
+sed -i '/^.cache.$/,$d' open.toml
 cp open.toml route.toml
 
 # Refusals: the words, what is printed, what the standard error says.

@@ -8,6 +8,7 @@ use gateway_config::Status;
 use std::alloc::Global;
 use std::net::{Net, TcpListener, TcpStream};
 use std::process::ExitCode;
+use std::random::RandomSource;
 use std::sync::Wait;
 use std::thread::Threads;
 use std::{io, rt, time};
@@ -23,6 +24,7 @@ pub(crate) fn run<
         + AllocGlobal
         + Net<Listener = TcpListener, Stream = TcpStream>
         + time::Clock
+        + RandomSource
         + Threads
         + Wait
         + Sync,

@@ -8,6 +8,7 @@ use log::filter::{Builder, Filter, FilteredLog};
 use serve_edge::serve;
 use std::alloc::{AllocError, Global};
 use std::net::{Net, TcpListener, TcpStream};
+use std::random::RandomSource;
 use std::sync::Wait;
 use std::thread::Threads;
 use std::{io, rt, time};
@@ -35,6 +36,7 @@ pub(crate) fn serve_here<
         + rt::Files
         + Print
         + Eprint
+        + RandomSource
         + Threads
         + Wait
         + Sync,

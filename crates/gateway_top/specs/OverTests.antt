@@ -1,7 +1,7 @@
 -- What a replay prints where its world tells what test targets answer, and its wire was just made
 -- (this project's own). The program replays test targets alone: so of what the main theorem asks of
 -- targets that tell their answers, and of the wire, nothing is left to ask here
-use Rattle.std.specs.Prelude.{◌≡◌, ℕ, true, false, List, [], ◌∷◌, Option, Some, Contains, codes, map}
+use Rattle.std.specs.Prelude.{◌≡◌, ℕ, true, List, [], ◌∷◌, Option, Some, Contains, codes, map}
 use Rattle.std.specs.List.{AllByRecursion}
 use Rattle.z_types.specs.Logins.{inside}
 use Rattle.z_types.specs.Under.{under}

@@ -1,6 +1,6 @@
 -- A replay over a wire that is lent is one over the wire
-use Rattle.std.proofs.Common.{◌≡◌, ℕ, Bool, List, [], Some, Result, Ok, Err, refl, ap}
-use Rattle.std.specs.Prelude.{IfOk}
+use Rattle.std.proofs.Common.{◌≡◌, ℕ, Bool, List, [], Some, Result, Ok, Err, refl, ap, subst}
+use Rattle.std.specs.Prelude.{IfOk, OnOk}
 use Rattle.z_types.specs.declared.sitting.Sitting as sitting
 use Rattle.z_types.specs.declared.world.World as world
 use Rattle.gw_outside.specs.Counts.{Counts}
@@ -45,6 +45,18 @@ pub lent_through : {E W S : Type 0} (w : world.Ghosts W) (t : sitting.Ghosts S W
     → IfOk result (WentThrough w t exact route events happened counts)
 lent_through w t exact route events reference happened counts result so =
     through_as_lent w t exact route events happened (lent_by reference happened) counts result (lent-quiet reference happened) (λ target. refl) so
+
+-- so, where what is over a wire that is lent has that wire before and behind it
+pub lent_through_at : {E W S N : Type 0} (w : world.Ghosts W) (t : sitting.Ghosts S W) (exact : Bool) (route : Route) (events : List Event)
+    (reference : ℕ) (happened : N → Happened) (counts : N → Counts) (before lent_before behind lent_behind : N) (result : Result Report E)
+    → lent_before ≡ before → OnOk result (lent_behind ≡ behind)
+    → IfOk result (WentThrough w t exact route events (lent_by reference (happened lent_before)) (counts lent_behind))
+    → IfOk result (WentThrough w t exact route events (happened before) (counts behind))
+lent_through_at {N = N} w t exact route events reference happened counts before lent_before behind lent_behind (Ok report) is_before is_behind so =
+    lent_through {E = Unit {0}} w t exact route events reference (happened before) (counts behind) (Ok report)
+    (subst (λ (n : N). WentThrough w t exact route events (lent_by reference (happened n)) (counts behind) report) is_before
+    (subst (λ (n : N). WentThrough w t exact route events (lent_by reference (happened lent_before)) (counts n) report) is_behind so))
+lent_through_at w t exact route events reference happened counts before lent_before behind lent_behind (Err err) is_before is_behind so = tt
 
 pub lent_shares : {E W : Type 0} (w : world.Ghosts W) (exact : Bool) (route : Route) (events : List Event) (counts : Counts) (reference : ℕ)
     (happened : Happened) (result : Result Report E) → IfOk result (SharesIfOrderlyOver w exact route events counts (lent_by reference happened))

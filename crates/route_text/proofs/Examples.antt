@@ -122,6 +122,19 @@ no-such-database : refused (smallest_and (rule (codes "user = \"anonymous\"") (c
 unfolding configuration_on_literals
 no-such-database = refl
 
+-- the numbers of the cache, and one of a record that is too many
+cached : option_map (λ route. route.cache_records) (route (smallest_and (codes "[cache]" ∷ codes "records = 10" ∷ []))) ≡ Some 10
+unfolding configuration_on_literals
+cached = refl
+
+cached-octets : option_map (λ route. route.cache_record_bytes) (route (smallest_and (codes "[cache]" ∷ codes "records = 10" ∷ []))) ≡ Some 4096
+unfolding configuration_on_literals
+cached-octets = refl
+
+record_bytes-0 : refused (smallest_and (codes "[cache]" ∷ codes "record_bytes = 0" ∷ [])) ≡ Some (OutOfRange (codes "cache.record_bytes") (codes "0"))
+unfolding configuration_on_literals
+record_bytes-0 = refl
+
 -- two targets in a group, a third, and two databases: two classes, of two addresses and of one, and three legs
 abbrev realistic : List ℕ
 realistic = lines (

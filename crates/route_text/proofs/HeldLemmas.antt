@@ -10,13 +10,14 @@ use Rattle.route_config.specs.declared.route.User.{User}
 use Rattle.route_config.specs.declared.route.Rule.{Rule}
 use Rattle.route_config.specs.Smallest.{smallest_route}
 use Rattle.toml.specs.Data.{Data, Members, as_table, get}
+use Rattle.route_text.specs.declared.values.CacheNumbers.{CacheNumbers}
 use Rattle.route_text.specs.declared.values.GroupValues.{GroupValues}
 use Rattle.route_text.specs.declared.values.DatabaseValues.{DatabaseValues}
 use Rattle.route_text.specs.Kinds.{required, default, Table, Keys, key_names}
 use Rattle.route_text.specs.Keys.{empty, nothing, index_keys, schema_keys, top_keys, default_indexes, default_schemas}
 use Rattle.route_text.specs.declared.fault.RouteFault.{RouteFault}
 use Rattle.route_text.specs.Refusal.{refusal, of_keys, of_others}
-use Rattle.route_text.specs.Values.{held, list, target_in, group_in, database_in, pool_in, limits_in, index_in, schema_in, user_in, rule_in, values_in}
+use Rattle.route_text.specs.Values.{held, list, target_in, group_in, database_in, pool_in, limits_in, index_in, schema_in, user_in, rule_in, cache_in, values_in}
 
 -- a list that is given where a key is not there, and is what its default is read as
 pub held-list : {A : Type 0} (found : Data → A) (other : Data) (given : List A) (here : Option Data) → given ≡ list found other → unwrap_or (option_map (list found) here) given ≡ list found (held (default other) here)
@@ -33,7 +34,7 @@ unfolding schema_keys default_schemas schema_in
 schemas-held = refl
 
 -- the values of a file, one by one
-pub values-in : (file : Data) (targets : List Target) (groups : List GroupValues) (databases : List DatabaseValues) (pool : PoolNumbers) (limits : Limits) (indexes : List Index) (schemas : List Schema) (users : List User) (rules : List Rule)
+pub values-in : (file : Data) (targets : List Target) (groups : List GroupValues) (databases : List DatabaseValues) (pool : PoolNumbers) (limits : Limits) (indexes : List Index) (schemas : List Schema) (users : List User) (rules : List Rule) (cache : CacheNumbers)
     → targets ≡ list target_in (held required (get (codes "target") file))
     → groups ≡ list group_in (held nothing (get (codes "group") file))
     → databases ≡ list database_in (held required (get (codes "database") file))
@@ -43,9 +44,10 @@ pub values-in : (file : Data) (targets : List Target) (groups : List GroupValues
     → schemas ≡ list schema_in (held (default default_schemas) (get (codes "schema") file))
     → users ≡ list user_in (held nothing (get (codes "user") file))
     → rules ≡ list rule_in (held nothing (get (codes "rule") file))
-    → record { targets = targets; groups = groups; databases = databases; pool = pool; limits = limits; indexes = indexes; schemas = schemas; users = users; rules = rules } ≡ values_in file
+    → cache ≡ cache_in (held empty (get (codes "cache") file))
+    → record { targets = targets; groups = groups; databases = databases; pool = pool; limits = limits; indexes = indexes; schemas = schemas; users = users; rules = rules; cache = cache } ≡ values_in file
 unfolding top_keys values_in
-values-in file targets groups databases pool limits indexes schemas users rules a b c d e f g h i = rw (a, b, c, d, e, f, g, h, i)
+values-in file targets groups databases pool limits indexes schemas users rules cache a b c d e f g h i j = rw (a, b, c, d, e, f, g, h, i, j)
 
 -- of two refusals, one after the other, there is none where each is none
 pub both : {one other : Option RouteFault} → one ≡ None → other ≡ None → option_or one other ≡ None

@@ -7,9 +7,9 @@ use Rattle.route_text.specs.declared.fault.RouteFault.TheVariants.{TtlOrder}
 use Rattle.route_text.specs.declared.values.Values.{Values}
 use Rattle.route_text.specs.Path.{key_path}
 use Rattle.route_text.specs.Kinds.{Number, Array, Table}
-use Rattle.route_text.specs.Keys.{number as number_of, pool_keys, limit_keys, index_keys, schema_keys, group_keys, user_keys, rule_keys, top_keys, default_indexes, default_schemas}
+use Rattle.route_text.specs.Keys.{number as number_of, pool_keys, limit_keys, index_keys, schema_keys, group_keys, user_keys, rule_keys, cache_keys, top_keys, default_indexes, default_schemas}
 use Rattle.route_text.specs.Refusal.{refusal, of_key, of_keys}
-use Rattle.route_text.specs.Values.{held, number, pool_in, limits_in, group_in, index_in, schema_in, user_in, rule_in, values_in, at}
+use Rattle.route_text.specs.Values.{held, number, pool_in, limits_in, group_in, index_in, schema_in, user_in, rule_in, cache_in, values_in, at}
 use Rattle.route_text.specs.Whole.{twice, no_such_target, no_such_user, no_such_database, target_names, group_names, member_names, vias, ruled_users, ruled_databases, of_whole}
 use Rattle.route_text.specs.RouteOf.{route_of}
 use Rattle.route_config.specs.Sound.{IsFrom, ArePoolNumbers, AreLimits, IsSound}
@@ -93,6 +93,20 @@ empty_limits : refusal (Table limit_keys) (codes "limit") (table no_members) ≡
 unfolding limit_keys
 empty_limits = refl
 
+cache_numbers : (value : Data) → of_keys cache_keys (codes "cache") value ≡ None
+    → IsFrom 0 10000 (cache_in value).records × IsFrom 1 65536 (cache_in value).record_bytes
+unfolding cache_keys cache_in
+cache_numbers value h =
+    let one = neither _ _ h in
+    let two = neither _ None one.1 in (
+      number_held 0 10000 0 (codes "cache") (codes "records") value refl one.0,
+      number_held 1 65536 4096 (codes "cache") (codes "record_bytes") value refl two.0,
+    )
+
+empty_cache : refusal (Table cache_keys) (codes "cache") (table no_members) ≡ None
+unfolding cache_keys
+empty_cache = refl
+
 -- what is read from a tree that is refused for nothing is sound
 pub sound : (tree : Data) → first_fault tree ≡ None → IsSound (route_of (values_in tree))
 unfolding top_keys values_in route_of
@@ -106,7 +120,8 @@ sound tree h =
     let six = neither _ _ five.1 in
     let seven = neither _ _ six.1 in
     let eight = neither _ _ seven.1 in
-    let nine = neither _ None eight.1 in
+    let nine = neither _ _ eight.1 in
+    let ten = neither _ None nine.1 in
     let whole = whole_holds (values_in tree) (neither _ _ h).1 in
     let pool = default-passed (table no_members) (refusal (Table pool_keys)) (codes "pool") (get (codes "pool") tree) empty_pool four.0 in
     let limits = default-passed (table no_members) (refusal (Table limit_keys)) (codes "limit") (get (codes "limit") tree) empty_limits five.0 in
@@ -114,6 +129,8 @@ sound tree h =
     let schemas = default-passed default_schemas (refusal (Array 1 16 (Table schema_keys))) (codes "schema") (get (codes "schema") tree) schemas-pass seven.0 in
     let users = default-passed (array no_items) (refusal (Array 0 1000 (Table user_keys))) (codes "user") (get (codes "user") tree) refl eight.0 in
     let rules = default-passed (array no_items) (refusal (Array 0 1000 (Table rule_keys))) (codes "rule") (get (codes "rule") tree) refl nine.0 in
+    let cache = default-passed (table no_members) (refusal (Table cache_keys)) (codes "cache") (get (codes "cache") tree) empty_cache ten.0 in
+    let cached = cache_numbers (at top_keys (codes "cache") tree) (keys-passed cache_keys (codes "cache") (at top_keys (codes "cache") tree) cache) in
     let groups = default-passed (array no_items) (refusal (Array 0 64 (Table group_keys))) (codes "group") (get (codes "group") tree) refl two.0 in
     record {
       places = places (values_in tree) kept;
@@ -133,8 +150,5 @@ sound tree h =
         users = users_named (values_in tree).users (values_in tree).rules whole.users;
         databases = databases_named (values_in tree).databases (values_in tree).rules whole.databases;
       };
-      cache = record {
-        records = (omega arith, omega arith);
-        record_bytes = (omega arith, omega arith);
-      };
+      cache = record { records = cached.0; record_bytes = cached.1 };
     }

@@ -79,6 +79,11 @@ rule_keys = keys (
     (codes "user", required, Text (UpTo 64)) ∷
     (codes "databases", required, Array 1 64 (Text (UpTo 64))) ∷ [])
 
+unfoldable pub cache_keys : Keys
+cache_keys = keys (
+    (codes "records", number 0, Number 0 10000) ∷
+    (codes "record_bytes", number 4096, Number 1 65536) ∷ [])
+
 -- an index and a schema, as the file would write them
 abbrev pub index : List ℕ → ℕ → Data
 index name use_attribute =
@@ -116,4 +121,5 @@ top_keys = keys (
     (codes "index", default default_indexes, Array 0 64 (Table index_keys)) ∷
     (codes "schema", default default_schemas, Array 1 16 (Table schema_keys)) ∷
     (codes "user", nothing, Array 0 1000 (Table user_keys)) ∷
-    (codes "rule", nothing, Array 0 1000 (Table rule_keys)) ∷ [])
+    (codes "rule", nothing, Array 0 1000 (Table rule_keys)) ∷
+    (codes "cache", empty, Table cache_keys) ∷ [])

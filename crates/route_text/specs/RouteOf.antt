@@ -92,6 +92,6 @@ route_of values = record {
   schemas = values.schemas;
   users = values.users;
   rules = values.rules;
-  cache_records = 0;
-  cache_record_bytes = 4096;
+  cache_records = values.cache.records;
+  cache_record_bytes = values.cache.record_bytes;
 }

@@ -11,6 +11,7 @@ use Rattle.route_config.specs.declared.route.PoolNumbers.{PoolNumbers}
 use Rattle.route_config.specs.declared.route.Index.{Index}
 use Rattle.route_config.specs.declared.route.User.{User}
 use Rattle.route_config.specs.declared.route.Rule.{Rule}
+use Rattle.route_text.specs.declared.values.CacheNumbers.{CacheNumbers}
 use Rattle.route_text.specs.declared.values.GroupValues.{GroupValues}
 use Rattle.route_text.specs.declared.values.LegValues.{LegValues}
 use Rattle.route_text.specs.declared.values.DatabaseValues.{DatabaseValues}
@@ -18,7 +19,8 @@ use Rattle.route_text.specs.declared.values.Values.{Values}
 use Rattle.z_types.specs.Same.{is_same}
 use Rattle.route_text.specs.Texts.{address, is_allow}
 use Rattle.route_text.specs.Kinds.{Need, required, default, Keys, no_keys, key}
-use Rattle.route_text.specs.Keys.{target_keys, group_keys, leg_keys, database_keys, pool_keys, limit_keys, index_keys, schema_keys, user_keys, rule_keys, top_keys}
+use Rattle.route_text.specs.Keys.{target_keys, group_keys, leg_keys, database_keys, pool_keys}
+use Rattle.route_text.specs.Keys.{limit_keys, index_keys, schema_keys, user_keys, rule_keys, cache_keys, top_keys}
 
 -- what a key holds, or its default; any value where a required key is not there, which is refused
 abbrev pub held : Need → Option Data → Data
@@ -126,6 +128,12 @@ rule_in value = record {
   databases = list text (at rule_keys (codes "databases") value);
 }
 
+unfoldable pub cache_in : Data → CacheNumbers
+cache_in value = record {
+  records = number (at cache_keys (codes "records") value);
+  record_bytes = number (at cache_keys (codes "record_bytes") value);
+}
+
 -- the whole file
 unfoldable pub values_in : Data → Values
 values_in value = record {
@@ -138,4 +146,5 @@ values_in value = record {
   schemas = list schema_in (at top_keys (codes "schema") value);
   users = list user_in (at top_keys (codes "user") value);
   rules = list rule_in (at top_keys (codes "rule") value);
+  cache = cache_in (at top_keys (codes "cache") value);
 }

@@ -34,12 +34,14 @@ pub fn values_in(alloc: Global, file: &Value) -> Result<Values, RouteFault>
     let schemas = entries_or(alloc, TOP, file, "schema", 1, 16, default_schemas(alloc)?)?;
     let users = entries_or(alloc, TOP, file, "user", 0, 1000, List::new(alloc))?;
     let rules = entries_or(alloc, TOP, file, "rule", 0, 1000, List::new(alloc))?;
+    let cache = entry_or_empty(alloc, TOP, file, "cache")?;
     no_others(
         alloc,
         TOP,
         members,
         &[
             "target", "group", "database", "pool", "limit", "index", "schema", "user", "rule",
+            "cache",
         ],
     )?;
     Ok(Values {
@@ -52,5 +54,6 @@ pub fn values_in(alloc: Global, file: &Value) -> Result<Values, RouteFault>
         schemas,
         users,
         rules,
+        cache,
     })
 }

@@ -28,4 +28,4 @@ mod whole_route;
 pub use fault::RouteFault;
 pub use read::read_route;
 pub use rule::TextRule;
-pub use values::{DatabaseValues, GroupValues, LegValues, Values};
+pub use values::{CacheNumbers, DatabaseValues, GroupValues, LegValues, Values};

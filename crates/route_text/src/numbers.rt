@@ -1,14 +1,14 @@
-//! `pool` and `limit`: numbers that each have a default.
+//! `pool`, `limit` and `cache`: numbers that each have a default.
 
 ghost use Rattle.route_text.specs.Kinds.{Table as TableKind};
-ghost use Rattle.route_text.specs.Keys.{pool_keys, limit_keys};
-ghost use Rattle.route_text.specs.Values.{pool_in, limits_in};
+ghost use Rattle.route_text.specs.Keys.{cache_keys, limit_keys, pool_keys};
+ghost use Rattle.route_text.specs.Values.{cache_in, limits_in, pool_in};
 
-use crate::RouteFault;
 use crate::entry::Entry;
 use crate::key::number_or;
 use crate::kind::table_in;
 use crate::others::no_others;
+use crate::{CacheNumbers, RouteFault};
 use route_config::PoolNumbers;
 use std::alloc::Global;
 use toml::Value;
@@ -75,6 +75,24 @@ impl Entry for Limits {
             searches,
             records,
             sets,
+        })
+    }
+}
+
+impl Entry for CacheNumbers {
+    ghost kind = { TableKind cache_keys };
+
+    ghost found = { cache_in };
+
+    #[tactic(auto, unfolding(crate::specs::Keys::cache_keys, crate::specs::Values::cache_in))]
+    fn read(alloc: Global, path: &[u8], table: &Value) -> Result<CacheNumbers, RouteFault> {
+        let members = table_in(alloc, path, table)?;
+        let records = number_or(alloc, path, table, "records", 0, 10000, 0)?;
+        let record_bytes = number_or(alloc, path, table, "record_bytes", 1, 65536, 4096)?;
+        no_others(alloc, path, members, &["records", "record_bytes"])?;
+        Ok(CacheNumbers {
+            records,
+            record_bytes,
         })
     }
 }

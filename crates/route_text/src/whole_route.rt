@@ -39,7 +39,7 @@ pub fn route_of(alloc: Global, values: Values) -> Result<RouteParts, Memory>
         schemas: values.schemas,
         users: values.users,
         rules: values.rules,
-        cache_records: 0,
-        cache_record_bytes: 4096,
+        cache_records: values.cache.records,
+        cache_record_bytes: values.cache.record_bytes,
     })
 }

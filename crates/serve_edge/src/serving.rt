@@ -15,6 +15,7 @@ use serve_top::serve::Worker;
 use serve_top::{ServeWords, asked_of, top_serve};
 use std::alloc::Global;
 use std::net::{IpAddr, Net, TcpListener, TcpStream};
+use std::random::RandomSource;
 use std::sync::{Mutex, Wait};
 use std::thread::Threads;
 use std::{rt, time};
@@ -31,6 +32,7 @@ pub fn serve<
         + time::Clock
         + rt::Files
         + Eprint
+        + RandomSource
         + Threads
         + Wait
         + Sync,
@@ -94,6 +96,7 @@ pub(crate) fn serve_sockets<
     R: Net<Listener = TcpListener, Stream = TcpStream>
         + time::Clock
         + rt::Files
+        + RandomSource
         + Threads
         + Wait
         + Sync,
@@ -114,7 +117,7 @@ pub(crate) fn serve_sockets<
 
 /// Serves over links that may go to other threads.
 fn serve_over<
-    R: Threads + Wait + Sync,
+    R: RandomSource + Threads + Wait + Sync,
     N: Wire<TestWorld, Link: Send> + Drop + Send,
     A: Accept<In: Send, Out: Send> + Drop + Send,
     C: Clock + Drop + Send,

@@ -10,6 +10,7 @@ use route_config::SMALLEST_TEXT;
 use std::alloc::Global;
 use std::io::{Read, Result, Write};
 use std::net::{Net, Shutdown, SocketAddr, TcpListener, TcpStream};
+use std::random::RandomSource;
 use std::sync::{Mutex, Wait};
 use std::test::Fail;
 use std::thread::Threads;
@@ -58,6 +59,7 @@ fn serves<
     R: Net<Listener = TcpListener, Stream = TcpStream>
         + time::Clock
         + rt::Files
+        + RandomSource
         + Threads
         + Wait
         + Sync,
@@ -110,6 +112,7 @@ fn are_answered<
     R: Net<Listener = TcpListener, Stream = TcpStream>
         + time::Clock
         + rt::Files
+        + RandomSource
         + Threads
         + Wait
         + Sync,

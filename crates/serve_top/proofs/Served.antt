@@ -16,9 +16,9 @@ use Rattle.gateway_config.specs.Lines.{ReceivedNothing}
 use Rattle.gateway_config.specs.Outside.{FileReads, SinkWrites}
 use Rattle.gateway_config.specs.declared.status.Status.{Status}
 use Rattle.gateway_config.specs.declared.status.Status.TheVariants as status
-use Rattle.serve_threads.specs.serve.declared.working.Worked.TheVariants.{Ended}
-use Rattle.serve_threads.specs.serve.declared.working.Worker.{Worker}
-use Rattle.serve_threads.specs.Serving.{HasServed, HaveServed}
+use Rattle.serve_cached.specs.serve_threads.serve.declared.working.Worked.TheVariants.{Ended}
+use Rattle.serve_cached.specs.serve_threads.serve.declared.working.Worker.{Worker}
+use Rattle.serve_cached.specs.serve_threads.Serving.{HasServed, HaveServed}
 use Rattle.serve_top.specs.Lines.{served_count}
 use Rattle.serve_top.specs.Outcome.{IsPrinted, IsServedTold, RouteServed, ServeDone, TakenAndServed}
 

@@ -3,7 +3,7 @@ use Rattle.std.specs.Prelude.{ℕ, List, length, ◌++◌, codes}
 use Rattle.std.specs.List.{sum_by}
 use Rattle.std.specs.Fmt.{decimal}
 use Rattle.gateway_config.specs.Lines.{line_of}
-use Rattle.serve_threads.specs.serve.declared.working.Worker.{Worker}
+use Rattle.serve_cached.specs.serve_threads.serve.declared.working.Worker.{Worker}
 
 -- how many connections are listed, of all workers
 abbrev pub served_count : {B A C : Type 0} → List (Worker B A C) → ℕ

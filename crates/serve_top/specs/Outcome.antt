@@ -14,10 +14,10 @@ use Rattle.gateway_config.specs.Lines.{Received, ReceivedNothing, FailedWithin, 
 use Rattle.gateway_config.specs.Outside.{FileReads, SinkWrites}
 use Rattle.gateway_config.specs.declared.status.Status.{Status}
 use Rattle.gateway_config.specs.declared.status.Status.TheVariants as status
-use Rattle.serve_threads.specs.serve.declared.working.Worked.{Worked}
-use Rattle.serve_threads.specs.serve.declared.working.Worked.TheVariants.{Ended, Failed}
-use Rattle.serve_threads.specs.serve.declared.working.Worker.{Worker}
-use Rattle.serve_threads.specs.Serving.{HaveServed}
+use Rattle.serve_cached.specs.serve_threads.serve.declared.working.Worked.{Worked}
+use Rattle.serve_cached.specs.serve_threads.serve.declared.working.Worked.TheVariants.{Ended, Failed}
+use Rattle.serve_cached.specs.serve_threads.serve.declared.working.Worker.{Worker}
+use Rattle.serve_cached.specs.serve_threads.Serving.{HaveServed}
 use Rattle.serve_top.specs.Lines.{accept_line, served_count, served_line}
 use Rattle.serve_top.specs.Words.{serve_of}
 

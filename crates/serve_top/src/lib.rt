@@ -10,4 +10,4 @@ pub use crate::calls::top_serve;
 pub use crate::words::{ServeWords, asked_of};
 
 // Handed on: crates above name these through this one.
-pub use serve_threads::serve;
+pub use serve_cached::serve_threads::serve;

@@ -3,7 +3,7 @@
 ghost use Rattle.std.specs.Prelude.{◌≡◌, ◌≤◌, IfOk, length};
 ghost use Rattle.serve_top.specs.Lines.{served_count, served_line};
 
-use serve_threads::serve::Worker;
+use serve_cached::serve_threads::serve::Worker;
 use std::alloc::Global;
 use z_types::{Memory, Text};
 

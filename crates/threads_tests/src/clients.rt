@@ -1,4 +1,4 @@
-//! Workers with clients in memory, each of which sends an Init and a Search.
+//! Workers with clients in memory, each of which sends an Init and a Search, or a Present too.
 
 ghost use Rattle.std.specs.Prelude.{IfOk};
 ghost use Rattle.gw_outside.specs.Accepts.{IsUntouched};
@@ -26,6 +26,15 @@ pub(crate) const ANSWERED: &[u8] = b"\
     \x9f\x6e\x02mp\x9f\x6f\x07gateway\x9f\x70\x011\
     \xb7\x0c\x97\x01\x03\x98\x01\x00\x99\x01\x01\x96\x01\xff";
 
+/// A Present of the first record, in XML.
+const PRESENT: &[u8] = b"\
+    \xb8\x15\x9f\x1f\x011\x9e\x01\x01\x9d\x01\x01\x9f\x68\x08\x2a\x86\x48\xce\x13\x05\x6d\x0a";
+
+/// What it is answered.
+const RECORD: &[u8] = b"\
+    \xb9\x3a\x98\x01\x01\x99\x01\x02\x9b\x01\x00\xbc\x2f\x30\x2d\x80\x07Default\xa1\x22\xa1\x20\
+    \x28\x1e\x06\x08\x2a\x86\x48\xce\x13\x05\x6d\x0a\x81\x12<r>0.Default.4</r>";
+
 /// A worker over memory.
 pub(crate) type Memories = Worker<
     FakeBackend<TestWorld>,
@@ -49,13 +58,16 @@ fn numbers_behind(alloc: Global, number: u64, count: u64) -> Result<List<u64>, M
     Ok(list)
 }
 
-/// A client's connection, of which nothing was read or written.
-fn client(alloc: Global) -> Result<(MemorySource, MemorySink), Memory>
+/// A client's connection, of which nothing was read or written; it may send a Present too.
+fn client(alloc: Global, presents: bool) -> Result<(MemorySource, MemorySink), Memory>
     ensures untouched { IfOk result (λ new. IsUntouched
         ⟦<MemorySource as Source>⟧ ⟦<MemorySink as Sink>⟧ new.0 new.1) }
 {
     let mut sent = Text::copy_of(alloc, INIT)?;
     sent.append(SEARCH)?;
+    if presents {
+        sent.append(PRESENT)?;
+    }
     let source = MemorySource::new(sent, List::new(alloc));
     Ok((source, MemorySink::new(alloc, List::new(alloc))))
 }
@@ -82,18 +94,19 @@ fn list_of(alloc: Global, moments: Moments) -> Result<List<u64>, Memory> {
     Ok(list)
 }
 
-/// A worker for so many clients, whose accept of this number fails, 0 for none. So many of its calls to
+/// A worker for so many clients, who may each send a Present too, and whose accept of this number fails, 0 for none. So many of its calls to
 /// targets are answered, and the next ones fail.
 pub(crate) fn worker(
     alloc: Global,
     clients: u32,
+    presents: bool,
     failing: u64,
     calls: u64,
     moments: Moments,
 ) -> Result<Memories, Memory> {
     let mut connections: List<(MemorySource, MemorySink)> = List::new(alloc);
     for _ in 0..clients {
-        connections.push(client(alloc)?)?;
+        connections.push(client(alloc, presents)?)?;
     }
     let failing = one_number(alloc, failing)?;
     let failing_calls = numbers_behind(alloc, calls, FAILING_CALLS)?;
@@ -111,6 +124,7 @@ pub(crate) fn workers(
     alloc: Global,
     count: u32,
     clients: u32,
+    presents: bool,
     failing: u64,
     calls: u64,
     moments: Moments,
@@ -118,21 +132,28 @@ pub(crate) fn workers(
     let mut workers = Vec::new(alloc);
     for place in 0..count {
         let failing = if place + 1 == count { failing } else { 0 };
-        workers.push(worker(alloc, clients, failing, calls, moments)?)?;
+        workers.push(worker(alloc, clients, presents, failing, calls, moments)?)?;
     }
     Ok(workers)
 }
 
+/// Whether octets are what a client is answered.
+fn is_answer(received: &[u8], presents: bool) -> bool {
+    match received.split_at_checked(ANSWERED.len()) {
+        Some((front, rest)) => front == ANSWERED && rest == if presents { RECORD } else { b"" },
+        None => false,
+    }
+}
+
 /// Whether a worker served so many clients, and each was answered.
-pub(crate) fn has_answered(worker: &Memories, clients: usize) -> bool {
+pub(crate) fn has_answered(worker: &Memories, clients: usize, presents: bool) -> bool {
+    let requests = if presents { 3 } else { 2 };
     let served = worker.served.kept().unwrap_or(&[]);
     let closed = worker.accept.closed();
     served.len() == clients
         && closed.len() == clients
-        && served
-            .iter()
-            .all(|came| came.end == End::Finished && came.marks.len() == 2)
+        && served.iter().all(|came| came.end == End::Finished && came.marks.len() == requests)
         && closed
             .iter()
-            .all(|connection| connection.1.received() == ANSWERED)
+            .all(|connection| is_answer(connection.1.received(), presents))
 }

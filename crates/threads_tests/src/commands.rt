@@ -6,13 +6,15 @@ use gw_memory::{MemoryFiles, MemorySink};
 use route_config::SMALLEST_TEXT;
 use serve_top::top_serve;
 use std::alloc::Global;
+use std::random::RandomSource;
 use std::sync::Wait;
 use std::test::Fail;
 use std::thread::Threads;
 use test_target::TestWorld;
 use z_types::{List, Memory, Text};
 
-/// The command: its words, the file `c`, how many workers it is handed and how many clients each has,
+/// The command: its words, the file `c`, how many workers it is handed, how many clients each has, whether they
+/// send a Present,
 /// the numbers of the accept, the read and the write that fail, 0 for none, how many calls of each worker to
 /// targets are answered, behind which the next ones fail, the moments of each worker's clock, how it ends, what
 /// it prints, and how many clients each worker served.
@@ -22,6 +24,7 @@ struct Case<'a> {
     config: &'a [u8],
     workers: u32,
     clients: u32,
+    presents: bool,
     failing: [u64; 3],
     calls: u64,
     moments: Moments<'a>,
@@ -36,6 +39,7 @@ const SOUND: Case = Case {
     config: SMALLEST_TEXT,
     workers: 2,
     clients: 2,
+    presents: false,
     failing: [0, 0, 0],
     calls: 1_000_000,
     moments: Moments {
@@ -167,7 +171,11 @@ pub(crate) fn files_of(alloc: Global, octets: &[u8], failing: u64) -> Result<Mem
 }
 
 /// Whether the command ends, prints and serves as its case has it.
-fn is_so<R: Threads + Wait + Sync>(rt: &R, alloc: Global, case: &Case) -> Result<bool, Memory> {
+fn is_so<R: RandomSource + Threads + Wait + Sync>(
+    rt: &R,
+    alloc: Global,
+    case: &Case,
+) -> Result<bool, Memory> {
     let words = texts(alloc, case.words)?;
     let mut files = files_of(alloc, case.config, case.failing[1])?;
     let mut out = MemorySink::taking(alloc, 1, one_number(alloc, case.failing[2])?);
@@ -175,6 +183,7 @@ fn is_so<R: Threads + Wait + Sync>(rt: &R, alloc: Global, case: &Case) -> Result
         alloc,
         case.workers,
         case.clients,
+        case.presents,
         case.failing[0],
         case.calls,
         case.moments,
@@ -189,7 +198,7 @@ fn is_so<R: Threads + Wait + Sync>(rt: &R, alloc: Global, case: &Case) -> Result
     );
     let all = workers
         .iter()
-        .all(|worker| has_answered(worker, case.served));
+        .all(|worker| has_answered(worker, case.served, case.presents));
     Ok(
         status == case.status
             && out.received() == case.printed
@@ -233,6 +242,31 @@ const TWO_CLIENTS: Case = Case {
     printed: b"served 2\n",
     ..ONE_WORKER
 };
+
+/// The smallest configuration, with records that are kept.
+const KEEPING_TEXT: &[u8] = b"\
+    cache = {records = 10}\n\
+    target = [{name = \"alpha\", address = \"test:0\"}]\n\
+    [[database]]\n\
+    name = \"Default\"\n\
+    leg = [{via = \"alpha\", databases = [\"Default\"]}]\n";
+
+#[test]
+fn a_record_is_given_to_the_next_client_without_its_target(rt: HostRuntime) -> Result<(), Fail> {
+    // a dial, a search, and a Present with the look behind each; and a Present of the second client
+    for (config, least) in [(SMALLEST_TEXT, 8u64), (KEEPING_TEXT, 6)] {
+        for (calls, is_enough) in [(least, true), (least.saturating_sub(1), false)] {
+            let case = Case {
+                config,
+                presents: true,
+                calls,
+                ..TWO_CLIENTS
+            };
+            assert!(rt; is_so(&rt, rt.alloc(), &case)? == is_enough, "{calls}");
+        }
+    }
+    Ok(())
+}
 
 /// The moments behind the reads of a clock that serve the first of two clients, which are nine to its last turn
 /// and less than fourteen to the first turn of the second; and how many calls of the target answer both. A

@@ -10,6 +10,7 @@ use route_config::SMALLEST_TEXT;
 use serve_top::serve::{Listed, Worker};
 use serve_top::top_serve;
 use std::alloc::Global;
+use std::random::RandomSource;
 use std::sync::Wait;
 use std::sync::atomic::{AtomicU64, Ordering};
 use std::test::Fail;
@@ -193,7 +194,7 @@ fn has_answered(worker: &WithOne) -> bool {
 
 /// Whether two workers answer two clients, whose octets are counted here. The first sends its Search once the
 /// second was written all its answers, and the second once the first was written the reply to its Init.
-fn are_answered<'a, T: Threads + Wait + Sync>(
+fn are_answered<'a, T: RandomSource + Threads + Wait + Sync>(
     threads: &T,
     runtime: &'a HostRuntime,
     alloc: Global,

@@ -1,7 +1,7 @@
 use Rattle.std.proofs.Common.{[], ◌∙◌, codes, refl}
 use Rattle.toml.specs.Data.{get, array, no_items}
 use Rattle.toml.specs.View.{view}
-use Rattle.route_text.specs.Keys.{pool_keys, limit_keys, top_keys, default_indexes, default_schemas}
+use Rattle.route_text.specs.Keys.{pool_keys, limit_keys, cache_keys, top_keys, default_indexes, default_schemas}
 use Rattle.route_text.specs.Values.{group_in, index_in, schema_in, user_in, rule_in}
 use Rattle.route_text.proofs.HeldLemmas.{held-list, values-in, both, passes, indexes-held, schemas-held}
 use Rattle.route_text.proofs.file.values_in.Goals as goal
@@ -14,6 +14,10 @@ pub entry_or_empty-requires-2 : goal.entry_or_empty-requires-2
 unfolding limit_keys
 entry_or_empty-requires-2 c = refl
 
+pub entry_or_empty-requires-3 : goal.entry_or_empty-requires-3
+unfolding cache_keys
+entry_or_empty-requires-3 c = refl
+
 pub returns : goal.returns
 unfolding top_keys
 returns c =
@@ -25,9 +29,10 @@ returns c =
     let rules = held-list rule_in (array no_items) c.new-3.result (get (codes "rule") file) c.new-3.ensures in (
       passes top_keys [] file _ c.in_ok-members.ensures
           (both c.in_ok-targets.ensures.0 (both c.in_ok-groups.ensures.0 (both c.in_ok-databases.ensures.0 (both c.in_ok-pool.ensures.0
-          (both c.in_ok-limits.ensures.0 (both c.in_ok-indexes.ensures.0 (both c.in_ok-schemas.ensures.0 (both c.in_ok-users.ensures.0 (both c.in_ok-rules.ensures.0 refl)))))))))
+          (both c.in_ok-limits.ensures.0 (both c.in_ok-indexes.ensures.0 (both c.in_ok-schemas.ensures.0 (both c.in_ok-users.ensures.0 (both c.in_ok-rules.ensures.0
+          (both c.in_ok-cache.ensures.0 refl))))))))))
           c.in_ok-no_others.ensures,
-      values-in file _ _ _ _ _ _ _ _ _ c.in_ok-targets.ensures.1 (c.in_ok-groups.ensures.1 ∙ groups) c.in_ok-databases.ensures.1
+      values-in file _ _ _ _ _ _ _ _ _ _ c.in_ok-targets.ensures.1 (c.in_ok-groups.ensures.1 ∙ groups) c.in_ok-databases.ensures.1
           c.in_ok-pool.ensures.1 c.in_ok-limits.ensures.1 (c.in_ok-indexes.ensures.1 ∙ indexes) (c.in_ok-schemas.ensures.1 ∙ schemas)
-          (c.in_ok-users.ensures.1 ∙ users) (c.in_ok-rules.ensures.1 ∙ rules),
+          (c.in_ok-users.ensures.1 ∙ users) (c.in_ok-rules.ensures.1 ∙ rules) c.in_ok-cache.ensures.1,
     )

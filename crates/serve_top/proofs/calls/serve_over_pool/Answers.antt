@@ -17,11 +17,11 @@ serve_all-worked-requires-send-P g c κs within =
 
 pub serve_all-worked-requires-clause-pool : goal.serve_all-worked-requires-clause-pool
 serve_all-worked-requires-clause-pool g c κs within =
-    rw c.after-pool.ensures (ap (λ (r : Route). Some (pool_of r.pool 0 [])) c.parts.ensures.same)
+    rw c.after-pool.ensures (ap (λ (r : Route). Some (pool_of r.pool 0 [])) c.parts-2.ensures.same)
 
 pub serve_all-worked-requires-clause-new : goal.serve_all-worked-requires-clause-new
 serve_all-worked-requires-clause-new g c κs within =
-    rw c.after-pool.ensures (ap (λ (r : Route). counts_of r.pool.max_sessions 0 0 0) c.parts.ensures.same)
+    rw c.after-pool.ensures (ap (λ (r : Route). counts_of r.pool.max_sessions 0 0 0) c.parts-2.ensures.same)
 
 pub returns : goal.returns
 returns g c = record {

@@ -1,5 +1,5 @@
 use Rattle.std.proofs.Common.{refl}
-use Rattle.serve_threads.specs.serve.declared.working.Worked.TheVariants.{Memory}
+use Rattle.serve_cached.specs.serve_threads.serve.declared.working.Worked.TheVariants.{Memory}
 use Rattle.serve_top.proofs.Served.{told}
 use Rattle.serve_top.proofs.calls.serve_route.Goals as goal
 

@@ -5,7 +5,7 @@ use Rattle.replay_laws.proofs.WireLemmas.{borne_through, through_ok}
 use Rattle.replay_shares.proofs.NewLemmas.{shares_ok}
 use Rattle.replay_top.proofs.PaidLemmas.{paid_ok}
 use Rattle.replay_top.proofs.RunLemmas.{new_door_is, new_told}
-use Rattle.replay_top.proofs.runs.run_with.Goals as goal
+use Rattle.replay_top.proofs.runs.run_plain.Goals as goal
 
 pub returns-clause-counted : goal.returns-clause-counted
 returns-clause-counted g c =
