@@ -20,7 +20,7 @@ use crate::Searched;
 use crate::known::{known, remember};
 use crate::sessions::Awaited;
 use gw_outside::Began;
-use record_cache::{RecordKey, Store, held_run};
+use record_cache::{RecordKey, Store};
 use std::alloc::Global;
 use z_types::{Address, Ask, Item, List, Memory, Oid, SetKey, Text, World, copy};
 
@@ -92,7 +92,7 @@ pub(crate) fn held_from<W: World, T: Store<W>>(
     requires { key.position + count < 2 ^ 32 }
     ensures { IfOk result (IsHeld W.World (T.entries store.old) (T.entries store.new) key count) }
 {
-    let items = held_run::<W, T>(alloc, store, &mut key, count)?;
+    let items = store.find_run(alloc, &mut key, count)?;
     if items.is_empty() {
         return Ok(Held::Nothing(key));
     }

@@ -1,5 +1,5 @@
-//! Doors over one pool behind a lock, over sessions in memory. All of it is tests, which stand
-//! apart so that the crates below are proved once.
+//! Doors over one pool behind a lock, over sessions in memory, and stores of records over one behind a lock.
+//! All of it is tests, which stand apart so that the crates below are proved once.
 #![tactic(auto)]
 
 #[cfg(test)]
@@ -7,6 +7,8 @@ mod doors;
 mod holders;
 #[cfg(test)]
 mod ledgers;
+#[cfg(test)]
+mod stores;
 #[cfg(test)]
 mod takes;
 #[cfg(test)]

@@ -1,16 +1,16 @@
 -- Runs in a store, item by item (this project's own)
-use Rattle.std.proofs.Common.{◌≡◌, ◌∙◌, ◌⊎◌, ℕ, zero, suc, ◌+◌, ◌-◌, ◌^◌, ◌<◌, ◌≤◌, min, Bool, true, false, List, [], ◌∷◌, ◌++◌, length, take, drop, Option, None, Some, Ok, Result, inl, inr, refl, sym, ap, subst, arith}
-use Rattle.z_types.specs.Counts.{Rose, one_more}
+use Rattle.std.proofs.Common.{◌≡◌, ◌∙◌, ◌⊎◌, ℕ, zero, suc, ◌+◌, ◌-◌, ◌^◌, ◌≤◌, min, Bool, true, false, List, [], ◌∷◌, ◌++◌, length, take, Option, None, Some, Ok, Result, inl, inr, refl, sym, ap, subst, arith}
+use Rattle.z_types.specs.Counts.{one_more}
 use Rattle.z_types.specs.declared.diagnostic.Diag.{Diag}
 use Rattle.z_types.specs.declared.records.Item.{Item}
 use Rattle.z_types.specs.declared.world.World as world
 use Rattle.gw_outside.specs.Peers.{AreRecords}
 use Rattle.record_cache.specs.declared.keys.RecordKey.{RecordKey}
+use Rattle.record_cache.specs.declared.stores.Found.{Found}
 use Rattle.record_cache.specs.declared.stores.Found.TheVariants as found
-use Rattle.record_cache.specs.declared.stores.Kept.TheVariants as kept
 use Rattle.record_cache.specs.Entries.{Cache, item_of, after_found, after_keep}
-use Rattle.record_cache.specs.Stores.{IsWorldsRecord, Finds, FindsIn, Keeps, KeepsIn}
-use Rattle.record_cache.specs.Runs.{AreHeld, AreWorldsRun, EndsRightly, FindsNext, IsRun, KeepsFirst, KeepsIf, KeepsOne, KeepsRun, Runs, after_keeps, after_run, key_on, may_keep}
+use Rattle.record_cache.specs.Stores.{IsWorldsRecord, FindsWorlds, Finds, FindsIn}
+use Rattle.record_cache.specs.Runs.{AreHeld, AreWorldsRun, IsRun, KeepsIf, KeepsOne, KeepsRun, Runs, after_keeps, after_run, found_item, key_on, may_keep}
 use Rattle.record_cache.proofs.EntryLemmas.{items_stay}
 
 -- ---- positions
@@ -77,6 +77,16 @@ more_run key [] item c = ap (λ k. after_found k item c) (sym (on_none key))
 more_run key (first ∷ items) item c =
     more_run (key_on 1 key) items item (after_found key first c)
     ∙ ap (λ k. after_found k item (after_run key (first ∷ items) c)) (next_place key first items)
+
+-- the next item of a run is found, or there is none, or no memory
+abbrev pub FindsNext : Option Cache → Option Cache → RecordKey → Option Item → Type 0
+FindsNext old new key (Some item) = Finds old new key (found.Item item)
+FindsNext old new key None = Finds old new key found.None ⊎ Finds old new key found.Memory
+
+pub finds_next : (old new : Option Cache) (key : RecordKey) (f : Found) → Finds old new key f → FindsNext old new key (found_item f)
+finds_next old new key (found.Item item) h = h
+finds_next old new key found.None h = inl h
+finds_next old new key found.Memory h = inr h
 
 -- the store so far
 abbrev pub HasRun : Option Cache → Option Cache → RecordKey → List Item → Type 0
@@ -175,6 +185,12 @@ module _ {W : Type 0} (w : world.Ghosts W) where
       subst (AreRecords (λ position. w.record_ key.address key.key position key.syntax key.element) key.position) (sym more)
       (more_records (λ position. w.record_ key.address key.key position key.syntax key.element) key.position items item (a told)
       (subst (λ k. IsWorldsRecord w k item) at r told))
+
+  -- what was found is the world's
+  pub item_worlds : (key : RecordKey) (f : Found) (item : Item) → found_item f ≡ Some item → FindsWorlds w key f → IsWorldsRecord w key item
+  item_worlds key (found.Item other) item e h = let same : other ≡ item = cc in subst (λ i. IsWorldsRecord w key i) same h
+  item_worlds key found.None item e h = cc
+  item_worlds key found.Memory item e h = cc
 
   -- the first of those that are left is, and the others
   pub first_worlds : (key : RecordKey) (item : Item) (items all : List Item) → all ≡ item ∷ items → AreWorldsRun w key all → IsWorldsRecord w key item

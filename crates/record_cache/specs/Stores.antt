@@ -1,5 +1,5 @@
 -- What a store of records gives and takes (this project's own)
-use Rattle.std.specs.Prelude.{◌≡◌, ℕ, true, Option, None, Some, Ok, IsSome}
+use Rattle.std.specs.Prelude.{◌≡◌, true, Option, None, Some, Ok, IsSome}
 use Rattle.z_types.specs.Counts.{one_more}
 use Rattle.z_types.specs.declared.records.Item.{Item}
 use Rattle.z_types.specs.declared.world.World as world

@@ -1,4 +1,5 @@
-//! The parts of a key, fed to a hasher.
+//! The parts of a key, fed to a hasher. All that is fed is whole words of eight octets, which a hasher takes
+//! at once: a number is a word, and a text is filled up to one.
 
 ghost use Rattle.std.specs.Prelude.{◌≡◌, fold};
 ghost use Rattle.std.specs.Hash as fed;
@@ -7,6 +8,7 @@ ghost use Rattle.record_cache.specs.Keys.{
   arcs_input,
   attribute_input,
   element_input,
+  filling,
   set_input,
   site_input,
   term_input,
@@ -14,15 +16,39 @@ ghost use Rattle.record_cache.specs.Keys.{
   tree_input,
 };
 
-use std::hash::{Hash, Hasher};
+use std::hash::Hasher;
 use z_types::{Address, Attr, Node, Oid, Rpn, SetKey, Site, Term, Text};
 
-/// Feeds a text: its length, and its octets.
+/// The octets that fill up a word.
+const FILLING: [u8; 8] = [0; 8];
+
+/// Feeds what fills up the last word of so many octets.
+fn hash_filling<H: Hasher>(octets: usize, state: &mut H)
+    ensures { state.new ≡ fold H.write state.old (filling octets) }
+{
+    let over = octets % 8;
+    if over > 0 {
+        state.write(&FILLING[over..]);
+    }
+}
+
+/// Feeds a text: its length, its octets, and what fills up the last word.
 fn hash_text<H: Hasher>(text: &Text, state: &mut H)
     ensures { state.new ≡ fold H.write state.old (text_input text.now) }
 {
     state.write_usize(text.len());
     state.write(text.as_slice());
+    hash_filling(text.len(), state);
+}
+
+/// Feeds numbers: how many there are, and each.
+fn hash_numbers<H: Hasher>(numbers: &[u32], state: &mut H)
+    ensures { state.new ≡ fold H.write state.old (fed.slice fed.u64 numbers.now) }
+{
+    state.write_usize(numbers.len());
+    for number in numbers {
+        state.write_u64(*number as u64);
+    }
 }
 
 /// Feeds an element set name, where there is one.
@@ -30,9 +56,9 @@ pub(crate) fn hash_element<H: Hasher>(element: &Option<Text>, state: &mut H)
     ensures { state.new ≡ fold H.write state.old (element_input element.now) }
 {
     match element {
-        None => state.write_u8(0),
+        None => state.write_u64(0),
         Some(name) => {
-            state.write_u8(1);
+            state.write_u64(1);
             hash_text(name, state);
         }
     }
@@ -43,10 +69,10 @@ pub(crate) fn hash_arcs<H: Hasher>(oid: &Option<Oid>, state: &mut H)
     ensures { state.new ≡ fold H.write state.old (arcs_input oid.now) }
 {
     match oid {
-        None => state.write_u8(0),
+        None => state.write_u64(0),
         Some(oid) => {
-            state.write_u8(1);
-            oid.arcs().hash(state);
+            state.write_u64(1);
+            hash_numbers(oid.arcs(), state);
         }
     }
 }
@@ -57,13 +83,13 @@ fn hash_site<H: Hasher>(site: &Site, state: &mut H)
 {
     match site {
         Site::Test(number) => {
-            state.write_u8(0);
-            state.write_u32(*number);
+            state.write_u64(0);
+            state.write_u64(*number as u64);
         }
         Site::Tcp(host, port) => {
-            state.write_u8(1);
+            state.write_u64(1);
             hash_text(host, state);
-            state.write_u16(*port);
+            state.write_u64(*port as u64);
         }
     }
 }
@@ -74,16 +100,16 @@ pub(crate) fn hash_address<H: Hasher>(address: &Address, state: &mut H)
 {
     match address {
         Address::Test(number) => {
-            state.write_u8(0);
-            state.write_u32(*number);
+            state.write_u64(0);
+            state.write_u64(*number as u64);
         }
         Address::Tcp(host, port) => {
-            state.write_u8(1);
+            state.write_u64(1);
             hash_text(host, state);
-            state.write_u16(*port);
+            state.write_u64(*port as u64);
         }
         Address::Login(site, login) => {
-            state.write_u8(2);
+            state.write_u64(2);
             hash_site(site, state);
             hash_text(login, state);
         }
@@ -105,8 +131,8 @@ fn hash_attribute<H: Hasher>(attribute: &Attr, state: &mut H)
     ensures { state.new ≡ fold H.write state.old (attribute_input attribute.now) }
 {
     hash_arcs(&attribute.set, state);
-    state.write_u32(attribute.kind);
-    state.write_u32(attribute.value);
+    state.write_u64(attribute.kind as u64);
+    state.write_u64(attribute.value as u64);
 }
 
 /// Feeds attributes: how many there are, and each.
@@ -125,15 +151,15 @@ fn hash_term<H: Hasher>(term: &Term, state: &mut H)
 {
     match term {
         Term::General(text) => {
-            state.write_u8(0);
+            state.write_u64(0);
             hash_text(text, state);
         }
         Term::Number(number) => {
-            state.write_u8(1);
+            state.write_u64(1);
             state.write_i64(*number);
         }
         Term::Words(text) => {
-            state.write_u8(2);
+            state.write_u64(2);
             hash_text(text, state);
         }
     }
@@ -145,26 +171,26 @@ fn hash_tree<H: Hasher>(query: &Rpn, state: &mut H)
 {
     match &query.node {
         Node::Leaf(attributes, term) => {
-            state.write_u8(0);
+            state.write_u64(0);
             hash_attributes(attributes.as_slice(), state);
             hash_term(term, state);
         }
         Node::Set(name) => {
-            state.write_u8(1);
+            state.write_u64(1);
             hash_text(name, state);
         }
         Node::And(left, right) => {
-            state.write_u8(2);
+            state.write_u64(2);
             hash_tree(left, state);
             hash_tree(right, state);
         }
         Node::Or(left, right) => {
-            state.write_u8(3);
+            state.write_u64(3);
             hash_tree(left, state);
             hash_tree(right, state);
         }
         Node::AndNot(left, right) => {
-            state.write_u8(4);
+            state.write_u64(4);
             hash_tree(left, state);
             hash_tree(right, state);
         }
@@ -176,6 +202,6 @@ pub(crate) fn hash_set<H: Hasher>(key: &SetKey, state: &mut H)
     ensures { state.new ≡ fold H.write state.old (set_input key.now) }
 {
     hash_names(key.dbs.as_slice(), state);
-    key.query.attr_set.arcs().hash(state);
+    hash_numbers(key.query.attr_set.arcs(), state);
     hash_tree(&key.query.root, state);
 }

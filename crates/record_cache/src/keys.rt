@@ -40,7 +40,7 @@ impl Hash for RecordKey {
     fn hash<H: Hasher>(&self, state: &mut H) {
         hash_address(&self.address, state);
         hash_set(&self.key, state);
-        state.write_u32(self.position);
+        state.write_u64(self.position as u64);
         hash_arcs(&self.syntax, state);
         hash_element(&self.element, state);
     }

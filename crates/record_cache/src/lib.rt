@@ -11,5 +11,5 @@ mod stores;
 
 pub use cache::RecordCache;
 pub use keys::RecordKey;
-pub use runs::{held_run, keep_run};
+pub use runs::keep_run;
 pub use stores::{Found, Kept, Store};
