@@ -20,7 +20,7 @@ use crate::Searched;
 use crate::known::{known, remember};
 use crate::sessions::Awaited;
 use gw_outside::Began;
-use record_cache::{RecordKey, Store};
+use record_cache::{RecordKey, Run, Store};
 use std::alloc::Global;
 use z_types::{Address, Ask, Item, List, Memory, Oid, SetKey, Text, World, copy};
 
@@ -86,15 +86,15 @@ pub(crate) enum Held {
 pub(crate) fn held_from<W: World, T: Store<W>>(
     alloc: Global,
     store: &mut T,
-    mut key: RecordKey,
+    key: RecordKey,
     count: u32,
 ) -> Result<Held, Memory>
     requires { key.position + count < 2 ^ 32 }
     ensures { IfOk result (IsHeld W.World (T.entries store.old) (T.entries store.new) key count) }
 {
-    let items = store.find_run(alloc, &mut key, count)?;
+    let Run { items, next } = store.find_run(alloc, key, count)?;
     if items.is_empty() {
-        return Ok(Held::Nothing(key));
+        return Ok(Held::Nothing(next));
     }
     Ok(Held::Items(items))
 }

@@ -23,6 +23,7 @@ use Rattle.cache_backend.specs.contracts.sessions.Awaited as Awaited
 use Rattle.cache_backend.specs.contracts.sessions.CachedParts as CachedParts
 use Rattle.cache_backend.specs.contracts.sessions.CachedSession as CachedSession
 use Rattle.cache_backend.specs.contracts.sessions.CachedSession.TheInside as session_inside
+use Rattle.record_cache.specs.contracts.entries.Entries as Entries
 use Rattle.record_cache.specs.contracts.cache.RecordCache as RecordCache
 use Rattle.record_cache.specs.contracts.cache.RecordCache.TheInside as inside
 use Rattle.std.specs.contracts.alloc.Global as Global
@@ -30,16 +31,21 @@ use Rattle.std.specs.contracts.sync.Mutex as Mutex
 use Rattle.std.specs.contracts.vec.Vec as Vec
 use Rattle.std.specs.contracts.impls.GlobalAllocator.TheImpl as global
 
--- the store, whose records stand in nodes of lru
+-- the entries, which stand in nodes of lru
+entries_field : IsSend ((Entries.the_field).row)
+entries_field =
+    struct_send (Declared.shape Entries.the_type) (
+      search (nodes.the_send, deed.the_send, key_ref.the_send, maps.crosses, crossing.crosses, knot.crosses, sendable) depth 60 fits 20000,
+      (search (seed.the_field_send, crossing.crosses, sendable) depth 20, (search sendable depth 20, tt)),
+    )
+
+-- the store
 module _ (W : RattleType) (w : World.Ghosts W.Denot) where
   pub cache_send : IsSend (RecordCache.the_row W w)
   cache_send =
       view_send (inside.the_row W w) _ _ _ _
       (recorded_send (inside.the_field W w).row _ _ (inside.the_type W w).to_one
-      (struct_send (Declared.shape (inside.the_type W w)) (
-        search (nodes.the_send, deed.the_send, key_ref.the_send, maps.crosses, crossing.crosses, knot.crosses, sendable) depth 60 fits 20000,
-        (search sendable depth 20, (phantom.the_field_send W, tt)),
-      )))
+      (struct_send (Declared.shape (inside.the_type W w)) (entries_field, (phantom.the_field_send W, tt))))
 
   -- one behind a lock may be shared
   pub lock_sync : IsSync (Mutex.the_row (RecordCache.the_row W w))

@@ -2,7 +2,7 @@
 
 use crate::holders::{Quiet, key_for};
 use cache_locked::LockedCache;
-use record_cache::{Found, Kept, RecordCache, RecordKey, Store};
+use record_cache::{Found, Kept, RecordCache, RecordKey, Run, Store};
 use std::alloc::Global;
 use std::sync::Mutex;
 use std::test::Fail;
@@ -67,10 +67,10 @@ fn run<T: Store<Quiet>>(
     first: u16,
     count: u16,
 ) -> Result<(usize, Option<u32>, u32), Memory> {
-    let mut key = key_at(alloc, first as u32)?;
-    let items = store.find_run(alloc, &mut key, count as u32)?;
+    let key = key_at(alloc, first as u32)?;
+    let Run { items, next } = store.find_run(alloc, key, count as u32)?;
     let last = items.as_slice().last().map(condition_of);
-    Ok((items.len(), last, key.position))
+    Ok((items.len(), last, next.position))
 }
 
 #[test]

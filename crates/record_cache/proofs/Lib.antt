@@ -1,3 +1,4 @@
 pub mod HashLemmas
 pub mod EntryLemmas
+pub mod DigestLemmas
 pub mod RunLemmas

@@ -1,5 +1,5 @@
 -- Runs in a store, item by item (this project's own)
-use Rattle.std.proofs.Common.{◌≡◌, ◌∙◌, ◌⊎◌, ℕ, zero, suc, ◌+◌, ◌-◌, ◌^◌, ◌≤◌, min, Bool, true, false, List, [], ◌∷◌, ◌++◌, length, take, Option, None, Some, Ok, Result, inl, inr, refl, sym, ap, subst, arith}
+use Rattle.std.proofs.Common.{◌≡◌, ◌∙◌, ◌⊎◌, ℕ, zero, suc, ◌+◌, ◌-◌, ◌^◌, ◌≤◌, min, Bool, true, false, List, [], ◌∷◌, ◌++◌, length, take, Option, None, Some, Ok, Err, IfOk, Result, inl, inr, refl, sym, ap, subst, arith}
 use Rattle.z_types.specs.Counts.{one_more}
 use Rattle.z_types.specs.declared.diagnostic.Diag.{Diag}
 use Rattle.z_types.specs.declared.records.Item.{Item}
@@ -7,11 +7,14 @@ use Rattle.z_types.specs.declared.world.World as world
 use Rattle.gw_outside.specs.Peers.{AreRecords}
 use Rattle.record_cache.specs.declared.keys.RecordKey.{RecordKey}
 use Rattle.record_cache.specs.declared.stores.Found.{Found}
+use Rattle.record_cache.specs.declared.stores.Run.{Run}
+use Rattle.z_types.specs.declared.memory.Memory.{Memory}
 use Rattle.record_cache.specs.declared.stores.Found.TheVariants as found
 use Rattle.record_cache.specs.Entries.{Cache, item_of, after_found, after_keep}
 use Rattle.record_cache.specs.Stores.{IsWorldsRecord, FindsWorlds, Finds, FindsIn}
-use Rattle.record_cache.specs.Runs.{AreHeld, AreWorldsRun, IsRun, KeepsIf, KeepsOne, KeepsRun, Runs, after_keeps, after_run, found_item, key_on, may_keep}
-use Rattle.record_cache.proofs.EntryLemmas.{items_stay}
+use Rattle.record_cache.specs.Runs.{AreHeld, AreWorldsRun, HasFound, IsRun, KeepsIf, KeepsOne, KeepsRun, Runs, after_keeps, after_run, found_item, key_on, may_keep}
+use Rattle.record_cache.specs.Views.{AreWorlds}
+use Rattle.record_cache.proofs.EntryLemmas.{found_worlds, front_worlds, items_stay}
 
 -- ---- positions
 
@@ -165,6 +168,10 @@ pub runs_end : (o m n : Option Cache) (key now_ : RecordKey) (count : ℕ) (item
     → now_ ≡ key_on (length items) key → HasRun o m key items → FindsNext m n now_ None → Runs o n key count items
 runs_end o m n key now_ count items at s f = ends_at o m n key count items s (subst (λ k. FindsNext m n k None) at f)
 
+-- what has come of it at each moment
+pub run_found : (old new : Cache) (key : RecordKey) (items : List Item) → HasRun (Some old) (Some new) key items → HasFound old new key items
+run_found old new key items s = (s.0, with_wants (after_run key items old) new s.1)
+
 -- ---- the world's records
 
 more_records : (r : ℕ → Result Item Diag) (first : ℕ) (items : List Item) (item : Item) → AreRecords r first items
@@ -185,6 +192,28 @@ module _ {W : Type 0} (w : world.Ghosts W) where
       subst (AreRecords (λ position. w.record_ key.address key.key position key.syntax key.element) key.position) (sym more)
       (more_records (λ position. w.record_ key.address key.key position key.syntax key.element) key.position items item (a told)
       (subst (λ k. IsWorldsRecord w k item) at r told))
+
+  -- entries behind a run are
+  pub run_entries : (key : RecordKey) (items : List Item) (c : Cache) → AreHeld c key items → AreWorlds w c.entries
+      → AreWorlds w (after_run key items c).entries
+  run_entries key [] c h a = a
+  run_entries key (item ∷ items) c h a =
+      run_entries (key_on 1 key) items (after_found key item c)
+      (held_same c (after_found key item c) (λ o. items_stay key o item c h.0) (key_on 1 key) items h.1)
+      (front_worlds w key item c.entries a (found_worlds w key c.entries item a h.0))
+
+  pub found_entries : (old new : Cache) (key : RecordKey) (items : List Item) → HasFound old new key items → AreWorlds w old.entries → AreWorlds w new.entries
+  found_entries old new key items h a = subst (λ (c : Cache). AreWorlds w c.entries) (sym h.1) (run_entries key items old h.0 a)
+
+  -- and what is held is
+  pub held_worlds : (key : RecordKey) (items : List Item) (c : Cache) → AreHeld c key items → AreWorlds w c.entries → AreWorldsRun w key items
+  held_worlds key [] c h a = λ told. tt
+  held_worlds key (item ∷ items) c h a = λ told. (found_worlds w key c.entries item a h.0 told, held_worlds (key_on 1 key) items c h.1 a told)
+
+  pub run_worlds : (old new : Cache) (key : RecordKey) (count : ℕ) (answer : Result Run Memory) → IfOk answer (λ (run : Run). IsRun old new key count run.items)
+      → AreWorlds w old.entries → IfOk answer (λ (run : Run). AreWorldsRun w key run.items)
+  run_worlds old new key count (Ok run) h a = held_worlds key run.items old h.held a
+  run_worlds old new key count (Err memory) h a = tt
 
   -- what was found is the world's
   pub item_worlds : (key : RecordKey) (f : Found) (item : Item) → found_item f ≡ Some item → FindsWorlds w key f → IsWorldsRecord w key item

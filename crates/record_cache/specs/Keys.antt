@@ -70,9 +70,8 @@ set_input key =
     fed.slice text_input key.dbs
     ++ (fed.slice fed.u64 key.query.attr_set ++ tree_input key.query.root)
 
--- all parts of a key
-abbrev pub key_input : RecordKey → List (List ℕ)
-key_input key =
+-- all parts of a key but its position
+abbrev pub parts_input : RecordKey → List (List ℕ)
+parts_input key =
     address_input key.address
-    ++ (set_input key.key
-    ++ (fed.u64 key.position ++ (arcs_input key.syntax ++ element_input key.element)))
+    ++ (set_input key.key ++ (arcs_input key.syntax ++ element_input key.element))

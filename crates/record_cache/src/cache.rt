@@ -2,23 +2,20 @@
 
 ghost use Rattle.std.specs.Prelude.{◌≡◌, ◌<◌, IfOk, Some};
 ghost use Rattle.record_cache.specs.Entries.{empty_cache};
-ghost use Rattle.record_cache.specs.Stores.{IsWorldsRecord, FindsWorlds, Finds, Keeps};
 
+use crate::entries::Entries;
 use crate::seed::Seed;
-use crate::{Found, Kept, RecordKey, Store};
-use lru::LruCache;
+use crate::{Found, Kept, RecordKey, Run, Store};
 use std::alloc::Global;
 use std::hash::RandomState;
 use std::marker::{Model, PhantomData};
-use std::num::NonZeroUsize;
-use z_types::{Item, Memory, World, copy};
+use z_types::{Item, Memory, World};
 
 /// A bounded store of records, which forgets the one that was used longest ago for a new one. Each item is
 /// the world's record of its key, where the address is told.
 #[derive(Drop)]
 pub struct RecordCache<W: World> {
-    items: LruCache<RecordKey, Item, Seed>,
-    wants: u64,
+    entries: Entries,
     world: PhantomData<W>,
 }
 
@@ -33,9 +30,9 @@ impl<W: World> Model for RecordCache<W> {
 
     ghost use Rattle.record_cache.specs.Views.{cache_of, IsCache};
 
-    ghost view = { λ c. cache_of c.items c.wants };
+    ghost view = { λ c. cache_of c.entries };
 
-    ghost invariant = { λ c. IsCache W.World c.items };
+    ghost invariant = { λ c. IsCache W.World c.entries };
 }
 
 impl<W: World> RecordCache<W> {
@@ -60,19 +57,14 @@ impl<W: World> RecordCache<W> {
         RecordCache::seeded(alloc, most, Seed::Drawn(hasher))
     }
 
-    /// A store without records. Its room grows as they come.
+    /// A store without records.
     fn seeded(alloc: Global, most: u32, seed: Seed) -> Result<RecordCache<W>, Memory>
         requires { 0 < most }
         ensures { IfOk result (λ c. c ≡ empty_cache most) }
     {
-        let Some(cap) = NonZeroUsize::new(most as usize) else {
-            unreachable!()
-        };
-        let mut items = LruCache::unbounded_with_hasher(alloc, seed)?;
-        items.resize(cap);
+        let entries = Entries::new(alloc, most, seed)?;
         Ok(RecordCache {
-            items,
-            wants: 0,
+            entries,
             world: PhantomData,
         })
     }
@@ -82,28 +74,14 @@ impl<W: World> Store<W> for RecordCache<W> {
     ghost entries = { λ c. Some c };
 
     fn find(&mut self, key: &RecordKey) -> Found {
-        let copied = match self.items.peek(key) {
-            Some(item) => copy(item),
-            None => return Found::None,
-        };
-        match copied {
-            Ok(item) => {
-                let _found = self.items.promote(key);
-                Found::Item(item)
-            }
-            Err(Memory) => {
-                self.wants = self.wants.saturating_add(1);
-                Found::Memory
-            }
-        }
+        self.entries.find(key)
+    }
+
+    fn find_run(&mut self, alloc: Global, key: RecordKey, count: u32) -> Result<Run, Memory> {
+        self.entries.run(alloc, key, count)
     }
 
     fn keep(&mut self, key: RecordKey, item: Item) -> Kept {
-        // (asked for what the call says: that there are no more items than may be)
-        let _count = self.items.len();
-        match self.items.put(key, item) {
-            Ok(_) => Kept::Kept,
-            Err(_) => Kept::Memory,
-        }
+        self.entries.keep(key, item)
     }
 }

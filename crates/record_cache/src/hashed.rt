@@ -9,6 +9,7 @@ ghost use Rattle.record_cache.specs.Keys.{
   attribute_input,
   element_input,
   filling,
+  parts_input,
   set_input,
   site_input,
   term_input,
@@ -16,6 +17,7 @@ ghost use Rattle.record_cache.specs.Keys.{
   tree_input,
 };
 
+use crate::RecordKey;
 use std::hash::Hasher;
 use z_types::{Address, Attr, Node, Oid, Rpn, SetKey, Site, Term, Text};
 
@@ -52,7 +54,7 @@ fn hash_numbers<H: Hasher>(numbers: &[u32], state: &mut H)
 }
 
 /// Feeds an element set name, where there is one.
-pub(crate) fn hash_element<H: Hasher>(element: &Option<Text>, state: &mut H)
+fn hash_element<H: Hasher>(element: &Option<Text>, state: &mut H)
     ensures { state.new ≡ fold H.write state.old (element_input element.now) }
 {
     match element {
@@ -65,7 +67,7 @@ pub(crate) fn hash_element<H: Hasher>(element: &Option<Text>, state: &mut H)
 }
 
 /// Feeds an object identifier, where there is one.
-pub(crate) fn hash_arcs<H: Hasher>(oid: &Option<Oid>, state: &mut H)
+fn hash_arcs<H: Hasher>(oid: &Option<Oid>, state: &mut H)
     ensures { state.new ≡ fold H.write state.old (arcs_input oid.now) }
 {
     match oid {
@@ -95,7 +97,7 @@ fn hash_site<H: Hasher>(site: &Site, state: &mut H)
 }
 
 /// Feeds an address.
-pub(crate) fn hash_address<H: Hasher>(address: &Address, state: &mut H)
+fn hash_address<H: Hasher>(address: &Address, state: &mut H)
     ensures { state.new ≡ fold H.write state.old (address_input address.now) }
 {
     match address {
@@ -198,10 +200,21 @@ fn hash_tree<H: Hasher>(query: &Rpn, state: &mut H)
 }
 
 /// Feeds the databases and the query of a result set.
-pub(crate) fn hash_set<H: Hasher>(key: &SetKey, state: &mut H)
+fn hash_set<H: Hasher>(key: &SetKey, state: &mut H)
     ensures { state.new ≡ fold H.write state.old (set_input key.now) }
 {
     hash_names(key.dbs.as_slice(), state);
     hash_numbers(key.query.attr_set.arcs(), state);
     hash_tree(&key.query.root, state);
+}
+
+/// Feeds all parts of a key but its position, each text behind its length, so that no two feed a hasher
+/// alike. Who chooses queries can then make keys collide only where they know what the hasher began from.
+pub(crate) fn hash_parts<H: Hasher>(key: &RecordKey, state: &mut H)
+    ensures { state.new ≡ fold H.write state.old (parts_input key.now) }
+{
+    hash_address(&key.address, state);
+    hash_set(&key.key, state);
+    hash_arcs(&key.syntax, state);
+    hash_element(&key.element, state);
 }

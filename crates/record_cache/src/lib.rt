@@ -3,6 +3,8 @@
 #![tactic(auto)]
 
 mod cache;
+mod digests;
+mod entries;
 mod hashed;
 mod keys;
 mod runs;
@@ -12,4 +14,4 @@ mod stores;
 pub use cache::RecordCache;
 pub use keys::RecordKey;
 pub use runs::keep_run;
-pub use stores::{Found, Kept, Store};
+pub use stores::{Found, Kept, Run, Store};

@@ -9,13 +9,13 @@ returns-in_default-clause-plain g c =
     let before = g.Self.Store.entries c.loop-self.self in
     let behind = g.Self.Store.entries c.find.new.self in
     let none : found_item c.find.result ≡ None = sym c.item_of.ensures ∙ c.in_default.is in
-    runs_end (g.Self.Store.entries c.args.self.now) before behind c.args.key.now c.loop-self.key c.args.count c.loop-self.run
+    runs_end (g.Self.Store.entries c.args.self.now) before behind c.args.key c.loop-self.key c.args.count c.loop-self.items
     c.loop-self.invariant.key c.loop-self.invariant.store
     (subst (FindsNext before behind c.loop-self.key) none (finds_next before behind c.loop-self.key c.find.result c.find.ensures.plain))
 
 pub loop-self-preserved : goal.loop-self-preserved
 loop-self-preserved g c =
-    let run = c.loop-self.run in
+    let run = c.loop-self.items in
     let i = c.loop-self.invariant in
     let before = g.Self.Store.entries c.loop-self.self in
     let behind = g.Self.Store.entries c.find.new.self in
@@ -25,8 +25,8 @@ loop-self-preserved g c =
     let worlds : IsWorldsRecord g.W.World c.loop-self.key c.in-Some.item = item_worlds g.W.World c.loop-self.key c.find.result c.in-Some.item found c.find.ensures.worlds in
     record {
       few = omega (arith, c.loop-self-test.true, c.len.ensures, longer);
-      key = on_more c.args.key.now c.loop-self.key (length run) i.key ∙ at_place c.args.key.now (length run + 1) (length c.push.new.self) (sym longer);
-      store = runs_on (g.Self.Store.entries c.args.self.now) before behind c.args.key.now c.loop-self.key run c.push.new.self c.in-Some.item i.key more i.store
+      key = on_more c.args.key c.loop-self.key (length run) i.key ∙ at_place c.args.key (length run + 1) (length c.push.new.self) (sym longer);
+      store = runs_on (g.Self.Store.entries c.args.self.now) before behind c.args.key c.loop-self.key run c.push.new.self c.in-Some.item i.key more i.store
           (subst (FindsNext before behind c.loop-self.key) found (finds_next before behind c.loop-self.key c.find.result c.find.ensures.plain));
-      worlds = more_worlds g.W.World c.args.key.now c.loop-self.key run c.push.new.self c.in-Some.item i.key more i.worlds worlds;
+      worlds = more_worlds g.W.World c.args.key c.loop-self.key run c.push.new.self c.in-Some.item i.key more i.worlds worlds;
     }
