@@ -97,10 +97,6 @@ HasRun None new key items = new ≡ None
 HasRun (Some old) None key items = ⊥
 HasRun (Some old) (Some new) key items = AreHeld old key items × (new ≡ after_run key items old)
 
-pub none_run : (o : Option Cache) (key : RecordKey) → HasRun o o key []
-none_run None key = refl
-none_run (Some c) key = (tt, refl)
-
 runs_at : (o m n : Option Cache) (key : RecordKey) (items : List Item) (item : Item)
     → HasRun o m key items → FindsNext m n (key_on (length items) key) (Some item) → HasRun o n key (items ++ item ∷ [])
 runs_at None m n key items item s f = subst (λ x. Finds x n (key_on (length items) key) (found.Item item)) s f
@@ -121,17 +117,6 @@ runs_on o m n key now_ items then_ item at more s f =
 -- the store of a run keeps its count of wants
 with_wants : (c d : Cache) → d ≡ c → d ≡ record c { wants = d.wants }
 with_wants c d e = e ∙ ap (λ n. record c { wants = n }) (sym (ap (λ x. x.wants) e))
-
--- it is whole
-pub runs_whole : (o n : Option Cache) (key : RecordKey) (count : ℕ) (items : List Item) → length items ≡ count → HasRun o n key items
-    → Runs o n key count items
-runs_whole None n key count items e s = s
-runs_whole (Some old) None key count items e s = absurd s
-runs_whole (Some old) (Some new) key count items e s = record {
-  held = s.0;
-  ends = inl e;
-  store = with_wants (after_run key items old) new s.1;
-}
 
 ends_none : (old mid new : Cache) (key : RecordKey) (count : ℕ) (items : List Item) → AreHeld old key items → mid ≡ after_run key items old
     → FindsIn mid new (key_on (length items) key) found.None → IsRun old new key count items

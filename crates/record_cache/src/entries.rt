@@ -109,8 +109,10 @@ impl Entries {
         requires digested { AreDigested self.old }
         requires positions { key.position + count < 2 ^ 32 }
         ensures digested { AreDigested self.new }
-        ensures found { (items : List AnItem) × HasFound (cache_of self.old) (cache_of self.new) key items }
-        ensures plain { IfOk result (λ run. IsRun (cache_of self.old) (cache_of self.new) key count run.items) }
+        ensures found { (items : List AnItem)
+            × HasFound (cache_of self.old) (cache_of self.new) key items }
+        ensures plain { IfOk result (λ run.
+            IsRun (cache_of self.old) (cache_of self.new) key count run.items) }
         ensures few { IfOk result (λ run. length run.items ≤ count) }
         ensures next { IfOk result (λ run. run.next ≡ key_on (length run.items) key) }
     {

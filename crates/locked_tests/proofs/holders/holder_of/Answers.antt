@@ -1,4 +1,4 @@
-use Rattle.std.proofs.Common.{refl, ap, Some}
+use Rattle.std.proofs.Common.{ap, Some}
 use Rattle.locked_tests.proofs.HolderLemmas.{one_kept}
 use Rattle.locked_tests.proofs.holders.holder_of.Goals as goal
 
