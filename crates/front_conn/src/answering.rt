@@ -37,6 +37,7 @@ use route_config::Route;
 use sru_request::{Get, HeadFault};
 use std::alloc::Global;
 use std::marker::Model;
+use std::mem;
 use std::sync::Wait;
 use z_types::{End, List, Mark, Memory, Sitting, Text, Work, World};
 
@@ -178,10 +179,11 @@ impl<W: World, S: Sitting<W>> Answering<W, S> {
     }
 
     /// The marks, given back.
-    pub(crate) fn into_marks(self) -> List<Mark>
+    pub(crate) fn into_marks(mut self) -> List<Mark>
         ensures { result ≡ self.marks }
     {
-        self.marks
+        let none = List::new(self.alloc);
+        mem::replace(&mut self.marks, none)
     }
 
     /// What the legs of its requests counted, but for the request in work.

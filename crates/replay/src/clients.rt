@@ -30,7 +30,7 @@ pub(crate) fn name_client<W: World, S: Sitting<W>>(alloc: Global, place: &mut Op
     if place.is_some() {
         return;
     }
-    *place = Some(Client::new(alloc));
+    let _none = place.replace(Client::new(alloc));
 }
 
 /// Gives up what is out for each client.
