@@ -1,5 +1,7 @@
 //! What two stores over one behind a lock find, keep and give in runs.
 
+ghost use Rattle.std.specs.Prelude.{◌≡◌, IfOk};
+
 use crate::holders::{Quiet, key_for};
 use cache_locked::LockedCache;
 use record_cache::{Found, Kept, RecordCache, RecordKey, Run, Store};
@@ -9,7 +11,9 @@ use std::test::Fail;
 use z_types::{Address, Diag, Item, Memory, Oid, Text};
 
 /// The key of the record at a position of one set.
-fn key_at(alloc: Global, position: u32) -> Result<RecordKey, Memory> {
+fn key_at(alloc: Global, position: u32) -> Result<RecordKey, Memory>
+    ensures { IfOk result (λ key. key.position ≡ position) }
+{
     Ok(RecordKey {
         address: Address::Test(0),
         key: key_for(alloc, 4)?,
