@@ -2,7 +2,6 @@ mod BegunLemmas
 mod CauseLemmas
 mod CountLemmas
 mod DoneLemmas
-mod DriveLemmas
 mod FinishLemmas
 mod FlightLemmas
 mod GivenLemmas

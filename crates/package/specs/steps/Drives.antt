@@ -1,8 +1,6 @@
 -- For contracts alone: turns of a package, one behind another, until none of its legs is left to
 -- turn (this project's own)
 use Rattle.std.specs.Prelude.{◌≡◌, ◌⊎◌, ℕ, Bool, Result, Ok, Err}
-use Rattle.futures.specs.declared.task.Poll.{Poll}
-use Rattle.futures.specs.declared.task.Poll.TheVariants.{Ready, Pending}
 use Rattle.z_types.specs.Chains.{StepsFrom}
 use Rattle.z_types.specs.declared.memory.Memory.{Memory}
 use Rattle.z_types.specs.declared.sitting.Sitting as sitting
@@ -55,11 +53,6 @@ module _ {W S : Type 0} (w : world.Ghosts W) (t : sitting.Ghosts S W) (exact : B
     pub answer : Turned
     pub awaited : IsAwaited answer
     pub turn : TurnsTo here next answer
-
-  -- a turn, by what a poll answers with it: another one is due, or it is the last
-  abbrev pub IsTurnOf : {A : Type 0} → (here next : PackageAt S) → Poll (Result A Memory) → Type 0
-  IsTurnOf here next Pending = GoesOnTo here next
-  IsTurnOf here next (Ready out) = TurnsTo here next (last_answer out)
 
   -- all turns of a package that is driven: behind the last one all legs are done, or it lacked
   -- memory
