@@ -192,12 +192,12 @@ impl<W: World, S: Sitting<W>, I: EdgeSource, K: EdgeSink> ConnTask<W, S, I, K> {
     }
 
     /// Whether a poll may find something: where not, it would find nothing yet. A poll that could look at its
-    /// target alone is one where targets are due.
+    /// target alone is one where targets are due, and it is woken by one of its own.
     pub fn may_go_on(&self, targets_are_due: bool) -> bool {
         match self.awaits {
             Awaits::Client if self.conn.out().is_empty() => self.input.may_give(),
             Awaits::Client => self.output.may_take(),
-            Awaits::Target => targets_are_due,
+            Awaits::Target => targets_are_due && self.input.is_woken(),
             Awaits::Nothing => true,
         }
     }
