@@ -1,0 +1,4 @@
+pub mod SeatedLemmas
+pub mod PlaceLemmas
+pub mod ServesLemmas
+pub mod FrontLemmas
