@@ -1,5 +1,5 @@
--- What a front does that serves many connections (this project's own): each connection that it takes
--- is served and handed back, and what came of it is listed; or it is given up
+-- What a front does that serves many connections (this project's own): each connection that it
+-- takes is served and handed back, and what came of it is listed; or it is given up
 use Rattle.std.specs.Prelude.{◌≡◌, ℕ, ◌+◌, ◌-◌, ◌*◌, ◌≤◌, List, [], ◌++◌, length, Option, None, Some, option_map}
 use Rattle.std.specs.List.{AllByRecursion, AllZip, sum_by}
 use Rattle.z_types.specs.Bounds.{most_legs}

@@ -1,6 +1,6 @@
 //! The place of a connection: it is put there, polled, and handed back or given up.
 
-ghost use Rattle.std.specs.Prelude.{◌≡◌, ◌≤◌, ◌<◌, ℕ, List, length, IfErr, IfSome, IsSome, IsTrue, None, Some};
+ghost use Rattle.std.specs.Prelude.{◌≡◌, ◌≤◌, ◌<◌, List, length, IfErr, IfSome, IsSome, IsTrue, None, Some};
 ghost use Rattle.std.specs.Result.{result_ok};
 ghost use Rattle.route_config.specs.declared.route.Route.{Route};
 ghost use Rattle.event_front.specs.conn_served.declared.served.Served.{Served};

@@ -71,6 +71,7 @@ pub(crate) fn make_rounds<
         (P.faults poller.old) (P.faults poller.new) }
 {
     let mut coming = Coming::On;
+    // A bound that no front reaches, so that rounds end.
     for _round in 0..u64::MAX {
         let targets_are_due = poller.targets_are_due();
         if let Some(how) = make_round::<W, S, B, D, A, P, C>(

@@ -15,7 +15,8 @@ line_of words = words ++ 10 ∷ []
 abbrev pub usage_line : List ℕ
 usage_line =
     line_of
-    (codes "usage: check CONFIG | replay CONFIG SCRIPT | load N | serve CONFIG PORT WORKERS")
+    (codes "usage: check CONFIG | replay CONFIG SCRIPT | load N | serve CONFIG PORT WORKERS"
+    ++ codes " | events CONFIG PORT MOST")
 
 -- a configuration is refused: the number of the refusal, and what it is about
 abbrev pub config_line : RouteFault → List ℕ

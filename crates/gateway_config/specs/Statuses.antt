@@ -1,7 +1,7 @@
 -- The exit statuses (this project's own)
 use Rattle.std.specs.Prelude.{ℕ}
 use Rattle.gateway_config.specs.declared.status.Status.{Status}
-use Rattle.gateway_config.specs.declared.status.Status.TheVariants.{Ok, Words, Config, Script, ReadFault, WriteFault, Memory, AcceptFault, RealTarget}
+use Rattle.gateway_config.specs.declared.status.Status.TheVariants.{Ok, Words, Config, Script, ReadFault, WriteFault, Memory, AcceptFault, RealTarget, PollFault}
 
 -- the number of a status
 abbrev pub exit_status : Status → ℕ
@@ -14,3 +14,4 @@ exit_status WriteFault = 6
 exit_status Memory = 7
 exit_status AcceptFault = 8
 exit_status RealTarget = 9
+exit_status PollFault = 10

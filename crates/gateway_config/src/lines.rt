@@ -13,7 +13,7 @@ use z_types::{Memory, Text};
 
 /// How the program is used.
 pub const USAGE: &[u8] =
-    b"usage: check CONFIG | replay CONFIG SCRIPT | load N | serve CONFIG PORT WORKERS\n";
+    b"usage: check CONFIG | replay CONFIG SCRIPT | load N | serve CONFIG PORT WORKERS | events CONFIG PORT MOST\n";
 
 /// Prints a line, as far as the sink takes it.
 pub fn say<K: Sink>(out: &mut K, line: &[u8])

@@ -21,6 +21,8 @@ pub enum Status {
     AcceptFault,
     /// 9: a replay asks test targets alone; `real target NAME` is printed of the first other one.
     RealTarget,
+    /// 10: a wait for connections failed; `poll fault` is printed.
+    PollFault,
 }
 
 impl Status {
@@ -41,6 +43,7 @@ impl Status {
             Status::Memory => 7,
             Status::AcceptFault => 8,
             Status::RealTarget => 9,
+            Status::PollFault => 10,
         }
     }
 }

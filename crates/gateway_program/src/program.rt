@@ -2,7 +2,7 @@
 
 use crate::hints::{help, warn_of_schemas};
 use crate::over_tests::command_over_tests;
-use crate::serving::serve_here;
+use crate::serving::{events_here, serve_here};
 use crate::words::words;
 use gateway_config::Status;
 use std::alloc::Global;
@@ -34,13 +34,16 @@ pub(crate) fn run<
         Ok(words) if is_first(words.as_slice(), b"serve") => {
             serve_here(runtime, alloc, words.as_slice()).number()
         }
+        Ok(words) if is_first(words.as_slice(), b"events") => {
+            events_here(runtime, alloc, words.as_slice()).number()
+        }
         Ok(words) => do_command(runtime, alloc, words.as_slice()),
         Err(Memory) => Status::Memory.number(),
     };
     ExitCode::from(status)
 }
 
-/// Does one command but `serve`, with the system's files and output and links to the built-in test
+/// Does one command but `serve` and `events`, with the system's files and output and links to the built-in test
 /// targets, and answers the exit status.
 fn do_command<R: rt::Files + Print + Eprint>(runtime: &R, alloc: Global, words: &[Text]) -> u8 {
     let mut files = SystemFiles::new(runtime);

@@ -5,7 +5,7 @@ use crate::hints::help;
 use gateway_config::Status;
 use log::LevelFilter;
 use log::filter::{Builder, Filter, FilteredLog};
-use serve_edge::serve;
+use serve_edge::{serve, serve_events};
 use std::alloc::{AllocError, Global};
 use std::net::{Net, TcpListener, TcpStream};
 use std::random::RandomSource;
@@ -15,18 +15,18 @@ use std::{io, rt, time};
 use tcp_edge::{DatedConsole, SystemFiles, WriterSink};
 use z_types::Text;
 
-/// What logs connections that begin or end.
-const CONNECTIONS: &str = "tcp_edge::accepts";
+/// What logs connections that begin or end, in threads and on one thread.
+const CONNECTIONS: [&str; 2] = ["tcp_edge::accepts", "event_edge::accepts"];
 
 /// What is logged: all, or all but connections that begin or end.
 fn filter(alloc: Global, quiet: bool) -> Result<Filter, AllocError> {
-    let all = Builder::new(alloc).filter_level(LevelFilter::Info)?;
-    let some = if quiet {
-        all.filter_module(CONNECTIONS, LevelFilter::Warn)?
-    } else {
-        all
-    };
-    Ok(some.build())
+    let mut logged = Builder::new(alloc).filter_level(LevelFilter::Info)?;
+    if quiet {
+        for module in CONNECTIONS {
+            logged = logged.filter_module(module, LevelFilter::Warn)?;
+        }
+    }
+    Ok(logged.build())
 }
 
 /// Serves over the system's sockets, files, clock and output, and logs to the standard error.
@@ -50,6 +50,31 @@ pub(crate) fn serve_here<
     let mut output = WriterSink::new(io::writer(runtime));
     let address = flags.address();
     let status = serve(
+        runtime,
+        alloc,
+        &log,
+        address,
+        words,
+        &mut files,
+        &mut output,
+    );
+    help(runtime, alloc, &files, status);
+    status
+}
+
+/// Serves on one thread over the same, and logs to the standard error.
+pub(crate) fn events_here<
+    R: Net<Listener = TcpListener, Stream = TcpStream> + time::Clock + rt::Files + Print + Eprint,
+>(runtime: &R, alloc: Global, words: &[Text]) -> Status {
+    let (words, flags) = flags_of(words);
+    let Ok(filter) = filter(alloc, flags.quiet) else {
+        return Status::Memory;
+    };
+    let log = FilteredLog::new(DatedConsole(runtime), filter);
+    let mut files = SystemFiles::new(runtime);
+    let mut output = WriterSink::new(io::writer(runtime));
+    let address = flags.address();
+    let status = serve_events(
         runtime,
         alloc,
         &log,

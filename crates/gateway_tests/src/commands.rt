@@ -135,13 +135,14 @@ check CONFIG               reads a configuration, and prints how many databases 
 replay CONFIG SCRIPT       plays what a script says of clients, time and targets, and prints what clients are answered\n\
 load N                     plays N clients of four requests each, and prints how many octets, searches and links that took\n\
 serve CONFIG PORT WORKERS  serves clients at a port of this machine, as many at once as there are workers (1 to 64)\n\
+events CONFIG PORT MOST    serves clients on one thread, as many at once as MOST says (1 to 1000)\n\
 serve .. --listen ADDRESS  the same, at another address of this machine than 127.0.0.1\n\
 serve .. --quiet           the same, and logs no connection that begins or ends\n\
 --help                     prints this\n\
 --version                  prints the version\n";
 
 const USAGE: &[u8] =
-    b"usage: check CONFIG | replay CONFIG SCRIPT | load N | serve CONFIG PORT WORKERS\n";
+    b"usage: check CONFIG | replay CONFIG SCRIPT | load N | serve CONFIG PORT WORKERS | events CONFIG PORT MOST\n";
 
 /// What a load without clients prints.
 const NO_CLIENTS: &[u8] = b"load clients 0 requests 0 plain 0 bytes 0 searches 0 dials 0\n";

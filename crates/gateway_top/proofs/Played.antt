@@ -47,6 +47,8 @@ route-earlier w calls None route script c d f g after failed writes status.RealT
     subst (λ (o : Option (List ℕ)). ScriptPlayed w calls route o writes status.RealTarget) e h
 route-earlier w calls None route script c d f g after failed writes status.AcceptFault e le h =
     subst (λ (o : Option (List ℕ)). ScriptPlayed w calls route o writes status.AcceptFault) e h
+route-earlier w calls None route script c d f g after failed writes status.PollFault e le h =
+    subst (λ (o : Option (List ℕ)). ScriptPlayed w calls route o writes status.PollFault) e h
 
 -- a configuration that was taken is none that is refused
 never-config : {W S : Type 0} (w : world.Ghosts W) (calls : WireCalls W S) (real : Option (List ℕ)) (route : Route) (script : List ℕ)
@@ -77,6 +79,8 @@ taken-played w calls config script route c d f g after failed writes status.Real
     (route, taken, route-earlier w calls (first_real route) route script c d f g after failed writes status.RealTarget (e script) le h)
 taken-played w calls config script route c d f g after failed writes status.AcceptFault e le taken h =
     (route, taken, route-earlier w calls (first_real route) route script c d f g after failed writes status.AcceptFault (e script) le h)
+taken-played w calls config script route c d f g after failed writes status.PollFault e le taken h =
+    (route, taken, route-earlier w calls (first_real route) route script c d f g after failed writes status.PollFault (e script) le h)
 
 -- a script of octets was played, which are those that are told where they are
 played-told : {W S : Type 0} (w : world.Ghosts W) (calls : WireCalls W S) (route : Route) (told : Option (List ℕ)) (text : List ℕ) (writes : SinkWrites) (ended : Status)
@@ -91,6 +95,7 @@ played-told w calls route None text writes status.Config e h = h
 played-told w calls route None text writes status.ReadFault e h = h
 played-told w calls route None text writes status.RealTarget e h = h
 played-told w calls route None text writes status.AcceptFault e h = h
+played-told w calls route None text writes status.PollFault e h = h
 
 -- so the script of a name was played, as the files tell it
 script-told : {W S : Type 0} (w : world.Ghosts W) (calls : WireCalls W S) (route : Route) (name text : List ℕ) (files : FileReads) (writes : SinkWrites) (ended : Status)
@@ -104,6 +109,7 @@ script-told w calls route name text files writes status.Words e h = absurd h
 script-told w calls route name text files writes status.Config e h = absurd h
 script-told w calls route name text files writes status.RealTarget e h = absurd h
 script-told w calls route name text files writes status.AcceptFault e h = absurd h
+script-told w calls route name text files writes status.PollFault e h = absurd h
 
 -- and so it was where the octets that were played are those that were read
 pub script-read : {W S : Type 0} (w : world.Ghosts W) (calls : WireCalls W S) (route : Route) (name octets text : List ℕ) (files : FileReads)

@@ -21,6 +21,8 @@ help_text =
     ++ codes "prints how many octets, searches and links that took")
     ++ line_of (codes "serve CONFIG PORT WORKERS  serves clients at a port of this machine, "
     ++ codes "as many at once as there are workers (1 to 64)")
+    ++ line_of (codes "events CONFIG PORT MOST    serves clients on one thread, as many at once "
+    ++ codes "as MOST says (1 to 1000)")
     ++ line_of (codes "serve .. --listen ADDRESS  the same, at another address of this "
     ++ codes "machine than 127.0.0.1")
     ++ line_of

@@ -1,7 +1,6 @@
 //! A whole replay over a wire.
 
 ghost use Rattle.std.specs.Prelude.{◌≡◌, ◌<◌, ℕ, None, Some, IfOk, OnOk, false, true, is_some};
-ghost use Rattle.std.specs.Bool.{then_some};
 ghost use Rattle.script.specs.Events.{AreEvents};
 ghost use Rattle.replay_shares.specs.replay.Report.{IsReportOf};
 ghost use Rattle.replay_shares.specs.replay.Undisturbed.{IsUntroubledIf};
@@ -194,7 +193,8 @@ fn run_keeping<W: World, N: Wire<W> + Events>(
     ensures untroubled { IfOk result (IsUntroubledIf W.World N.exact route.now events.now
         (N.counts backend.old.inner.wire) (N.happened backend.old.inner.wire)) }
     ensures through { IfOk result (WentThrough W.World (keeping ⟦<ZSession<W, N::Link> as Sitting<W>>⟧)
-        N.exact route.now events.now (N.happened backend.old.inner.wire) (N.counts backend.new.inner.wire)) }
+        N.exact route.now events.now
+        (N.happened backend.old.inner.wire) (N.counts backend.new.inner.wire)) }
     ensures borne { IfOk result (IsBorneIf W.World N.exact route.now events.now
         (N.happened backend.old.inner.wire) (N.counts backend.new.inner.wire)) }
     ensures shared { IfOk result (SharesIfOrderlyOver W.World N.exact route.now events.now

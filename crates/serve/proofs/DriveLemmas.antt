@@ -2,7 +2,7 @@
 use Rattle.std.proofs.Common.{◌≡◌, ◌∙◌, ℕ, ◌≤◌, Bool, false, true, inl, inr, List, [], ◌∷◌, Option, None, Some, IsSome, ap, refl, subst, sym}
 use Rattle.std.specs.Prelude.{option_map}
 use Rattle.z_types.specs.Bounds.{most_legs}
-use Rattle.z_types.specs.Chains.{HasStepped, StepsFrom}
+use Rattle.z_types.specs.Chains.{HasStepped}
 use Rattle.z_types.specs.declared.marks.End.{End}
 use Rattle.z_types.specs.declared.sitting.Sitting as sitting
 use Rattle.z_types.specs.declared.world.World as world

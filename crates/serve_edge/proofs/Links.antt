@@ -10,6 +10,7 @@ use Rattle.bytes.specs.contracts.unique.BytesMut as BytesMut
 use Rattle.bytes.proofs.unique.BytesMut.TheSendSync as octets
 use Rattle.tcp_edge.specs.contracts.links.EdgeLink as EdgeLink
 use Rattle.tcp_edge.specs.contracts.links.TcpLink as TcpLink
+use Rattle.tcp_edge.specs.contracts.prompt.PromptLink as PromptLink
 use Rattle.tcp_edge.specs.test_wire.contracts.links.TestLink as TestLink
 use Rattle.tcp_edge.specs.test_wire.contracts.owed.Owed as Owed
 use Rattle.test_target.specs.contracts.peers.Peer as Peer
@@ -32,8 +33,21 @@ test_field = struct_send (Declared.shape TestLink.the_type) (peer_field, (search
 socket_field : IsSend ((TcpLink.the_field).row)
 socket_field = search (octets_send, crossing.crosses, sendable) depth 60 fits 20000
 
+prompt_field : IsSend ((PromptLink.the_field).row)
+prompt_field =
+    struct_send (Declared.shape PromptLink.the_type) (
+      socket_field,
+      (
+        search sendable depth 20,
+        (
+          search sendable depth 20,
+          (search sendable depth 20, (octets_send, (search sendable depth 20, (search (crossing.crosses, sendable) depth 60 fits 20000, tt)))),
+        ),
+      ),
+    )
+
 link_field : IsSend ((EdgeLink.the_field).row)
-link_field = search (test_field, socket_field, crossing.crosses, sendable) depth 60 fits 20000
+link_field = search (test_field, socket_field, prompt_field, crossing.crosses, sendable) depth 60 fits 20000
 
 -- a link
 pub link_send : IsSend EdgeLink.the_row

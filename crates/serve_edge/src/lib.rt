@@ -3,6 +3,7 @@
 #![tactic(auto)]
 
 mod crossing;
+mod events;
 mod listening;
 mod passwords;
 mod serving;
@@ -12,4 +13,5 @@ mod tests;
 mod workers;
 
 pub use crate::crossing::sessions_cross;
+pub use crate::events::serve_events;
 pub use crate::serving::serve;

@@ -22,17 +22,23 @@ pub(crate) fn listen<R: Net<Listener = TcpListener, Stream = TcpStream> + Eprint
             let _ = eprintln!(runtime;
                 "listening on {address}, port {port}, with {workers} workers"
             );
-            if !address.is_loopback() && route.parts().rules.is_empty() {
-                let _ = eprintln!(runtime;
-                    "clients of other machines may connect, and no rules say who may search"
-                );
-            }
+            tell_strangers(runtime, address, route);
             Some(listener)
         }
         Err(error) => {
             error!(log; "cannot listen on {address}, port {port}: {error}");
             None
         }
+    }
+}
+
+/// Tells of an address that is not loopback, where the route has no rules, that nothing says which clients of
+/// other machines may search.
+pub(crate) fn tell_strangers<R: Eprint>(runtime: &R, address: IpAddr, route: &Route) {
+    if !address.is_loopback() && route.parts().rules.is_empty() {
+        let _ = eprintln!(runtime;
+            "clients of other machines may connect, and no rules say who may search"
+        );
     }
 }
 

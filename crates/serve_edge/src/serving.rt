@@ -24,6 +24,10 @@ use test_target::TestWorld;
 use z_client::ZBackend;
 use z_types::Text;
 
+/// How many descriptors a worker takes at most: two for its connection, two while a target's name is looked
+/// up.
+const OF_WORKER: u64 = 4;
+
 /// Serves, as the words after the program's name say, at an address of this machine, until an accept fails.
 /// The configuration is read first: only where it is taken the port is listened on. Where the words are not
 /// those of `serve`, or the system refuses the port, it says so as `top_serve` does.
@@ -68,7 +72,7 @@ pub fn serve<
 }
 
 /// The route that the words of `serve` name, where it is taken.
-fn route_of<F: Files>(alloc: Global, words: &[Text], files: &mut F) -> Option<Route> {
+pub(crate) fn route_of<F: Files>(alloc: Global, words: &[Text], files: &mut F) -> Option<Route> {
     match read_config(alloc, files, words.get(1)?) {
         ConfigRead::Taken(route) => Some(route),
         ConfigRead::Refused(_) | ConfigRead::Failed | ConfigRead::Memory => None,
@@ -87,7 +91,7 @@ fn open<R: Net<Listener = TcpListener, Stream = TcpStream> + Eprint, L: Log>(
 ) -> Option<TcpListener> {
     let route = route?;
     let _ = add_targets(totals, &route);
-    tell_limit(log, &route, asked.workers);
+    tell_limit(log, &route, asked.workers, "workers", OF_WORKER);
     listen(runtime, log, address, asked, &route)
 }
 

@@ -5,11 +5,8 @@ use route_config::{Class, Route};
 use tcp_edge::{Totals, descriptor_limit};
 use z_types::{Address, Memory, copy};
 
-/// How many descriptors a worker takes at most: two for its connection, two while a target's name is looked
-/// up.
-const OF_WORKER: u64 = 4;
-
-/// How many the process takes beside its workers and sessions: the standard streams, the listener, files.
+/// How many descriptors the process takes beside those of its clients and sessions: the standard streams, the
+/// listener, files, the wait for sockets.
 const OF_PROCESS: u64 = 8;
 
 /// Counts what the route's targets at hosts are asked.
@@ -22,18 +19,19 @@ pub(crate) fn add_targets(totals: &mut Totals, route: &Route) -> Result<(), Memo
     Ok(())
 }
 
-/// Logs that the system lets the process have fewer descriptors than it may need, where it does.
-pub(crate) fn tell_limit<L: Log>(log: &L, route: &Route, workers: u32) {
+/// Logs that the system lets the process have fewer descriptors than it may need, where it does: for so many of
+/// what serves clients, by its name, each of which takes so many.
+pub(crate) fn tell_limit<L: Log>(log: &L, route: &Route, count: u32, name: &str, each: u64) {
     let sessions = sessions_of(route);
-    let needed = OF_WORKER
-        .saturating_mul(u64::from(workers))
+    let needed = each
+        .saturating_mul(u64::from(count))
         .saturating_add(sessions)
         .saturating_add(OF_PROCESS);
     if let Some(limit) = descriptor_limit()
         && limit < needed
     {
         warn!(log;
-            "the limit of {limit} descriptors is low: {workers} workers and {sessions} sessions with \
+            "the limit of {limit} descriptors is low: {count} {name} and {sessions} sessions with \
              targets may need {needed} (ulimit -n, LimitNOFILE)"
         );
     }

@@ -1,21 +1,36 @@
 //! The command over sockets on loopback, with a client of Z39.50 and one of HTTP at one port.
 
+ghost use Rattle.std.specs.Prelude.{None};
+
 use crate::serving::serve_sockets;
 use crate::workers::workers;
+use event_edge::{
+    EventWire, Listening, Readiness, SocketEdgeAccept, SocketEdgeSink, SocketEdgeSource,
+    SocketPoller,
+};
+use event_outside::{EdgeAccept, EdgeAccepted};
+use event_top::event_loop::EventFront;
+use event_top::event_loop::event_front::conn_served::Listed;
+use event_top::top_events;
 use gateway_config::Status;
 use gw_memory::MemorySink;
+use gw_outside::Came;
 use log::Log;
 use log::sink::Discard;
+use mio::Poll;
 use route_config::SMALLEST_TEXT;
 use std::alloc::Global;
 use std::io::{Read, Result, Write};
-use std::net::{Net, Shutdown, SocketAddr, TcpListener, TcpStream};
+use std::net::{IpAddr, Ipv4Addr, Net, Shutdown, SocketAddr, TcpListener, TcpStream};
 use std::random::RandomSource;
 use std::sync::{Mutex, Wait};
 use std::test::Fail;
 use std::thread::Threads;
-use std::{fs, rt, time};
-use tcp_edge::{SystemFiles, Totals};
+use std::time::Duration;
+use std::{fs, rt, thread, time};
+use tcp_edge::{EdgeWire, Hosts, SystemClock, SystemFiles, Totals};
+use test_target::TestWorld;
+use z_client::ZBackend;
 use z_types::{List, Memory, Text};
 
 /// An Init, and a Search for the letter `a` as title (ANSI/NISO Z39.50-2003, appendix A).
@@ -144,6 +159,140 @@ fn clients_of_both_kinds_are_answered_at_one_port(
         told.as_str(),
         "totals: 0 connections open, 2 served, \
         requests 3 Plain, 0 Link, 0 Silent, 0 Gone, 0 Full"
+    );
+    Ok(())
+}
+
+/// An acceptor of which no connection is left behind so many.
+#[derive(Drop)]
+struct FewAccepts<'a, R: time::Clock, L: Log> {
+    accept: SocketEdgeAccept<'a, R, L>,
+    left: u32,
+}
+
+impl<'a, R: time::Clock, L: Log> EdgeAccept for FewAccepts<'a, R, L> {
+    type In = SocketEdgeSource<'a>;
+
+    type Out = SocketEdgeSink<'a>;
+
+    ghost faults = { λ few. ⟦<SocketEdgeAccept<'a, R, L> as EdgeAccept>⟧.faults few.accept };
+
+    ghost waits = { λ few. ⟦<SocketEdgeAccept<'a, R, L> as EdgeAccept>⟧.waits few.accept };
+
+    ghost left = { λ few. None };
+
+    ghost closed = { λ few. None };
+
+    ghost out = { λ few. None };
+
+    fn accept(&mut self) -> EdgeAccepted<SocketEdgeSource<'a>, SocketEdgeSink<'a>> {
+        if self.left == 0 {
+            return EdgeAccepted::Ended;
+        }
+        match self.accept.accept() {
+            EdgeAccepted::Connection(input, output) => {
+                self.left = self.left.saturating_sub(1);
+                EdgeAccepted::Connection(input, output)
+            }
+            EdgeAccepted::NotReady => EdgeAccepted::NotReady,
+            EdgeAccepted::Ended => EdgeAccepted::Ended,
+            EdgeAccepted::Failed => EdgeAccepted::Failed,
+        }
+    }
+
+    fn close(&mut self, input: SocketEdgeSource<'a>, output: SocketEdgeSink<'a>, came: Came<'_>) {
+        self.accept.close(input, output, came);
+    }
+}
+
+/// Serves two clients of a listener on one thread, by the configuration `e`, and tells whether it says so.
+fn serves_two<R: Net<Listener = TcpListener, Stream = TcpStream> + time::Clock + rt::Files>(
+    runtime: &R,
+    alloc: Global,
+    poll: Poll,
+    listening: Listening,
+    totals: &Totals,
+) -> Result<bool> {
+    let (Ok(words), Ok(readiness)) = (
+        texts(alloc, &["events", "e", "2100", "2"]),
+        Readiness::new(alloc, 2),
+    ) else {
+        return Ok(false);
+    };
+    let registry = poll.registry().try_clone()?;
+    let wire = EdgeWire::prompt(alloc, runtime, &Discard, totals, Hosts::new(alloc));
+    let accept = SocketEdgeAccept::new(runtime, &Discard, totals, &readiness, Some(listening));
+    let mut front = EventFront {
+        accept: FewAccepts { accept, left: 2 },
+        poller: SocketPoller::new(alloc, runtime, &readiness, Some(poll))?,
+        backend: ZBackend::new(alloc, EventWire::new(wire, &readiness, Some(registry))),
+        clock: SystemClock::new(runtime),
+        served: Listed::counting(),
+    };
+    let mut files = SystemFiles::new(runtime);
+    let mut out = MemorySink::new(alloc, List::new(alloc));
+    let status = top_events::<TestWorld, _, _, _, _, _, _>(
+        alloc,
+        words.as_slice(),
+        &mut files,
+        &mut out,
+        &mut front,
+    );
+    Ok(status == Status::Ok && out.received() == b"served 2\n".as_slice())
+}
+
+/// Where what answers an Init ends, among what answers it and a Search.
+const INIT_ANSWERED: usize = 43;
+
+/// Where an Init ends before a Search.
+const INIT_SENT: usize = 21;
+
+/// Whether a client that sends an Init, and a Search once that is answered, reads what it is to be answered.
+fn converses(alloc: Global, stream: &mut TcpStream) -> Result<bool> {
+    stream.set_read_timeout(Some(Duration::from_secs(30)))?;
+    stream.write_all(&SENT[..INIT_SENT])?;
+    let mut first = [0u8; INIT_ANSWERED];
+    stream.read_exact(&mut first)?;
+    stream.write_all(&SENT[INIT_SENT..])?;
+    stream.shutdown(Shutdown::Write)?;
+    Ok(
+        first.as_slice() == &ANSWERED[..INIT_ANSWERED]
+            && is_answered(alloc, stream, &ANSWERED[INIT_ANSWERED..])?,
+    )
+}
+
+/// Whether two clients, each in its thread, are served on a third.
+fn are_served_on_one_thread<
+    R: Net<Listener = TcpListener, Stream = TcpStream> + time::Clock + rt::Files + Threads,
+>(runtime: &R, alloc: Global, totals: &Totals) -> Result<bool> {
+    let poll = Poll::new(runtime)?;
+    let listening = event_edge::listen(runtime, &poll, IpAddr::V4(Ipv4Addr::LOCALHOST), 0)?;
+    let address = listening.local_addr()?;
+    let mut one = TcpStream::connect(runtime, address)?;
+    let mut other = TcpStream::connect(runtime, address)?;
+    let one = thread::spawn(runtime, move || converses(alloc, &mut one));
+    let other = thread::spawn(runtime, move || converses(alloc, &mut other));
+    let served = serves_two(runtime, alloc, poll, listening, totals)?;
+    let (Ok(one), Ok(other)) = (one, other) else {
+        return Ok(false);
+    };
+    Ok(one.join(runtime)? && other.join(runtime)? && served)
+}
+
+#[test]
+fn two_clients_in_threads_are_served_on_one_thread(
+    rt: HostRuntime,
+) -> std::result::Result<(), Fail> {
+    let totals = Totals::new(rt.alloc());
+    fs::write(&rt, "e", SMALLEST_TEXT)?;
+    let served = are_served_on_one_thread(&rt, rt.alloc(), &totals);
+    fs::remove_file(&rt, "e")?;
+    assert!(rt; served?);
+    let told = format!(in rt.alloc(); "{totals}")?;
+    assert_eq!(rt;
+        told.as_str(),
+        "totals: 0 connections open, 2 served, \
+        requests 4 Plain, 0 Link, 0 Silent, 0 Gone, 0 Full"
     );
     Ok(())
 }

@@ -65,6 +65,7 @@ module _ {W A B C I K : Type 0} (w : world.Ghosts W) (i : from.Ghosts I) (k : to
     told route old new before after number writes status.ReadFault served b f n printed = absurd printed
     told route old new before after number writes status.AcceptFault served b f n printed = absurd printed
     told route old new before after number writes status.RealTarget served b f n printed = absurd printed
+    told route old new before after number writes status.PollFault served b f n printed = absurd printed
 
     -- a configuration was taken, and its route served
     pub taken-served : (config : List ℕ) (route : Route) (reads : FileReads) (writes : SinkWrites) (old new : List (Worker B A C))
@@ -79,6 +80,7 @@ module _ {W A B C I K : Type 0} (w : world.Ghosts W) (i : from.Ghosts I) (k : to
     taken-served config route reads writes old new status.Script taken done = absurd done
     taken-served config route reads writes old new status.ReadFault taken done = absurd done
     taken-served config route reads writes old new status.RealTarget taken done = absurd done
+    taken-served config route reads writes old new status.PollFault taken done = absurd done
 
     -- a configuration was refused
     pub refused : (config : List ℕ) (fault : RouteFault) (reads : FileReads) (writes : SinkWrites) (workers : List (Worker B A C))
@@ -93,6 +95,7 @@ module _ {W A B C I K : Type 0} (w : world.Ghosts W) (i : from.Ghosts I) (k : to
     refused config fault reads writes workers status.WriteFault not said = absurd said
     refused config fault reads writes workers status.AcceptFault not said = absurd said
     refused config fault reads writes workers status.RealTarget not said = absurd said
+    refused config fault reads writes workers status.PollFault not said = absurd said
 
     -- a configuration could not be read
     pub not-read : (config : List ℕ) (reads : FileReads) (writes : SinkWrites) (workers : List (Worker B A C)) (ended : Status)
@@ -106,6 +109,7 @@ module _ {W A B C I K : Type 0} (w : world.Ghosts W) (i : from.Ghosts I) (k : to
     not-read config reads writes workers status.WriteFault failed said = absurd said
     not-read config reads writes workers status.AcceptFault failed said = absurd said
     not-read config reads writes workers status.RealTarget failed said = absurd said
+    not-read config reads writes workers status.PollFault failed said = absurd said
 
     -- ---- what is printed
 
@@ -120,6 +124,7 @@ module _ {W A B C I K : Type 0} (w : world.Ghosts W) (i : from.Ghosts I) (k : to
     route-printed route writes old new status.Script done = absurd done
     route-printed route writes old new status.ReadFault done = absurd done
     route-printed route writes old new status.RealTarget done = absurd done
+    route-printed route writes old new status.PollFault done = absurd done
 
     memory-printed : (config : List ℕ) (reads : FileReads) (writes : SinkWrites) (old new : List (Worker B A C))
         → (ReceivedNothing writes × (new ≡ old)) ⊎ TakenAndServed w i k a b config reads writes old new status.Memory
@@ -138,3 +143,4 @@ module _ {W A B C I K : Type 0} (w : world.Ghosts W) (i : from.Ghosts I) (k : to
     printed config reads writes old new status.Words done = route-printed done.0 writes old new status.Words done.2
     printed config reads writes old new status.Script done = route-printed done.0 writes old new status.Script done.2
     printed config reads writes old new status.RealTarget done = route-printed done.0 writes old new status.RealTarget done.2
+    printed config reads writes old new status.PollFault done = route-printed done.0 writes old new status.PollFault done.2

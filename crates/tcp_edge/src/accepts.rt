@@ -4,7 +4,6 @@ ghost use Rattle.std.specs.Prelude.{◌≡◌, ◌≢◌, ◌≤◌, None, IfSom
 ghost use Rattle.z_types.specs.Counts.{Rose};
 
 use crate::clocks::seconds;
-use crate::repeats::Times;
 use crate::sinks::WriterSink;
 use crate::sources::SocketSource;
 use crate::told::Told;
@@ -82,8 +81,9 @@ impl<'a, R: time::Clock + Wait, L: Log> SocketAccept<'a, R, L> {
         match accepted {
             Ok((stream, peer)) => self.welcome(stream, peer),
             Err(error) => {
-                let passes = passes(&error);
-                self.tell_failed(&error, passes);
+                let passes = accept_passes(&error);
+                self.totals
+                    .tell_refused(self.log, &error, passes, seconds(self.runtime));
                 let failed = self.count_fault();
                 if passes { None } else { Some(failed) }
             }
@@ -107,26 +107,11 @@ impl<'a, R: time::Clock + Wait, L: Log> SocketAccept<'a, R, L> {
                 ))
             }
             Err(error) => {
-                self.tell_lost(number, peer, &error);
+                self.totals
+                    .tell_lost(self.log, number, peer, &error, seconds(self.runtime));
                 self.count_fault();
                 None
             }
-        }
-    }
-
-    /// Logs an accept that failed: once a second at most, unless it is the last.
-    fn tell_failed(&self, error: &Error, passes: bool) {
-        let counted = self.totals.refused.count(seconds(self.runtime));
-        if let Some(times) = counted.or(if passes { None } else { Some(Times(1)) }) {
-            error!(self.log; "accept failed: {error}{times}");
-        }
-    }
-
-    /// Counts a connection that was lost before it could be served, and logs it, once a second at most.
-    fn tell_lost(&self, number: u64, peer: SocketAddr, error: &Error) {
-        self.totals.count_ended(&[], 0);
-        if let Some(times) = self.totals.lost.count(seconds(self.runtime)) {
-            error!(self.log; "connection {number} from {peer} was lost: {error}{times}");
         }
     }
 
@@ -196,7 +181,7 @@ fn halves(stream: TcpStream) -> Result<(TcpStream, TcpStream)> {
 
 /// Whether an accept that failed so says nothing of the listener: the client was gone before, or the
 /// system has no room for now (accept(2)).
-fn passes(error: &Error) -> bool {
+pub fn accept_passes(error: &Error) -> bool {
     match error.kind() {
         ErrorKind::ConnectionAborted
         | ErrorKind::NetworkDown

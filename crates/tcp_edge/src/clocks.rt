@@ -35,6 +35,14 @@ pub(crate) fn seconds<R: time::Clock>(runtime: &R) -> u64 {
     clock.now()
 }
 
+/// The milliseconds of the system's clock. Where they cannot be read it gives 0.
+pub fn milliseconds<R: time::Clock>(runtime: &R) -> u64 {
+    match runtime.monotonic() {
+        Ok(since) => u64::try_from(since.as_millis()).unwrap_or(u64::MAX),
+        Err(_) => 0,
+    }
+}
+
 impl<R: time::Clock> Clock for SystemClock<'_, R> {
     fn now(&mut self) -> u64 {
         match self.runtime.monotonic() {

@@ -2,13 +2,16 @@
 
 ghost use Rattle.std.specs.Prelude.{◌≡◌, ◌≢◌, ◌≤◌, [], None, IfOk, length};
 ghost use Rattle.gw_outside.specs.Wires.{LookFits};
+ghost use Rattle.tcp_edge.specs.Links.{arrived_at, peer_at, number_of, delays_at};
 
+use crate::prompt::{PromptLink, Watch};
 use crate::waits::{Awaited, may_give};
 use bytes::BytesMut;
 use gw_outside::{Linked, Looked};
 use std::alloc::Global;
 use std::io::{Error, ErrorKind, Read, Result, Write};
 use std::net::{Net, SocketAddr, TcpStream, ToSocketAddrs};
+use std::os::fd::AsRawFd;
 use std::time::Duration;
 use std::{str, time};
 use test_wire::TestLink;
@@ -32,13 +35,15 @@ pub enum EdgeLink {
     Test(TestLink),
     /// With a target at a host.
     Tcp(TcpLink),
+    /// With a target at a host, where no call of it waits.
+    Prompt(PromptLink),
 }
 
 /// A socket to a target: its place in the totals, the number of its dial, and the octets that arrived and
 /// are not consumed.
 #[derive(Drop)]
 pub struct TcpLink {
-    stream: TcpStream,
+    pub(crate) stream: TcpStream,
     pub(crate) address: SocketAddr,
     pub(crate) place: Option<usize>,
     number: u64,
@@ -58,6 +63,22 @@ impl Linked for EdgeLink {
     ghost delays = { delays_at };
 
     ghost exact = { false };
+}
+
+impl EdgeLink {
+    /// How its socket was watched, and is to be watched for the connection at a place from now on, where that is
+    /// another way. No socket is watched whose calls wait.
+    pub fn watch_for(&mut self, place: usize) -> Option<(Option<Watch>, Watch)>
+        ensures arrived { arrived_at self.new ≡ arrived_at self.old }
+        ensures peer { peer_at self.new ≡ peer_at self.old }
+        ensures number { number_of self.new ≡ number_of self.old }
+        ensures delays { delays_at self.new ≡ delays_at self.old }
+    {
+        match self {
+            EdgeLink::Test(_) | EdgeLink::Tcp(_) => None,
+            EdgeLink::Prompt(link) => link.watch_for(place),
+        }
+    }
 }
 
 impl TcpLink {
@@ -87,11 +108,21 @@ impl TcpLink {
         ensures arrived { self.new.arrived ≡ self.old.arrived }
         ensures number { self.new.number ≡ self.old.number }
     {
+        self.is_at_rest()?;
+        self.stream.write_all(unit)
+    }
+
+    /// Whether no octets of the target stand unread, and it has not closed: else that is the error.
+    pub(crate) fn is_at_rest(&self) -> Result<()> {
         if !self.arrived.is_empty() {
             return Err(unread());
         }
-        is_quiet(&self.stream)?;
-        self.stream.write_all(unit)
+        is_quiet(&self.stream)
+    }
+
+    /// The descriptor of its socket.
+    pub(crate) fn descriptor(&self) -> i32 {
+        self.stream.as_raw_fd()
     }
 
     /// Looks once. That the target closed is an error.
@@ -104,6 +135,16 @@ impl TcpLink {
         if !awaited.may_give(&self.stream, LOOK_MILLISECONDS) {
             return Ok(Looked::NotYet);
         }
+        self.read_some()
+    }
+
+    /// Reads what is there, as far as a piece holds it. That the target closed is an error.
+    pub(crate) fn read_some(&mut self) -> Result<Looked>
+        ensures fits { IfOk result
+            (LookFits None None self.old.arrived.items self.new.arrived.items) }
+        ensures ok { IfOk result (λ looked. looked ≢ Looked.Failed) }
+        ensures number { self.new.number ≡ self.old.number }
+    {
         let mut piece = [0u8; PIECE];
         match self.stream.read(&mut piece) {
             Ok(0) => Err(Error::from(ErrorKind::UnexpectedEof)),

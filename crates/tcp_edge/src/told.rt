@@ -7,7 +7,7 @@ use z_types::Mark;
 /// What came of a connection: its requests, with those among them whose mark is not Plain by the kind of their
 /// mark, and how many Presents were answered by records that were kept; how it ended; and whose it was.
 #[derive(Drop)]
-pub(crate) struct Told<'a>(pub(crate) Came<'a>);
+pub struct Told<'a>(pub Came<'a>);
 
 impl fmt::Display for Told<'_> {
     fn fmt<W: fmt::Write>(&self, f: &mut fmt::Formatter<W>) -> fmt::Result {

@@ -3,9 +3,11 @@
 ghost use Rattle.std.specs.Prelude.{◌<◌};
 
 use crate::repeats::{Minutes, Repeats, Times};
-use log::{Log, info};
+use log::{Log, error, info};
 use std::alloc::Global;
 use std::fmt;
+use std::io::Error;
+use std::net::SocketAddr;
 use std::sync::atomic::{AtomicU64, Ordering};
 use z_types::{List, Mark, Memory, Text};
 
@@ -19,8 +21,8 @@ pub struct Totals {
     cached: Count,
     told: Count,
     minutes: Minutes,
-    pub(crate) refused: Repeats,
-    pub(crate) lost: Repeats,
+    refused: Repeats,
+    lost: Repeats,
     targets: List<TargetTotals>,
 }
 
@@ -134,7 +136,7 @@ impl Totals {
     }
 
     /// Logs it where this second, in which something was done, is the first such of its minute.
-    pub(crate) fn tell_due<L: Log>(&self, log: &L, second: u64) {
+    pub fn tell_due<L: Log>(&self, log: &L, second: u64) {
         if self.minutes.begins(second) {
             self.tell(log);
         }
@@ -150,17 +152,40 @@ impl Totals {
     }
 
     /// A connection was accepted: its number.
-    pub(crate) fn count_accepted(&self) -> u64 {
+    pub fn count_accepted(&self) -> u64 {
         self.accepted.raise()
     }
 
     /// A connection has ended, whose requests were answered under these marks, and so many Presents by records
     /// that were kept.
-    pub(crate) fn count_ended(&self, marks: &[Mark], cached: u64) {
+    pub fn count_ended(&self, marks: &[Mark], cached: u64) {
         self.ended.raise();
         self.cached.add(cached);
         for mark in marks {
             self.marked[kind_of(mark)].raise();
+        }
+    }
+
+    /// Logs an accept that failed in this second: once a second at most, unless it is the last.
+    pub fn tell_refused<L: Log>(&self, log: &L, error: &Error, passes: bool, second: u64) {
+        let counted = self.refused.count(second);
+        if let Some(times) = counted.or(if passes { None } else { Some(Times(1)) }) {
+            error!(log; "accept failed: {error}{times}");
+        }
+    }
+
+    /// Counts a connection that was lost before it could be served, and logs it, once a second at most.
+    pub fn tell_lost<L: Log>(
+        &self,
+        log: &L,
+        number: u64,
+        peer: SocketAddr,
+        error: &Error,
+        second: u64,
+    ) {
+        self.count_ended(&[], 0);
+        if let Some(times) = self.lost.count(second) {
+            error!(log; "connection {number} from {peer} was lost: {error}{times}");
         }
     }
 

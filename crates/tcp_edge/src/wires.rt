@@ -9,8 +9,10 @@ ghost use Rattle.tcp_edge.specs.declared.links.EdgeLink.TheVariants as Edge;
 ghost use Rattle.tcp_edge.specs.Links.{arrived_at, peer_at};
 ghost use Rattle.tcp_edge.specs.Wires.{counts_in, happened_at};
 
-use crate::clocks::seconds;
+use crate::clocks::{milliseconds, seconds};
+use crate::hosts::{Begun, Hosts};
 use crate::links::{EdgeLink, TcpLink, connect};
+use crate::prompt::{Now, PromptLink};
 use crate::repeats::Times;
 use crate::tally::Tally;
 use crate::totals::Totals;
@@ -34,6 +36,7 @@ pub struct EdgeWire<'a, R: Net + time::Clock, L: Log> {
     test: TestWire,
     tally: Tally,
     awaited: Awaited,
+    hosts: Option<Hosts>,
 }
 
 impl<'a, R: Net<Stream = TcpStream> + time::Clock, L: Log> EdgeWire<'a, R, L> {
@@ -48,6 +51,29 @@ impl<'a, R: Net<Stream = TcpStream> + time::Clock, L: Log> EdgeWire<'a, R, L> {
             test: TestWire::new(alloc),
             tally: Tally::new(),
             awaited: Awaited::new(),
+            hosts: None,
+        }
+    }
+
+    /// The same, for these hosts alone, where no call waits: a link whose connection is begun is made, and where
+    /// that cannot be made a look fails, or a send.
+    pub fn prompt(
+        alloc: Global,
+        runtime: &'a R,
+        log: &'a L,
+        totals: &'a Totals,
+        hosts: Hosts,
+    ) -> EdgeWire<'a, R, L>
+        ensures { counts_in result.tally ≡ no_counts }
+    {
+        EdgeWire {
+            runtime,
+            log,
+            totals,
+            test: TestWire::new(alloc),
+            tally: Tally::new(),
+            awaited: Awaited::new(),
+            hosts: Some(hosts),
         }
     }
 
@@ -88,6 +114,9 @@ impl<'a, R: Net<Stream = TcpStream> + time::Clock, L: Log> EdgeWire<'a, R, L> {
         ensures counts { WireCounts false
             (dial_counted result) (counts_in self.old.tally) (counts_in self.new.tally) }
     {
+        if self.hosts.is_some() {
+            return self.begin_host(alloc, host, port);
+        }
         let place = self.totals.place_of(host, port);
         match connect(self.runtime, host.as_slice(), port) {
             Ok((stream, address)) => {
@@ -104,6 +133,41 @@ impl<'a, R: Net<Stream = TcpStream> + time::Clock, L: Log> EdgeWire<'a, R, L> {
         }
     }
 
+    /// Makes a link to a target at a host, whose connection is begun.
+    fn begin_host(&mut self, alloc: Global, host: &Text, port: u16) -> Dialled<EdgeLink>
+        ensures link { IfLink result (IsNewLink ⟦<TestWorld as World>⟧ ⟦<EdgeLink as Linked>⟧
+            false (At.Tcp host.now port) (counts_in self.new.tally)) }
+        ensures test { self.new.test ≡ self.old.test }
+        ensures counts { WireCounts false
+            (dial_counted result) (counts_in self.old.tally) (counts_in self.new.tally) }
+    {
+        let place = self.totals.place_of(host, port);
+        match self.begin(host, port) {
+            Ok((begun, at)) => {
+                self.tally.count_dial();
+                let number = self.tally.dials;
+                let now = milliseconds(self.runtime);
+                let link = PromptLink::new(alloc, begun, at, place, number, now);
+                Dialled::Link(EdgeLink::Prompt(link))
+            }
+            Err(error) => {
+                self.tell_unmade(place, host, port, error);
+                self.tally.count_fault();
+                Dialled::Failed
+            }
+        }
+    }
+
+    /// Begins a connection with a host, whose place among those that are known is told with it.
+    fn begin(&self, host: &Text, port: u16) -> io::Result<(Begun, usize)> {
+        if let Some(hosts) = &self.hosts
+            && let Some(at) = hosts.place_of(host, port)
+        {
+            return Ok((hosts.begin(self.runtime, at, 0)?, at));
+        }
+        Err(io::Error::from(io::ErrorKind::NotFound))
+    }
+
     /// Sends a unit over a link, without counting.
     #[tactic(auto, using(crate::proofs::WireLemmas::sends_untold))]
     fn send_over(&mut self, alloc: Global, link: &mut EdgeLink, unit: &[u8]) -> Sent
@@ -117,6 +181,7 @@ impl<'a, R: Net<Stream = TcpStream> + time::Clock, L: Log> EdgeWire<'a, R, L> {
         match link {
             EdgeLink::Test(link) => self.send_test(alloc, link, unit),
             EdgeLink::Tcp(link) => self.send_host(link, unit),
+            EdgeLink::Prompt(link) => self.send_prompt(link, unit),
         }
     }
 
@@ -151,6 +216,28 @@ impl<'a, R: Net<Stream = TcpStream> + time::Clock, L: Log> EdgeWire<'a, R, L> {
         }
     }
 
+    /// Sends a unit over a link no call of which waits.
+    fn send_prompt(&self, link: &mut PromptLink, unit: &[u8]) -> Sent
+        ensures arrived { link.new.link.arrived ≡ link.old.link.arrived }
+        ensures number { link.new.link.number ≡ link.old.link.number }
+    {
+        let Some(now) = self.now() else {
+            return Sent::Failed;
+        };
+        let stood = link.stands;
+        match link.send(now, unit) {
+            Ok(()) => {
+                self.tell_stands(link, stood);
+                self.tell_sent(link.link.place, unit);
+                Sent::Sent
+            }
+            Err(error) => {
+                self.tell_broken(link, error);
+                Sent::Failed
+            }
+        }
+    }
+
     /// Looks at a link, without counting.
     #[tactic(auto, using(crate::proofs::WireLemmas::looks_untold))]
     fn look_over(&mut self, alloc: Global, link: &mut EdgeLink) -> Looked
@@ -163,6 +250,7 @@ impl<'a, R: Net<Stream = TcpStream> + time::Clock, L: Log> EdgeWire<'a, R, L> {
         match link {
             EdgeLink::Test(link) => self.look_test(alloc, link),
             EdgeLink::Tcp(link) => self.look_host(link),
+            EdgeLink::Prompt(link) => self.look_prompt(link),
         }
     }
 
@@ -195,6 +283,57 @@ impl<'a, R: Net<Stream = TcpStream> + time::Clock, L: Log> EdgeWire<'a, R, L> {
         }
     }
 
+    /// Looks at a link no call of which waits.
+    fn look_prompt(&mut self, link: &mut PromptLink) -> Looked
+        ensures fits { LookFits None None
+            link.old.link.arrived.items link.new.link.arrived.items result }
+        ensures number { link.new.link.number ≡ link.old.link.number }
+        ensures test { self.new.test ≡ self.old.test }
+        ensures tally { self.new.tally ≡ self.old.tally }
+    {
+        let Some(now) = self.now() else {
+            return Looked::Failed;
+        };
+        let stood = link.stands;
+        match link.look(now) {
+            Ok(looked) => {
+                self.tell_stands(link, stood);
+                looked
+            }
+            Err(error) => {
+                self.tell_broken(link, error);
+                Looked::Failed
+            }
+        }
+    }
+
+    /// What a call of a link asks beside it, where no call waits.
+    fn now(&self) -> Option<Now<'_, R>> {
+        let hosts = self.hosts.as_ref()?;
+        Some(Now {
+            runtime: self.runtime,
+            hosts,
+            milliseconds: milliseconds(self.runtime),
+        })
+    }
+
+    /// Counts a link that was made, where its connection stands and did not before.
+    fn tell_stands(&self, link: &PromptLink, stood: bool) {
+        if link.stands && !stood {
+            self.tell_made(link.link.place);
+        }
+    }
+
+    /// Logs a target whose link failed, or whose connection could not be made.
+    fn tell_broken(&self, link: &PromptLink, error: io::Error) {
+        if link.stands {
+            self.tell_failed(link.link.place, link.link.address, error);
+        } else if let Some(hosts) = &self.hosts {
+            let (name, port) = hosts.name_of(link.host);
+            self.tell_undialled(link.link.place, name, port, error);
+        }
+    }
+
     /// Counts a link that was made with the target at a place in the totals.
     fn tell_made(&self, place: Option<usize>) {
         if let Some(target) = self.totals.target(place) {
@@ -212,12 +351,17 @@ impl<'a, R: Net<Stream = TcpStream> + time::Clock, L: Log> EdgeWire<'a, R, L> {
 
     /// Logs a target that could not be dialled.
     fn tell_unmade(&self, place: Option<usize>, host: &Text, port: u16, error: io::Error) {
+        let name = str::from_utf8(host.as_slice()).unwrap_or("?");
+        self.tell_undialled(place, name, port, error);
+    }
+
+    /// Logs a target that could not be dialled, by its host's name.
+    fn tell_undialled(&self, place: Option<usize>, name: &str, port: u16, error: io::Error) {
         let times = match self.totals.target(place) {
             Some(target) => target.count_unmade(seconds(self.runtime)),
             None => Some(Times(1)),
         };
         if let Some(times) = times {
-            let name = str::from_utf8(host.as_slice()).unwrap_or("?");
             warn!(self.log; "target {name}:{port} cannot be dialled: {error}{times}");
         }
     }
@@ -272,6 +416,7 @@ impl<R: Net<Stream = TcpStream> + time::Clock, L: Log> Wire<TestWorld> for EdgeW
         match link {
             EdgeLink::Test(link) => self.test.arrived(link),
             EdgeLink::Tcp(link) => link.arrived.as_slice(),
+            EdgeLink::Prompt(link) => link.link.arrived.as_slice(),
         }
     }
 
@@ -279,6 +424,7 @@ impl<R: Net<Stream = TcpStream> + time::Clock, L: Log> Wire<TestWorld> for EdgeW
         match link {
             EdgeLink::Test(link) => self.test.consume(link, count),
             EdgeLink::Tcp(link) => link.arrived.advance(count),
+            EdgeLink::Prompt(link) => link.link.arrived.advance(count),
         }
     }
 

@@ -63,7 +63,7 @@ const ONE_WORKER: Case = Case {
 /// Words that are refused.
 const REFUSED: Case = Case {
     status: Status::Words,
-    printed: b"usage: check CONFIG | replay CONFIG SCRIPT | load N | serve CONFIG PORT WORKERS\n",
+    printed: b"usage: check CONFIG | replay CONFIG SCRIPT | load N | serve CONFIG PORT WORKERS | events CONFIG PORT MOST\n",
     served: 0,
     ..SOUND
 };

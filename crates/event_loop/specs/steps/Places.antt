@@ -196,8 +196,8 @@ module _ {W S I K : Type 0} (w : world.Ghosts W) (t : sitting.Ghosts S W) (i : f
       → IsFront start before [] (slice_set places at new) then next
 
   -- and so with all places
-  unfoldable pub GoesOnWith : (old new : List (Option (TaskView S I K))) → (now then : FrontView I K)
-      → (here next : Outside S) → Type 0
+  unfoldable pub GoesOnWith : (old new : List (Option (TaskView S I K)))
+      → (now then : FrontView I K) → (here next : Outside S) → Type 0
   GoesOnWith old new now then here next =
       (start : FrontView I K) (before : Outside S) → IsFront start before [] old now here
       → IsFront start before [] new then next

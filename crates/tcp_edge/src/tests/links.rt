@@ -1,7 +1,7 @@
 //! Links with test targets, and with a target on loopback that the test plays: steps over the links of a wire.
 
 use super::listening;
-use crate::{EdgeLink, EdgeWire, Totals};
+use crate::{EdgeLink, EdgeWire, Hosts, Totals};
 use gw_outside::{Dialled, Looked, Sent, Wire};
 use log::Log;
 use log::sink::{Discard, Lines, Memory};
@@ -301,13 +301,11 @@ fn all_go<R: Net<Stream = TcpStream> + time::Clock, L: Log>(
 fn is_played<R: Net<Stream = TcpStream> + time::Clock, L: Log>(
     runtime: &R,
     alloc: Global,
-    log: &L,
-    totals: &Totals,
+    mut wire: EdgeWire<'_, R, L>,
     listener: &TcpListener,
     address: &Address,
     case: &Case,
 ) -> bool {
-    let mut wire = EdgeWire::new(alloc, runtime, log, totals);
     match all_linked(&mut wire, alloc, listener, address) {
         Some(mut all) => matches!(all_go(runtime, alloc, &mut wire, &mut all, case), Ok(true)),
         None => false,
@@ -339,7 +337,8 @@ fn logged<R: Net<Listener = TcpListener, Stream = TcpStream> + time::Clock>(
     let log = Memory::new(alloc);
     let mut well = true;
     for case in &CASES {
-        well = well && is_played(runtime, alloc, &log, &totals, &listener, &target, case);
+        let wire = EdgeWire::new(alloc, runtime, &log, &totals);
+        well = well && is_played(runtime, alloc, wire, &listener, &target, case);
     }
     totals.tell(&log);
     Ok(if well { Some(log.into_lines()) } else { None })
@@ -444,6 +443,142 @@ fn a_target_that_does_not_answer_is_a_fault_in_time(
     let (_listener, address) = listening(&rt)?;
     let _waiting = fill(&rt, rt.alloc(), address)?;
     let waited = time_in_vain(&rt, rt.alloc(), address.port())?.ok_or("it was dialled")?;
+    assert!(rt; Duration::from_millis(4900) < waited && waited < Duration::from_millis(6000));
+    Ok(())
+}
+
+/// Of links no call of which waits: a target at a host that answers; many looks at one that is silent; a target that
+/// closes; requests before which octets stand unread, or whose target has closed.
+const PROMPT_CASES: [Case; 5] = [
+    Case {
+        steps: &[
+            (HOST, Step::Waits),
+            (HOST, Step::Sends(INIT)),
+            (HOST, Step::Reads(INIT)),
+            (HOST, Step::Writes(b"one")),
+            (HOST, Step::Finds),
+            (HOST, Step::Writes(b"two")),
+            (HOST, Step::Finds),
+            (HOST, Step::Holds(b"onetwo")),
+            (HOST, Step::Takes(6)),
+            (HOST, Step::Sends(SEARCH)),
+            (HOST, Step::Reads(SEARCH)),
+        ],
+        times: 1,
+        faults: 0,
+        waits: 1,
+        lasts: SOON,
+    },
+    Case {
+        steps: &[(HOST, Step::Waits), (OTHER, Step::Waits)],
+        times: 100,
+        faults: 0,
+        waits: 200,
+        lasts: (0, 1900),
+    },
+    Case {
+        steps: &[
+            (HOST, Step::Sends(INIT)),
+            (HOST, Step::Reads(INIT)),
+            (HOST, Step::Closes),
+            (HOST, Step::Fails),
+        ],
+        times: 1,
+        faults: 1,
+        waits: 0,
+        lasts: SOON,
+    },
+    Case {
+        steps: &[
+            (HOST, Step::Sends(INIT)),
+            (HOST, Step::Writes(b"one")),
+            (HOST, Step::Finds),
+            (HOST, Step::SendsNothing),
+        ],
+        times: 1,
+        faults: 1,
+        waits: 0,
+        lasts: SOON,
+    },
+    Case {
+        steps: &[
+            (HOST, Step::Sends(INIT)),
+            (HOST, Step::Reads(INIT)),
+            (HOST, Step::Closes),
+            (HOST, Step::SendsNothing),
+        ],
+        times: 1,
+        faults: 1,
+        waits: 0,
+        lasts: SOON,
+    },
+];
+
+/// A host, as all that are known.
+fn only<R: Net>(runtime: &R, alloc: Global, host: &[u8], port: u16) -> Option<Hosts> {
+    let host = Text::copy_of(alloc, host).ok()?;
+    let mut hosts = Hosts::new(alloc);
+    hosts.learn(runtime, &host, port).ok()?;
+    Some(hosts)
+}
+
+/// Whether the cases of links no call of which waits go as they say, with the target at a listener.
+fn prompt_cases_go<R: Net<Stream = TcpStream> + time::Clock>(
+    runtime: &R,
+    alloc: Global,
+    listener: &TcpListener,
+    port: u16,
+) -> std::result::Result<bool, Fail> {
+    let target = at(alloc, b"localhost", port)?;
+    let totals = Totals::new(alloc);
+    let mut well = true;
+    for case in &PROMPT_CASES {
+        let hosts = only(runtime, alloc, b"localhost", port).ok_or("it is not found")?;
+        let wire = EdgeWire::prompt(alloc, runtime, &Discard, &totals, hosts);
+        well = well && is_played(runtime, alloc, wire, listener, &target, case);
+    }
+    Ok(well)
+}
+
+#[test]
+fn links_no_call_of_which_waits_go_as_their_steps_say(
+    rt: HostRuntime,
+) -> std::result::Result<(), Fail> {
+    let (listener, address) = listening(&rt)?;
+    assert!(rt; prompt_cases_go(&rt, rt.alloc(), &listener, address.port())?);
+    Ok(())
+}
+
+/// How long a link whose connection is begun lasts until a look fails.
+fn time_until_failed<R: Net<Stream = TcpStream> + time::Clock>(
+    runtime: &R,
+    alloc: Global,
+    port: u16,
+) -> std::result::Result<Duration, Fail> {
+    let totals = Totals::new(alloc);
+    let hosts = only(runtime, alloc, b"127.0.0.1", port).ok_or("it is not found")?;
+    let mut wire = EdgeWire::prompt(alloc, runtime, &Discard, &totals, hosts);
+    let begun = Instant::now(runtime)?;
+    let link = dialled(&mut wire, alloc, &at(alloc, b"127.0.0.1", port)?);
+    let mut link = link.ok_or("it is not begun")?;
+    if wire.send(alloc, &mut link, INIT) != Sent::Sent {
+        return Err("nothing is kept".into());
+    }
+    for _ in 0..u64::MAX {
+        if wire.look(alloc, &mut link) != Looked::NotYet {
+            break;
+        }
+    }
+    Ok(begun.elapsed(runtime)?)
+}
+
+#[test]
+fn a_connection_that_is_begun_and_not_taken_fails_a_look_in_time(
+    rt: HostRuntime,
+) -> std::result::Result<(), Fail> {
+    let (_listener, address) = listening(&rt)?;
+    let _waiting = fill(&rt, rt.alloc(), address)?;
+    let waited = time_until_failed(&rt, rt.alloc(), address.port())?;
     assert!(rt; Duration::from_millis(4900) < waited && waited < Duration::from_millis(6000));
     Ok(())
 }
