@@ -2,9 +2,9 @@
 # Serves real clients over real targets, and compares what they are answered with what the targets say when they are asked directly; then
 # targets and clients fail. Prints a row for each thing that is tried, and ends with 0 only where each came as it should.
 #
-#     tools/interop.sh [COMMAND [PORT]]
+#     tools/interop.sh [COMMAND [PORT [FRONT]]]
 #
-# COMMAND starts the gateway (./gateway), PORT is the first of nine that are free (20990). It needs Debian's `yaz`, `idzebra-2.0`,
+# COMMAND starts the gateway (./gateway), PORT is the first of ten that are free (20990), FRONT is `serve` or `events` (`serve`). It needs Debian's `yaz`, `idzebra-2.0`,
 # `libnet-z3950-zoom-perl`, `curl` and Python 3. The gate does not run it.
 here=$(CDPATH='' cd -- "$(dirname -- "$0")/.." && pwd) || exit 1
 gateway=${1:-$here/gateway}
@@ -18,6 +18,15 @@ maps=$((port + 5))
 books=$((port + 6))
 members=$((port + 7))
 closed=$((port + 8))
+full=$((port + 9))
+front=${3:-serve}
+# How many clients are served at a time; and what a search shows of a target that takes no connection: `serve` waits for it, and `events`
+# looks as often as the patience says.
+case $front in
+    serve) most=8 untaken='[109] Database unavailable' ;;
+    events) most=1000 untaken='[2] Temporary system error' ;;
+    *) exit 2 ;;
+esac
 room=$(mktemp -d) || exit 1
 failed=0
 trap 'kill $(jobs -p) 2>/dev/null; rm -rf "$room"' EXIT
@@ -41,6 +50,9 @@ address = "tcp:127.0.0.1:$half"
 [[target]]
 name = "closed"
 address = "tcp:127.0.0.1:$closed"
+[[target]]
+name = "full"
+address = "tcp:127.0.0.1:$full"
 [[database]]
 name = "Demo"
 [[database.leg]]
@@ -73,6 +85,11 @@ databases = ["Default"]
 name = "Half"
 [[database.leg]]
 via = "half"
+databases = ["Default"]
+[[database]]
+name = "Full"
+[[database.leg]]
+via = "full"
 databases = ["Default"]
 [[database]]
 name = "Closed"
@@ -125,7 +142,8 @@ cp -r /usr/share/doc/idzebra-2.0/examples/gils "$room/gils" || exit 1
 cp -r "$room/gils" "$room/closed" && echo 'ann:pw' >"$room/closed/passwords" &&
     printf 'passwd: passwords\nperm.anonymous:\nperm.ann: rw\n' >>"$room/closed/zebra.cfg" || exit 1
 (cd "$room/closed" && exec zebrasrv -c zebra.cfg -v none "@:$closed") &
-# A target that accepts and says nothing, and one that accepts an Init and breaks off in its reply to the next request.
+# A target that accepts and says nothing, one that accepts an Init and breaks off in its reply to the next request, and one that takes no
+# connection, since its queue is full.
 timeout 600 python3 -c "
 import socket, threading
 def listening(port):
@@ -138,9 +156,12 @@ def breaks_off(s):
         link = s.accept()[0]
         link.recv(4096); link.sendall(accepts); link.recv(4096); link.sendall(bytes.fromhex('b70c9701')); link.close()
 threading.Thread(target=breaks_off, args=(listening($half),), daemon=True).start()
+takes_none = socket.socket(); takes_none.bind(('127.0.0.1', $full)); takes_none.listen(0)
+waiting = [socket.socket() for _ in range(8)]
+for one in waiting: one.setblocking(False); one.connect_ex(('127.0.0.1', $full))
 s = listening($mute); kept = []
 while True: kept.append(s.accept())" &
-"$gateway" serve "$room/route.toml" "$port" 8 2>"$room/log" >"$room/out" &
+"$gateway" "$front" "$room/route.toml" "$port" "$most" 2>"$room/log" >"$room/out" &
 for _ in $(seq 300); do grep -q '^listening' "$room/log" && break; sleep 1; done
 
 commands 'base Demo' 'find @attr 1=4 a' 'format xml' 'show 2+1'
@@ -215,7 +236,7 @@ asks 'and so does one of name and password apart' 'auth ann pw' "$port" Closed m
 asks 'a session of that login serves nobody without it' 'format xml' "$port" Closed map 'Database unavailable'
 asks 'nor another login' 'auth ann/no' "$port" Closed map 'Database unavailable'
 
-"$gateway" serve "$examples/members.toml" "$members" 2 2>"$room/members.log" >"$room/members.out" &
+"$gateway" "$front" "$examples/members.toml" "$members" 2 2>"$room/members.log" >"$room/members.out" &
 for _ in $(seq 60); do grep -q '^listening' "$room/members.log" && break; sleep 1; done
 asks 'examples/members.toml: a user' 'auth ann/pw' "$members" All a 'Number of hits: '
 asks 'examples/members.toml: a user by name and password apart' 'auth ann pw' "$members" All a 'Number of hits: '
@@ -230,7 +251,7 @@ tells 'examples/members.toml: a GET is nobody'"'"'s' 'members-only' curl -s -m 1
 # diagnostic in the place of one; the first schema of a configuration without any gives diagnostics alone.
 serves() {
     sed "s/127.0.0.1:9998/127.0.0.1:$3/" "$examples/$1" >"$room/$1"
-    "$gateway" serve "$room/$1" "$2" 2 2>"$room/$1.log" >"$room/$1.out" &
+    "$gateway" "$front" "$room/$1" "$2" 2 2>"$room/$1.log" >"$room/$1.out" &
     for _ in $(seq 60); do grep -q '^listening' "$room/$1.log" && break; sleep 1; done
 }
 # Whether a GET is answered by so many records, all in place, in a reply that a reader of XML takes.
@@ -257,6 +278,15 @@ gives 'without a schema for it Zebra gives diagnostics in the place of records' 
 
 commands 'base Mute' 'find a'
 shows 'a target that never answers' '[2] Temporary system error'
+commands 'base Full' 'find a'
+shows 'a target that takes no connection' "$untaken"
+# Searches of others, while one is awaited that is asked of a target that says nothing, or that takes no connection.
+for away in Mute Full; do
+    printf 'base %s\nfind b\n' "$away" | client "$port" >"$room/away" &
+    commands 'base Demo' 'find @attr 1=4 a'
+    shows "another target while $away is awaited" 'Number of hits: 3'
+    wait $!
+done
 commands 'base Half' 'find a'
 shows 'a target that breaks off in its reply' '[109] Database unavailable'
 stop_target
@@ -274,6 +304,21 @@ shows 'after 100 clients that connect and vanish' 'Number of hits: 3'
 (exec 3<>"/dev/tcp/127.0.0.1/$port"; printf '\264\023\203\002\005\340\204\003\001\377\376\205\003\020\000\000\206\003\020\000\000' >&3
  for _ in $(seq 5); do head -c 1 <&3 >/dev/null; sleep 1; done) &
 shows 'beside a client that reads an octet a second' 'Number of hits: 3'
+# As many clients that log in and say no more as may be beside two others.
+timeout 120 python3 -c "
+import socket, sys, time
+init = bytes.fromhex('b413830205e0840301fffe85031000008603100000')
+idle = [socket.create_connection(('127.0.0.1', $port)) for _ in range($most - 2)]
+for one in idle: one.sendall(init)
+for one in idle: assert one.recv(4096)[:1] == b'\xb5'
+open('$room/idle', 'w').close()
+time.sleep(15)" &
+for _ in $(seq 60); do [ -e "$room/idle" ] && break; sleep 1; done
+[ -e "$room/idle" ]
+row "$((most - 2)) clients that log in" $?
+commands 'base Demo' 'find @attr 1=4 a'
+shows 'a client beside them' 'Number of hits: 3'
+wait $!
 grep -q 'target .* cannot be dialled' "$room/log"
 row 'the log names the target that was gone' $?
 exit "$failed"

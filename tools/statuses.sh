@@ -29,12 +29,13 @@ yes 'run 1' | head -n 1000000 >most
 mkdir folder
 page=$(cat "$here/examples/first.page"; echo .)
 page=${page%.}
-usage=$'usage: check CONFIG | replay CONFIG SCRIPT | load N | serve CONFIG PORT WORKERS\n'
+usage=$'usage: check CONFIG | replay CONFIG SCRIPT | load N | serve CONFIG PORT WORKERS | events CONFIG PORT MOST\n'
 help=$'Zaklumen, a gateway for Z39.50 and SRU.\n\n'
 help+=$'check CONFIG               reads a configuration, and prints how many databases and classes it has\n'
 help+=$'replay CONFIG SCRIPT       plays what a script says of clients, time and targets, and prints what clients are answered\n'
 help+=$'load N                     plays N clients of four requests each, and prints how many octets, searches and links that took\n'
 help+=$'serve CONFIG PORT WORKERS  serves clients at a port of this machine, as many at once as there are workers (1 to 64)\n'
+help+=$'events CONFIG PORT MOST    serves clients on one thread, as many at once as MOST says (1 to 1000)\n'
 help+=$'serve .. --listen ADDRESS  the same, at another address of this machine than 127.0.0.1\n'
 help+=$'serve .. --quiet           the same, and logs no connection that begins or ends\n'
 help+=$'--help                     prints this\n'
